@@ -1,14 +1,14 @@
 -- What a build tells is that of some build of the plan, and why it tells nothing.
-use Rattle.std.proofs.Common.{◌≡◌, ◌⊎◌, List, [], Result, Ok, Err, ℕ, inl, inr, subst, string_bytes}
+use Rattle.std.proofs.Common.{◌≡◌, List, [], Result, Ok, Err, ℕ, inl, inr, subst, string_bytes}
 use Rattle.std.specs.Prelude.{codes}
 use Rattle.clap.specs.Words.{Row}
 use Rattle.command_lines.specs.CommandLine.{option_text}
+use Rattle.commands.specs.Faults.{OrMemory}
 use Rattle.commands.specs.Places.{FailsOver, FailsToConnect, IsConnected, IsToldOver}
 use Rattle.commands.proofs.Placed.{of_options, opened_to}
 use Rattle.commands.specs.Printed.{IsOfOptions}
 use Rattle.commands.specs.World.{Sight}
 use Rattle.commands.specs.declared.error.CommandError.{CommandError}
-use Rattle.commands.specs.declared.error.CommandError.TheVariants.{Memory}
 use Rattle.std.proofs.Math.Logic.{∥∥₁_map}
 use Rattle.std.specs.declared.alloc.Global.{Global}
 use Rattle.blob_digest.specs.Digest.{DigestValue}
@@ -25,7 +25,7 @@ use Rattle.remote.specs.Line.{ConnectionValue}
 use Rattle.worker.specs.Outcomes.{Yields}
 use Rattle.worker.specs.declared.error.Refusal.TheVariants.{Run}
 use Rattle.worker.specs.declared.runner.RunError.TheVariants.{Device}
-use Rattle.cli.specs.Built.{HoldsRoot, IsReadOf, IsToldBy, IsToldOf, StartsBuild, TellsAsked, any_yields, jobs_of}
+use Rattle.cli.specs.Built.{HoldsRoot, IsReadOf, IsToldBy, IsToldOf, StartsBuild, TellsAsked, any_yields, jobs_asked}
 use Rattle.cli.specs.declared.building.Asked.{Asked}
 use Rattle.cli.specs.Refused.{FailsBuild, FailsTelling, ReachesServer, StopsAtProcess, TellsProcess}
 use Rattle.cli.specs.Running.{EndsFor}
@@ -71,17 +71,18 @@ stops_by {P} {Q} f most jobs is plan sources e h =
       told = h.told;
     }
 
--- a Directory of the root couldn't be put
-pub putting_fails : (start : ConnectionValue) (address : List ℕ) (most : ℕ) (plan : PlanValue) (sources : DigestValue) (e : CommandError)
-    → (e ≡ Memory) ⊎ ∥ FailsOver start address e ∥₁ → FailsTelling start address most plan sources e
-putting_fails start address most plan sources e (inl memory) = inl memory
-putting_fails start address most plan sources e (inr over) = inr (inr over)
+-- the server was at fault, or memory ran out
+pub over_fails : (start : ConnectionValue) (address : List ℕ) (most : ℕ) (plan : PlanValue) (sources : DigestValue) (e : CommandError)
+    → OrMemory (λ x. ∥ FailsOver start address x ∥₁) e → FailsTelling start address most plan sources e
+over_fails start address most plan sources e (inl memory) = inl memory
+over_fails start address most plan sources e (inr over) = inr (inr over)
 
 module _ (sees : Sight) (options : List Row) where
   module _ (asked : Asked) (read : IsReadOf sees options asked) where
     -- the server couldn't be reached
-    pub connect_fails : (e : CommandError) → FailsToConnect sees (string_bytes asked.server.address) e → FailsBuild sees options e
-    connect_fails e fails = in_server asked.plan asked.sources read.asks ∣ inl (subst (λ a. FailsToConnect sees a e) read.server.address fails) ∣₁
+    pub connect_fails : (e : CommandError) → OrMemory (FailsToConnect sees (string_bytes asked.server.address)) e → FailsBuild sees options e
+    connect_fails e (inl memory) = in_memory memory
+    connect_fails e (inr fails) = in_server asked.plan asked.sources read.asks ∣ inl (subst (λ a. FailsToConnect sees a e) read.server.address fails) ∣₁
 
     module _ (start : ConnectionValue) (opened : IsConnected sees (string_bytes asked.server.address) asked.server.host asked.server.prefix start) where
       pub reaches : ReachesServer sees options
@@ -106,6 +107,6 @@ module _ (sees : Sight) (options : List Row) where
         -- or while the build was told there was a fault
         pub telling_fails : (e : CommandError) → FailsTelling start (string_bytes asked.server.address) asked.jobs asked.plan asked.sources e → FailsBuild sees options e
         telling_fails e (inl memory) = in_memory memory
-        telling_fails e (inr (inl process)) = in_process asked.plan asked.sources starts (stops_by by asked.jobs (jobs_of options) read.jobs asked.plan asked.sources e process)
+        telling_fails e (inr (inl process)) = in_process asked.plan asked.sources starts (stops_by by asked.jobs (jobs_asked options) read.jobs asked.plan asked.sources e process)
         telling_fails e (inr (inr over)) = in_server asked.plan asked.sources read.asks
             (∥∥₁_map over (λ fails. inr (start, opened_to sees options asked.server start read.server opened, subst (λ a. FailsOver start a e) read.server.address fails)))

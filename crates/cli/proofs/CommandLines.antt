@@ -23,7 +23,7 @@ use Rattle.commands.specs.PutRefused.{FailsPut}
 use Rattle.commands.specs.ServeRefused.{FailsServe}
 use Rattle.commands.specs.declared.ended.Ended.{Ended}
 use Rattle.commands.specs.declared.ended.Ended.TheVariants.{Done, No}
-use Rattle.commands.specs.Status.{status_of}
+use Rattle.commands.specs.Status.{exit_status}
 use Rattle.commands.specs.Told.{PrintsNoLine}
 use Rattle.commands.specs.declared.error.CommandError.{CommandError}
 use Rattle.commands.specs.declared.error.CommandError.TheVariants.{Words, Digest, Number, Text as TextFault, Unlike, File}
@@ -99,7 +99,7 @@ not_less : (k : ℕ) → 2 + k < 2 → ⊥
 not_less k lt = omega arith
 
 -- the status of an error
-status_is : (e : CommandError) → (status_of e ≡ 2) ⊎ (status_of e ≡ 3)
+status_is : (e : CommandError) → (exit_status e ≡ 2) ⊎ (exit_status e ≡ 3)
 status_is (Words text) = inl refl
 status_is (Digest option text fault) = inl refl
 status_is (Number option greatest text) = inl refl
@@ -119,17 +119,17 @@ status_is (Random fault) = inr refl
 status_is (Output fault) = inr refl
 status_is Memory = inr refl
 
-pub few_statuses : (s : ℕ) (e : CommandError) → s ≡ status_of e → s < 4
+pub few_statuses : (s : ℕ) (e : CommandError) → s ≡ exit_status e → s < 4
 few_statuses s e is = go (status_is e)
   where
-    go : (status_of e ≡ 2) ⊎ (status_of e ≡ 3) → s < 4
+    go : (exit_status e ≡ 2) ⊎ (exit_status e ≡ 3) → s < 4
     go (inl two) = subst (λ n. n < 4) (sym (is ∙ two)) (omega arith)
     go (inr three) = subst (λ n. n < 4) (sym (is ∙ three)) (omega arith)
 
-pub no_answer : (s : ℕ) (e : CommandError) → s ≡ status_of e → s < 2 → ⊥
+pub no_answer : (s : ℕ) (e : CommandError) → s ≡ exit_status e → s < 2 → ⊥
 no_answer s e is lt = go (status_is e)
   where
-    go : (status_of e ≡ 2) ⊎ (status_of e ≡ 3) → ⊥
+    go : (exit_status e ≡ 2) ⊎ (exit_status e ≡ 3) → ⊥
     go (inl two) = absurd (not_less 0 (subst (λ n. n < 2) (is ∙ two) lt))
     go (inr three) = absurd (not_less 1 (subst (λ n. n < 2) (is ∙ three) lt))
 

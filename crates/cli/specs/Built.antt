@@ -13,7 +13,7 @@ use Rattle.builder.specs.declared.telling.Told.{Told}
 use Rattle.builder.specs.declared.telling.Told.TheVariants.{Built, Failed}
 use Rattle.clap.specs.Words.{Row}
 use Rattle.command_lines.specs.CommandLine.{option_text}
-use Rattle.commands.specs.Options.{IsServerOf, number_of}
+use Rattle.commands.specs.Options.{IsServerOf, decimal_number}
 use Rattle.commands.specs.Printed.{IsOfOptions}
 use Rattle.commands.specs.Refusal.{HasPlanRead}
 use Rattle.commands.specs.Told.{AppendsBeginning}
@@ -57,9 +57,9 @@ abbrev pub ended_of : Told Global → Ended
 ended_of (Built line noted directories) = Done
 ended_of (Failed line why) = No (Some (Refused why))
 
-abbrev pub line_of : Told Global → List ℕ
-line_of (Built line noted directories) = string_bytes line
-line_of (Failed line why) = string_bytes line
+abbrev pub told_line : Told Global → List ℕ
+told_line (Built line noted directories) = string_bytes line
+told_line (Failed line why) = string_bytes line
 
 -- the record of a build that came to its root was written to the file that the options name
 abbrev pub IsNoted : Sight → List Row → Told Global → Type 0
@@ -69,12 +69,12 @@ IsNoted sees options (Failed line why) = Unit {0}
 
 -- ---- what the options ask for
 
-abbrev pub jobs_of : List Row → ℕ
-jobs_of options = number_of (option_text options (codes "jobs"))
+abbrev pub jobs_asked : List Row → ℕ
+jobs_asked options = decimal_number (option_text options (codes "jobs"))
 
 abbrev pub names_jobs : List Row → Check
 names_jobs options = is_wanted options (codes "jobs") (codes "a number from 1 to 64")
-    (λ text. IsUpTo 64 text × (0 < number_of text))
+    (λ text. IsUpTo 64 text × (0 < decimal_number text))
 
 abbrev pub build_words : List Row → List Check
 build_words options = names_jobs options ∷ server_words options
@@ -90,7 +90,7 @@ pub record AsksBuild (sees : Sight) (options : List Row) (plan : PlanValue) (sou
 -- what was read of the options is what they ask for
 pub record IsReadOf (sees : Sight) (options : List Row) (asked : Asked) : Type 0 where
   pub asks : AsksBuild sees options asked.plan asked.sources
-  pub jobs : asked.jobs ≡ jobs_of options
+  pub jobs : asked.jobs ≡ jobs_asked options
   pub server : IsServerOf options asked.server
   pub work : string_bytes asked.work ≡ option_text options (codes "work")
 
@@ -107,7 +107,7 @@ pub record TellsAsked (sees : Sight) (options : List Row) (told : Told Global) :
   pub plan : PlanValue
   pub sources : DigestValue
   pub starts : StartsBuild sees options plan sources
-  pub tells : IsToldOf (IsOfOptions sees options) (jobs_of options) plan sources told
+  pub tells : IsToldOf (IsOfOptions sees options) (jobs_asked options) plan sources told
 
 -- Its line was printed, and where it came to its root its record written.
 pub record PrintsBuild (sees : Sight) (options : List Row) (old new : Option (List ℕ))
@@ -116,10 +116,10 @@ pub record PrintsBuild (sees : Sight) (options : List Row) (old new : Option (Li
   pub tells : TellsAsked sees options told
   pub noted : IsNoted sees options told
   pub is : ended ≡ ended_of told
-  pub printed : Appends old new (line_of told)
+  pub printed : Appends old new (told_line told)
 
 -- Nothing was printed, or a beginning of the line of what was told, whose record was written.
 abbrev pub BeginsBuild : Sight → List Row → Option (List ℕ) → Option (List ℕ) → Type 0
 BeginsBuild sees options old new = (new ≡ old)
     ⊎ ((told : Told Global) × TellsAsked sees options told × IsNoted sees options told
-    × AppendsBeginning old new (line_of told))
+    × AppendsBeginning old new (told_line told))

@@ -15,7 +15,7 @@ use Rattle.commands.specs.GetRefused.{FailsGet}
 use Rattle.commands.specs.PutRefused.{FailsPut}
 use Rattle.commands.specs.Refusal.{FailsVerify, IsPrintFault}
 use Rattle.commands.specs.ServeRefused.{FailsServe}
-use Rattle.commands.specs.Status.{status_of}
+use Rattle.commands.specs.Status.{exit_status}
 use Rattle.commands.specs.Told.{AppendsBeginning, PrintsNoLine, TellsNoteOf, TellsOf}
 use Rattle.commands.specs.World.{Sight}
 use Rattle.commands.specs.declared.ended.Ended.TheVariants.{Done, No}
@@ -136,5 +136,5 @@ pub record EndsRefused (sees : Sight) (words : List Text) (status : ℕ)
     (old new : Option (List ℕ)) : Type 0 where
   pub error : CommandError
   pub why : Fails sees words error
-  pub status_is : status_of error ≡ status
+  pub status_is : exit_status error ≡ status
   pub told : TellsOf error old new

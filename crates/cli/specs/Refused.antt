@@ -35,7 +35,7 @@ use Rattle.worker.specs.declared.failure.Cause.{Cause}
 use Rattle.worker.specs.declared.failure.Cause.TheVariants as causes
 use Rattle.worker.specs.declared.runner.RunError.TheVariants.{Device}
 use Rattle.cli.specs.Built.{AsksBuild, IsNoted, IsToldBy, StartsBuild, TellsAsked, build_words}
-use Rattle.cli.specs.Built.{ended_of, jobs_of}
+use Rattle.cli.specs.Built.{ended_of, jobs_asked}
 
 -- the folder at this path has something in it
 pub record HasEntries (sees : Sight) (path : List ℕ) (e : CommandError) : Type 0 where
@@ -54,19 +54,19 @@ FailsToWrite sees path = OrMemory (IsFaultAtPath path (sees.unwritten path))
 
 -- it is a folder that can't be read or isn't empty, or memory ran out
 abbrev pub FailsFolder : Sight → List ℕ → CommandError → Type 0
-FailsFolder sees path e = (e ≡ Memory) ⊎ (HasEntries sees path e ⊎ FailsAtPath sees path e)
+FailsFolder sees path = OrMemory (λ e. HasEntries sees path e ⊎ FailsAtPath sees path e)
 
 -- the cause for which a process came to nothing, as an error tells it
-abbrev pub cause_of : Cause → ProcessCause
-cause_of (causes.Unstarted fault) = Unstarted fault
-cause_of (causes.Unread fault) = Unread fault
-cause_of (causes.Signal number) = Signal number
+abbrev pub process_cause : Cause → ProcessCause
+process_cause (causes.Unstarted fault) = Unstarted fault
+process_cause (causes.Unread fault) = Unread fault
+process_cause (causes.Signal number) = Signal number
 
 -- the error tells of a process of this program, at this step of the plan, and of the cause
 abbrev pub TellsProcess : PlanValue → ℕ → List ℕ → Cause → CommandError → Type 0
 TellsProcess plan step program cause (Process fault) =
     (string_bytes fault.place ≡ place_text plan.steps (Step step))
-    × (string_bytes fault.program ≡ program) × (fault.cause ≡ cause_of cause)
+    × (string_bytes fault.program ≡ program) × (fault.cause ≡ process_cause cause)
 TellsProcess plan step program cause _ = ⊥
 
 -- By what such a source told, a build of the plan ended at a step, of which a process of this
@@ -84,8 +84,8 @@ pub record StopsAtProcess (source : Telling → Type 0) (most : ℕ) (plan : Pla
 -- stood so at first
 abbrev pub FailsTelling : ConnectionValue → List ℕ → ℕ → PlanValue → DigestValue → CommandError
     → Type 0
-FailsTelling start address most plan sources e =
-    (e ≡ Memory) ⊎ (StopsAtProcess (IsToldOver start) most plan sources e
+FailsTelling start address most plan sources =
+    OrMemory (λ e. StopsAtProcess (IsToldOver start) most plan sources e
     ⊎ ∥ FailsOver start address e ∥₁)
 
 -- what is asked for can be built, and a connection to the server was opened
@@ -114,7 +114,7 @@ pub data FailsBuild (sees : Sight) (options : List Row) (e : CommandError) : Typ
   in_place : ReachesServer sees options → sees.lists (option_text options (codes "work")) []
       → FailsAtPath sees (option_text options (codes "record")) e → FailsBuild sees options e
   in_process : (plan : PlanValue) (sources : DigestValue) → StartsBuild sees options plan sources
-      → StopsAtProcess (IsOfOptions sees options) (jobs_of options) plan sources e
+      → StopsAtProcess (IsOfOptions sees options) (jobs_asked options) plan sources e
       → FailsBuild sees options e
   in_record : (told : Told Global) → TellsAsked sees options told → ended_of told ≡ Done
       → FailsToWrite sees (option_text options (codes "record")) e → FailsBuild sees options e

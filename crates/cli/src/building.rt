@@ -3,13 +3,14 @@ ghost use Rattle.std.specs.Prelude.{OnErr, OnOk, codes, string_bytes};
 ghost use Rattle.std.specs.Io.KnownBytes.{Appends};
 ghost use Rattle.clap.specs.Words.{found_of, rows_of};
 ghost use Rattle.cli.specs.Built.{BeginsBuild, HoldsRoot, IsNoted, IsReadOf, IsToldOf, PrintsBuild};
-ghost use Rattle.cli.specs.Built.{TellsAsked, ended_of, jobs_of, line_of, names_jobs};
+ghost use Rattle.cli.specs.Built.{TellsAsked, ended_of, jobs_asked, told_line, names_jobs};
 ghost use Rattle.cli.specs.Refused.{FailsBuild, FailsFolder, FailsTelling, FailsToWrite};
-ghost use Rattle.cli.specs.Refused.{TellsProcess, cause_of};
+ghost use Rattle.cli.specs.Refused.{TellsProcess, process_cause};
 ghost use Rattle.cli.specs.Running.{EndsFor};
+ghost use Rattle.commands.specs.Faults.{OrMemory};
 ghost use Rattle.commands.specs.Places.{FailsOver, IsFresh, IsToldOver};
 ghost use Rattle.commands.specs.Refusal.{IsPrintFault};
-ghost use Rattle.commands.specs.Status.{status_of};
+ghost use Rattle.commands.specs.Status.{exit_status};
 ghost use Rattle.commands.specs.Told.{AppendsBeginning};
 ghost use Rattle.commands.specs.Words.{IsCheckedBy};
 ghost use Rattle.command_lines.specs.CommandLine.{IsSet, option_text};
@@ -52,7 +53,7 @@ struct Asked {
 
 /// The number of jobs that the words give.
 fn read_jobs(alloc: Global, matches: &ArgMatches<'_>) -> Result<usize, CommandError>
-    ensures found { IfOk result (λ jobs. jobs ≡ jobs_of (rows_of (found_of matches.now))) }
+    ensures found { IfOk result (λ jobs. jobs ≡ jobs_asked (rows_of (found_of matches.now))) }
     ensures checked { IsCheckedBy (names_jobs (rows_of (found_of matches.now)) ∷ []) result }
 {
     let text = text_of(matches, "jobs");
@@ -106,9 +107,9 @@ fn put_root<S: Stream + Drop, K: Origin>(
     told: &Told<Global>,
 ) -> Result<(), CommandError>
     ensures held { OnOk result (HoldsRoot (IsToldOver K.start) told.now) }
-    ensures fault { IfErr result (λ e. (e ≡ CommandError.Memory)
-        ⊎ ∥ FailsOver K.start (string_bytes server.now.address) e ∥₁) }
-    ensures status { IfErr result (λ e. status_of e ≡ 3) }
+    ensures fault { IfErr result
+        (OrMemory (λ e. ∥ FailsOver K.start (string_bytes server.now.address) e ∥₁)) }
+    ensures status { IfErr result (λ e. exit_status e ≡ 3) }
 {
     match told {
         Told::Built { directories, .. } => match put_all(alloc, client, directories) {
@@ -121,8 +122,8 @@ fn put_root<S: Stream + Drop, K: Origin>(
 }
 
 /// The cause, as the error of a command tells it.
-fn cause_of(cause: Cause) -> ProcessCause
-    ensures { result ≡ cause_of cause }
+fn process_cause(cause: Cause) -> ProcessCause
+    ensures { result ≡ process_cause cause }
 {
     match cause {
         Cause::Unstarted(fault) => ProcessCause::Unstarted(fault),
@@ -172,7 +173,7 @@ fn process_error(
     Ok(CommandError::Process(ProcessFault {
         place: place_text(alloc, plan, Place::Step(stopped.step))?,
         program: stopped.program,
-        cause: cause_of(stopped.cause),
+        cause: process_cause(stopped.cause),
     }))
 }
 
@@ -194,7 +195,7 @@ where
         (IsToldOf (IsToldOver K.start) asked.now.jobs asked.now.plan asked.now.sources) }
     ensures fault { IfErr result (FailsTelling K.start (string_bytes asked.now.server.address)
         asked.now.jobs asked.now.plan asked.now.sources) }
-    ensures status { IfErr result (λ e. status_of e ≡ 3) }
+    ensures status { IfErr result (λ e. exit_status e ≡ 3) }
 {
     let mut client: Client<S, K> = Client::new(remote);
     let mut runner = runner;
@@ -226,7 +227,7 @@ where
 fn check_work<W: World>(alloc: Global, world: &W, path: &str) -> Result<(), CommandError>
     ensures empty { OnOk result (W.sees.lists path.now []) }
     ensures fault { IfErr result (FailsFolder W.sees path.now) }
-    ensures status { IfErr result (λ e. status_of e ≡ 3) }
+    ensures status { IfErr result (λ e. exit_status e ≡ 3) }
 {
     let names = world.list(alloc, path)?;
     if names.is_empty() {
@@ -249,7 +250,7 @@ fn write_record<W: World>(
     ensures whole { OnErr result (ended_of told.now ≡ Ended.Done) }
     ensures fault { IfErr result
         (FailsToWrite W.sees (option_text (rows_of (found_of matches.now)) (codes "record"))) }
-    ensures status { IfErr result (λ e. status_of e ≡ 3) }
+    ensures status { IfErr result (λ e. exit_status e ≡ 3) }
 {
     match told {
         Told::Built { noted, .. } => {
@@ -279,7 +280,7 @@ where
     requires read { IsReadOf W.sees (rows_of (found_of matches.now)) asked.now }
     ensures tells { IfOk result (TellsAsked W.sees (rows_of (found_of matches.now))) }
     ensures refused { IfErr result (FailsBuild W.sees (rows_of (found_of matches.now))) }
-    ensures status { IfErr result (λ e. status_of e ≡ 3) }
+    ensures status { IfErr result (λ e. exit_status e ≡ 3) }
 {
     let alloc = rt.alloc();
     let remote = open(alloc, world, &asked.server)?;
@@ -296,11 +297,11 @@ where
 /// Prints the line of a build.
 fn print_told<O: Write>(told: &Told<Global>, out: &mut O) -> Result<(), CommandError>
     ensures printed { OnOk result
-        (Appends (O.contents out.old) (O.contents out.new) (line_of told.now)) }
+        (Appends (O.contents out.old) (O.contents out.new) (told_line told.now)) }
     ensures begun { OnErr result
-        (AppendsBeginning (O.contents out.old) (O.contents out.new) (line_of told.now)) }
+        (AppendsBeginning (O.contents out.old) (O.contents out.new) (told_line told.now)) }
     ensures fault { IfErr result IsPrintFault }
-    ensures status { IfErr result (λ e. status_of e ≡ 3) }
+    ensures status { IfErr result (λ e. exit_status e ≡ 3) }
 {
     let line = match told {
         Told::Built { line, .. } | Told::Failed { line, .. } => line,
@@ -337,7 +338,7 @@ where
     // It is for the first fault: what comes before it has none.
     ensures refused { IfErr result (FailsBuild W.sees (rows_of (found_of matches.now))) }
     ensures unprinted { IfErr result
-        (λ fault. status_of fault ≡ 2 → O.contents out.new ≡ O.contents out.old) }
+        (λ fault. exit_status fault ≡ 2 → O.contents out.new ≡ O.contents out.old) }
 {
     let alloc = rt.alloc();
     let asked = read_asked(alloc, world, matches)?;

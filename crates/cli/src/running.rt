@@ -1,7 +1,7 @@
 ghost use Rattle.std.specs.Prelude.{◌≡◌, ◌<◌, ◌≤◌, IfErr, IfOk, OnErr, map, string_bytes};
 ghost use Rattle.cli.specs.Ended.{AreFaulty, BeginsAsked, EndsNo, EndsRefused, Fails, IsDone};
 ghost use Rattle.cli.specs.Running.{Ends, TellsEnd};
-ghost use Rattle.commands.specs.Status.{status_of};
+ghost use Rattle.commands.specs.Status.{exit_status};
 
 use crate::building::run_build;
 use crate::showing::show;
@@ -88,7 +88,7 @@ where
         (Ends W.sees (map string_bytes words.now) (O.contents out.old) (O.contents out.new)) }
     ensures refused { IfErr result (Fails W.sees (map string_bytes words.now)) }
     ensures unprinted { IfErr result
-        (λ fault. status_of fault ≡ 2 → O.contents out.new ≡ O.contents out.old) }
+        (λ fault. exit_status fault ≡ 2 → O.contents out.new ≡ O.contents out.old) }
     ensures silent { AreFaulty (map string_bytes words.now)
         → O.contents out.new ≡ O.contents out.old }
     ensures begun { OnErr result (BeginsAsked W.sees (map string_bytes words.now)

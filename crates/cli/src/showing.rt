@@ -4,7 +4,7 @@ ghost use Rattle.clap.specs.Words.{HasKind, fault_of};
 ghost use Rattle.cli.specs.Ended.{BeginsShown, FailsInWords, ShowsAsked, WantsHelp, WantsVersion};
 ghost use Rattle.command_lines.specs.CommandLine.{program_line};
 ghost use Rattle.commands.specs.Refusal.{IsPrintFault};
-ghost use Rattle.commands.specs.Status.{status_of};
+ghost use Rattle.commands.specs.Status.{exit_status};
 ghost use Rattle.commands.specs.Told.{AppendsBeginning};
 
 use crate::help::help_asked;
@@ -31,7 +31,7 @@ pub(crate) fn show<O: Write>(
     ensures silent { ¬ WantsHelp (map string_bytes words.now)
         → ¬ WantsVersion (map string_bytes words.now) → O.contents out.new ≡ O.contents out.old }
     ensures unprinted { IfErr result
-        (λ fault. status_of fault ≡ 2 → O.contents out.new ≡ O.contents out.old) }
+        (λ fault. exit_status fault ≡ 2 → O.contents out.new ≡ O.contents out.old) }
 {
     match error.kind() {
         ErrorKind::OutOfMemory => Err(CommandError::Memory),
@@ -50,7 +50,7 @@ fn print<O: Write>(text: &str, out: &mut O) -> Result<(), CommandError>
     ensures begun { OnErr result
         (AppendsBeginning (O.contents out.old) (O.contents out.new) text.now) }
     ensures fault { IfErr result IsPrintFault }
-    ensures status { IfErr result (λ e. status_of e ≡ 3) }
+    ensures status { IfErr result (λ e. exit_status e ≡ 3) }
 {
     print_all(out, text.as_bytes())
 }

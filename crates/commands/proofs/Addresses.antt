@@ -7,7 +7,7 @@ use Rattle.std.specs.Str.Parse.{AllDigits}
 use Rattle.std.specs.Str.Pattern.{RFindsChar, SplitsAroundMatch}
 use Rattle.std.proofs.lemmas.Str.Pattern.{NoCharPasses-char, drop_at_char}
 use Rattle.std.proofs.Math.Seq.{get_or-append_seam}
-use Rattle.commands.specs.Options.{IsAddress, IsNumber, number_of}
+use Rattle.commands.specs.Options.{IsAddress, IsNumber, decimal_number}
 
 -- no byte is a colon
 abbrev Lacks : List ℕ → Type 0
@@ -32,7 +32,7 @@ one_cut (x ∷ xs) ys (u ∷ us) vs e free bare =
 
 -- what the two parts have to be
 abbrev pub AreAddress : List ℕ → List ℕ → Type 0
-AreAddress host port = (0 < length host) × IsNumber port × (number_of port < 65536)
+AreAddress host port = (0 < length host) × IsNumber port × (decimal_number port < 65536)
 
 module _ (text host port : List ℕ) (h : SplitsAroundMatch (RFindsChar 58) text host port) where
   cut : text ≡ host ++ 58 ∷ port
@@ -50,7 +50,7 @@ module _ (text host port : List ℕ) (h : SplitsAroundMatch (RFindsChar 58) text
   pub parts_of_address : IsAddress text → AreAddress host port
   parts_of_address is =
       let same = one_cut is.host is.port host port (sym is.cut ∙ cut) (digits_lack is.port is.number.0.1) lacks in
-      (subst (λ l. 0 < length l) same.0 is.some, subst IsNumber same.1 is.number, subst (λ l. number_of l < 65536) same.1 is.few)
+      (subst (λ l. 0 < length l) same.0 is.some, subst IsNumber same.1 is.number, subst (λ l. decimal_number l < 65536) same.1 is.few)
 
 pub no_address : (text : List ℕ) → RFindsChar 58 text None → IsAddress text → ⊥
 no_address text none is =

@@ -8,7 +8,7 @@ use Rattle.blob_source.specs.declared.source.FetchError.TheVariants as refusals
 use Rattle.remote.specs.Line.{ConnectionValue, RefusesRequest}
 use Rattle.remote.specs.declared.fault.Fault.{Fault}
 use Rattle.commands.specs.Faults.{IsServerFault, OrMemory, TellsFailure, TellsRefusal, kept_failure}
-use Rattle.commands.specs.Places.{Comes, FailsOver, KeepsRefused, RefusesAt, request_of}
+use Rattle.commands.specs.Places.{Carries, Comes, FailsOver, KeepsRefused, RefusesAt, request_of}
 use Rattle.commands.specs.PutRefused.{RefusesPut}
 use Rattle.commands.specs.declared.error.CommandError.{CommandError}
 use Rattle.commands.specs.declared.error.CommandError.TheVariants.{Memory}
@@ -35,26 +35,27 @@ keeps_on start old new (Some f) same kept = kept
 
 pub keeps_after : {T : Type 0} (start old new : ConnectionValue) (before : Option Failure) (method : Method) (d : DigestValue) (body : List ℕ)
     (result : Result T FetchError) (fault : Option Fault) → IfErr result (RefusesRequest old new (request_of method d.hash body))
-    → ((IsErrOf result refusals.Failed → ⊥) → new.failures ≡ old.failures) → new.fault ≡ fault → Comes start old → KeepsRefused start old before
+    → ((IsErrOf result refusals.Failed → ⊥) → new.failures ≡ old.failures) → new.fault ≡ fault → Carries method d body → Comes start old → KeepsRefused start old before
     → KeepsRefused start new (kept_failure before method d result fault)
-keeps_after start old new before method d body (Ok x) fault refused unfailed is came kept = keeps_on start old new before (unfailed (answered x)) kept
-keeps_after start old new before method d body (Err refusals.Memory) None refused unfailed is came kept = keeps_on start old new before (unfailed refused_otherwise) kept
-keeps_after start old new before method d body (Err refusals.Memory) (Some fault) refused unfailed is came kept = keeps_on start old new before (unfailed refused_otherwise) kept
-keeps_after start old new before method d body (Err refusals.Failed) None refused unfailed is came kept = absurd (has_fault old new method d.hash body refused is)
-keeps_after start old new before method d body (Err refusals.Failed) (Some fault) refused unfailed is came kept =
-    (body, record { old = old; new = new; before = came; is = refused; kept = is })
+keeps_after start old new before method d body (Ok x) fault refused unfailed is carries came kept = keeps_on start old new before (unfailed (answered x)) kept
+keeps_after start old new before method d body (Err refusals.Memory) None refused unfailed is carries came kept = keeps_on start old new before (unfailed refused_otherwise) kept
+keeps_after start old new before method d body (Err refusals.Memory) (Some fault) refused unfailed is carries came kept = keeps_on start old new before (unfailed refused_otherwise) kept
+keeps_after start old new before method d body (Err refusals.Failed) None refused unfailed is carries came kept = absurd (has_fault old new method d.hash body refused is)
+keeps_after start old new before method d body (Err refusals.Failed) (Some fault) refused unfailed is carries came kept =
+    (body, carries, record { old = old; new = new; before = came; is = refused; kept = is })
 
 -- ---- what is told
 
 -- that request was refused
 pub failure_told : (start now : ConnectionValue) (address : List ℕ) (failure : Option Failure) (refusal : FetchError) (e : CommandError)
-    → KeepsRefused start now failure → TellsFailure address failure refusal e → FailsOver start address e
-failure_told start now address (Some f) refusals.Failed e kept told = inr (record {
+    → ∥ KeepsRefused start now failure ∥₁ → TellsFailure address failure refusal e → OrMemory (λ x. ∥ FailsOver start address x ∥₁) e
+failure_told start now address (Some f) refusals.Failed e kept told = inr (∥∥₁_map kept (λ k. record {
   method = f.method;
   digest = f.digest;
-  body = kept.0;
-  is = record { fault = f.fault; why = kept.1; told = told };
-})
+  body = k.0;
+  carries = k.1;
+  is = record { fault = f.fault; why = k.2; told = told };
+}))
 failure_told start now address (Some f) refusals.Memory e kept told = inl told
 failure_told start now address None refusal e kept told = inl told
 

@@ -14,14 +14,17 @@ use Rattle.verifier.specs.declared.verdict.Verdict.{Verdict}
 use Rattle.text_verifier.specs.declared.answering.Answer.{Answer}
 use Rattle.text_verifier.specs.declared.lack.Lack.{Lack}
 use Rattle.remote.specs.Line.{ConnectionValue}
+use Rattle.commands.specs.Faults.{OrMemory}
 use Rattle.commands.specs.Options.{IsServerOf}
 use Rattle.commands.specs.Places.{FailsInFolder, IsOfFolder, IsOfServer, IsConnected, IsAnsweredBy, IsToldOver, LacksAtServer, LacksInFolder}
-use Rattle.commands.specs.Printed.{IsConnectedTo, IsOfOptions, IsOfPlace, IsNamedPlace, LacksAtPlace}
+use Rattle.commands.specs.Printed.{StartsPut, IsConnectedTo, IsOfOptions, IsOfPlace, IsNamedPlace, LacksAtPlace}
 use Rattle.commands.specs.Refusal.{FailsAtPlace, FailsServer}
+use Rattle.commands.specs.Words.{AllValid, server_words}
 use Rattle.commands.specs.World.{Sight}
 use Rattle.commands.specs.declared.connecting.ServerOptions.{ServerOptions}
 use Rattle.commands.specs.declared.error.CommandError.{CommandError}
 use Rattle.commands.specs.declared.verifying.Build.TheVariants.{Folder, Server}
+use Rattle.commands.proofs.Refused.{or_weaker}
 
 -- ---- what is missing
 
@@ -48,6 +51,12 @@ pub lacked_by : (sees : Sight) (options : List Row) (question : Question) (verdi
 lacked_by sees options question verdict lack is h = subst (λ o. IfSome o (λ l. ∥ LacksAtPlace sees options l ∥₁)) is h
 
 module _ (sees : Sight) (options : List Row) where
+  -- why there is no answer by it
+  place_fails : (result : Result (Answer Global) CommandError) (fails : CommandError → Type 0) → ((e : CommandError) → fails e → FailsAtPlace sees options e)
+      → IfErr result (OrMemory (λ e. ∥ fails e ∥₁)) → IfErr result (OrMemory (λ e. ∥ FailsAtPlace sees options e ∥₁))
+  place_fails result fails by h = IfErr-weaker result (OrMemory (λ e. ∥ fails e ∥₁)) (OrMemory (λ e. ∥ FailsAtPlace sees options e ∥₁))
+      (λ e. or_weaker (λ x. ∥ fails x ∥₁) (λ x. ∥ FailsAtPlace sees options x ∥₁) e (λ is. ∥∥₁_map is (by e))) h
+
   module _ (folder : String Global) where
     pub in_folder : (question : Question) (result : Result (Answer Global) CommandError) → IsNamedPlace options (Folder folder)
         → IfOk result (IsAnsweredBy (IsOfFolder sees (string_bytes folder)) (LacksInFolder sees (string_bytes folder)) question)
@@ -59,10 +68,9 @@ module _ (sees : Sight) (options : List Row) where
         (λ l lacks. inl (place.0, subst (λ f. LacksInFolder sees f l) place.1 lacks)) h
 
     pub in_folder_fails : (result : Result (Answer Global) CommandError) → IsNamedPlace options (Folder folder)
-        → IfErr result (λ e. ∥ FailsInFolder sees (string_bytes folder) e ∥₁) → IfErr result (λ e. ∥ FailsAtPlace sees options e ∥₁)
-    in_folder_fails result place h =
-        IfErr-weaker result (λ e. ∥ FailsInFolder sees (string_bytes folder) e ∥₁) (λ e. ∥ FailsAtPlace sees options e ∥₁)
-        (λ e is. ∥∥₁_map is (λ fails. inl (place.0, subst (λ f. FailsInFolder sees f e) place.1 fails))) h
+        → IfErr result (OrMemory (λ e. ∥ FailsInFolder sees (string_bytes folder) e ∥₁)) → IfErr result (OrMemory (λ e. ∥ FailsAtPlace sees options e ∥₁))
+    in_folder_fails result place h = place_fails result (FailsInFolder sees (string_bytes folder))
+        (λ e fails. inl (place.0, subst (λ f. FailsInFolder sees f e) place.1 fails)) h
 
   module _ (server : ServerOptions) where
     pub on_server : (question : Question) (result : Result (Answer Global) CommandError) → IsNamedPlace options (Server server)
@@ -83,14 +91,13 @@ module _ (sees : Sight) (options : List Row) where
         )) h
 
     pub on_server_fails : (result : Result (Answer Global) CommandError) → IsNamedPlace options (Server server)
-        → IfErr result (λ e. ∥ FailsServer sees (string_bytes server.address) server.prefix e ∥₁) → IfErr result (λ e. ∥ FailsAtPlace sees options e ∥₁)
-    on_server_fails result place h =
-        IfErr-weaker result (λ e. ∥ FailsServer sees (string_bytes server.address) server.prefix e ∥₁) (λ e. ∥ FailsAtPlace sees options e ∥₁)
-        (λ e is. ∥∥₁_map is (λ fails. inr (
+        → IfErr result (OrMemory (λ e. ∥ FailsServer sees (string_bytes server.address) server.prefix e ∥₁)) → IfErr result (OrMemory (λ e. ∥ FailsAtPlace sees options e ∥₁))
+    on_server_fails result place h = place_fails result (FailsServer sees (string_bytes server.address) server.prefix)
+        (λ e fails. inr (
           place.0,
           subst (λ a. FailsServer sees a (option_text options (codes "prefix")) e) place.1.address
               (subst (λ p. FailsServer sees (string_bytes server.address) p e) place.1.prefix fails),
-        ))) h
+        )) h
 
 module _ (sees : Sight) (options : List Row) (server : ServerOptions) (start : ConnectionValue) (is : IsServerOf options server)
     (opened : IsConnected sees (string_bytes server.address) server.host server.prefix start) where
@@ -99,6 +106,9 @@ module _ (sees : Sight) (options : List Row) (server : ServerOptions) (start : C
   opened_to = subst (λ a. IsConnected sees a (option_text options (codes "server")) (option_text options (codes "prefix")) start) is.address
       (subst (λ h. IsConnected sees (string_bytes server.address) h (option_text options (codes "prefix")) start) is.host
       (subst (λ p. IsConnected sees (string_bytes server.address) server.host p start) is.prefix opened))
+
+  pub starts_put : AllValid (server_words options) → StartsPut sees options start
+  starts_put valid = record { valid = valid; opened = opened_to }
 
   -- a client over it
   pub of_options : (told : Telling) → IsToldOver start told → IsOfOptions sees options told

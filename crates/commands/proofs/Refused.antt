@@ -3,8 +3,10 @@ use Rattle.std.proofs.Common.{◌≡◌, ◌∙◌, ◌-◌, ◌<◌, ℕ, suc, 
 use Rattle.std.proofs.lemmas.List.{get_or-map, length-map}
 use Rattle.std.specs.Prelude.{IsSorted}
 use Rattle.std.specs.declared.alloc.Global.{Global}
+use Rattle.std.specs.declared.net.socket_addr.SocketAddr.{SocketAddr}
 use Rattle.std.specs.declared.string.String.{String}
 use Rattle.blob_digest.specs.Digest.{DigestValue}
+use Rattle.clap.specs.Words.{Row}
 use Rattle.messages.specs.Directory.{directory_bytes}
 use Rattle.messages.specs.DirectoryRules.{DirectoryValue, IsDirectory}
 use Rattle.messages.specs.Order.{bytes_cmp}
@@ -15,13 +17,21 @@ use Rattle.commands.specs.Faults.{TellsOfEntry, OrMemory}
 use Rattle.commands.specs.PutRefused.FailsBelow.{below, here, too_deep}
 use Rattle.commands.specs.PutRefused.FailsHere.{file_refused, folder_refused, in_memory, name_twice, no_name, no_text}
 use Rattle.commands.specs.Refusal.{IsPrintFault}
-use Rattle.commands.specs.Status.{status_of}
+use Rattle.commands.specs.Printed.{IsAsked, StartsServe}
+use Rattle.commands.specs.Status.{exit_status}
+use Rattle.commands.specs.Words.{AllValid, serve_words}
 use Rattle.commands.specs.World.{Sight, a_link}
 use Rattle.commands.specs.declared.connecting.ServerOptions.{ServerOptions}
 use Rattle.commands.specs.declared.error.CommandError.{CommandError}
+use Rattle.commands.specs.declared.serving.Asked.{Asked}
 use Rattle.commands.specs.declared.error.CommandError.TheVariants.{Memory, Output}
 use Rattle.commands.proofs.Order.{Follows}
 use Rattle.commands.proofs.SoFar.{IsPutSoFar}
+
+-- so it is, or memory ran out, by what is so
+pub or_weaker : (P Q : CommandError → Type 0) (e : CommandError) → (P e → Q e) → OrMemory P e → OrMemory Q e
+or_weaker P Q e is (inl m) = inl m
+or_weaker P Q e is (inr p) = inr (is p)
 
 -- memory ran out, or so it is
 pub or_memory : (P Q : CommandError → Type 0) (e : CommandError) → (e ≡ Memory → Q e) → (P e → Q e) → OrMemory P e → Q e
@@ -88,15 +98,19 @@ module _ (sees : Sight) (start : ConnectionValue) (address place : List ℕ) whe
   directory_fails left names d bytes (Ok digest) valid lists so_far is fails = tt
   directory_fails left names d bytes (Err e) valid lists so_far is fails =
       here left place (or_memory (λ x. ∥ RefusesPut start address bytes x ∥₁) (FailsHere sees start address place) e in_memory
-      (λ refuses. folder_refused d valid (record { names = names; read = lists; all = so_far.all; only = so_far.only }) (subst (λ b. ∥ RefusesPut start address b e ∥₁) is refuses)) fails)
+      (λ refuses. folder_refused left d valid (record { names = names; read = lists; all = so_far.all; only = so_far.only }) so_far.are_put (subst (λ b. ∥ RefusesPut start address b e ∥₁) is refuses)) fails)
 
 -- ---- the whole command
 
+pub starts_serve : (sees : Sight) (options : List Row) (asked : Asked) (address : SocketAddr) → IsAsked options asked → AllValid (serve_words options)
+    → sees.listens asked.address.now address → StartsServe sees options address
+starts_serve sees options asked address is valid listens = record { valid = valid; listens = subst (λ a. sees.listens a address) is.address listens }
+
 -- the status of what can't be printed
-pub printed_status : (e : CommandError) → OrMemory IsPrintFault e → status_of e ≡ 3
-printed_status e (inl memory) = subst (λ x. status_of x ≡ 3) (sym memory) refl
+pub printed_status : (e : CommandError) → OrMemory IsPrintFault e → exit_status e ≡ 3
+printed_status e (inl memory) = subst (λ x. exit_status x ≡ 3) (sym memory) refl
 printed_status (Output f) (inr fault) = refl
 printed_status _ (inr fault) = absurd fault
 
-pub not_words : (e : CommandError) → OrMemory IsPrintFault e → status_of e ≡ 2 → ⊥
+pub not_words : (e : CommandError) → OrMemory IsPrintFault e → exit_status e ≡ 2 → ⊥
 not_words e fault status = let same : ◌≡◌ {A = ℕ} 3 2 = sym (printed_status e fault) ∙ status in omega (arith, same)

@@ -3,7 +3,7 @@
 use Rattle.std.specs.Prelude.{◌≡◌, ◌≢◌, ◌⊎◌, ℕ, List, [], Option, None, Some, codes}
 use Rattle.std.specs.Prelude.{string_bytes}
 use Rattle.std.specs.declared.alloc.Global.{Global}
-use Rattle.blob_digest.specs.Digest.{DigestValue, digest_of}
+use Rattle.blob_digest.specs.Digest.{DigestValue, digest_of, empty_digest}
 use Rattle.blob_digest.specs.Text.{digest_text}
 use Rattle.blob_source.specs.Source.{Telling}
 use Rattle.checkout.specs.Refused.{FailsCheckout}
@@ -41,12 +41,14 @@ pub record ComesWrong (start : ConnectionValue) (digest : DigestValue) : Type 0 
   pub came : CameOver start Cas digest.hash bytes
   pub other : digest_of bytes ≢ digest
 
--- why a blob wasn't written, over a connection to the server at this address
+-- Why a blob wasn't written, over a connection to the server at this address. The empty one isn't
+-- asked for, so that nothing but the output refuses it.
 pub data FailsGetBlob (start : ConnectionValue) (address : List ℕ) (digest : DigestValue)
     (e : CommandError) : Type 0 where
-  in_memory : e ≡ Memory → FailsGetBlob start address digest e
-  in_reply : RefusesAt start address GetBlob digest [] e → FailsGetBlob start address digest e
-  in_bytes : ComesWrong start digest → IsWrongBytes address digest e
+  in_memory : digest ≢ empty_digest → e ≡ Memory → FailsGetBlob start address digest e
+  in_reply : digest ≢ empty_digest → RefusesAt start address GetBlob digest [] e
+      → FailsGetBlob start address digest e
+  in_bytes : digest ≢ empty_digest → ComesWrong start digest → IsWrongBytes address digest e
       → FailsGetBlob start address digest e
   in_output : (bytes : List ℕ) → IsBlobOver start digest bytes → IsPrintFault e
       → FailsGetBlob start address digest e

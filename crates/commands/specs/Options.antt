@@ -14,12 +14,12 @@ abbrev pub IsNumber : List ℕ → Type 0
 IsNumber text = IsNumeral 10 text × (digits_value 10 text < 2 ^ 64)
 
 -- the number that decimal digits spell
-abbrev pub number_of : List ℕ → ℕ
-number_of = digits_value 10
+abbrev pub decimal_number : List ℕ → ℕ
+decimal_number = digits_value 10
 
 -- the number of an option, or this one where nothing is said of it
 abbrev pub number_or : ℕ → List Row → List ℕ → ℕ
-number_or usual options option = option_map_or number_of (first_of option options) usual
+number_or usual options option = option_map_or decimal_number (first_of option options) usual
 
 -- HOST:PORT: some bytes, a colon and a number less than 65,536
 pub record IsAddress (text : List ℕ) : Type 0 where
@@ -28,7 +28,7 @@ pub record IsAddress (text : List ℕ) : Type 0 where
   pub cut : text ≡ host ++ 58 ∷ port
   pub some : 0 < length host
   pub number : IsNumber port
-  pub few : number_of port < 65536
+  pub few : decimal_number port < 65536
 
 -- how long a server may be silent: so many seconds, and with 0 for ever
 abbrev pub IsTimeout : ℕ → Option Duration → Type 0

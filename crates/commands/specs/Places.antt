@@ -2,7 +2,7 @@
 use Rattle.std.specs.Prelude.{◌≡◌, ◌⊎◌, ℕ, false, List, [], Option, Some, None, codes}
 use Rattle.std.specs.Prelude.{IfSome, string_bytes}
 use Rattle.std.specs.declared.alloc.Global.{Global}
-use Rattle.blob_digest.specs.Digest.{DigestValue}
+use Rattle.blob_digest.specs.Digest.{DigestValue, digest_of}
 use Rattle.blob_source.specs.Source.{Blobs, Telling}
 use Rattle.blob_source.specs.declared.source.FetchError.{FetchError}
 use Rattle.blob_source.specs.declared.source.FetchError.TheVariants.{Failed}
@@ -24,10 +24,10 @@ use Rattle.text_verifier.specs.Texts.{Question}
 use Rattle.text_verifier.specs.declared.answering.Answer.{Answer}
 use Rattle.text_verifier.specs.declared.lack.Lack.{Lack}
 use Rattle.text_verifier.specs.declared.lack.Lack.TheVariants.{Blob, ActionResult}
-use Rattle.commands.specs.Faults.{IsServerFault, OrMemory, error_of_file}
+use Rattle.commands.specs.Faults.{IsServerFault, error_of_file}
 use Rattle.commands.specs.World.{Sight}
 use Rattle.commands.specs.declared.error.CommandError.{CommandError}
-use Rattle.commands.specs.declared.error.CommandError.TheVariants.{Connection, Memory}
+use Rattle.commands.specs.declared.error.CommandError.TheVariants.{Connection}
 use Rattle.commands.specs.declared.failure.Failure.{Failure}
 use Rattle.commands.specs.declared.failure.Method.{Method}
 use Rattle.commands.specs.declared.failure.Method.TheVariants.{GetBlob, GetResult, PutBlob}
@@ -88,18 +88,17 @@ pub record IsInFolder {R : Type 0} (sees : Sight) (folder : List ℕ) (s : Folde
   pub lacked : AreLacked (LacksInFolder sees folder) (folders.blobs_of s) (folders.results_of s)
   pub failed : (e : FileError Global) → folders.error_of s ≡ Some e → FailsInStore sees folder e
 
--- the error tells that a file of the store couldn't be read, or that memory ran out
+-- and the error tells that
 abbrev pub FailsInFolder : Sight → List ℕ → CommandError → Type 0
-FailsInFolder sees folder e = (e ≡ Memory)
-    ⊎ ((f : FileError Global) × FailsInStore sees folder f × (e ≡ error_of_file f))
+FailsInFolder sees folder e =
+    (f : FileError Global) × FailsInStore sees folder f × (e ≡ error_of_file f)
 
 -- ---- a server
 
--- the error tells that no connection could be opened, or that memory ran out
+-- the error tells that no connection could be opened
 abbrev pub FailsToConnect : Sight → List ℕ → CommandError → Type 0
 FailsToConnect sees address (Connection server fault) =
     (string_bytes server ≡ address) × sees.refuses address fault
-FailsToConnect sees address Memory = Unit {0}
 FailsToConnect sees address _ = ⊥
 
 -- a connection to the server at this address was opened, for requests with this host and prefix
@@ -172,23 +171,26 @@ pub record RefusesAt (start : ConnectionValue) (address : List ℕ) (method : Me
   pub why : IsRefusedFor start (request_of method digest.hash body) fault
   pub told : IsServerFault address method digest fault e
 
+-- what goes with a request: a blob with its own digest, a result, or nothing
+abbrev pub Carries : Method → DigestValue → List ℕ → Type 0
+Carries PutBlob digest body = digest ≡ digest_of body
+Carries PutResult digest body = Unit {0}
+Carries _ digest body = body ≡ []
+
 -- a request was refused so
-pub record RefusesSome (start : ConnectionValue) (address : List ℕ) (e : CommandError)
-    : Type 0 where
+pub record FailsOver (start : ConnectionValue) (address : List ℕ) (e : CommandError) : Type 0 where
   pub method : Method
   pub digest : DigestValue
   pub body : List ℕ
+  pub carries : Carries method digest body
   pub is : RefusesAt start address method digest body e
-
--- so it was, or memory ran out
-abbrev pub FailsOver : ConnectionValue → List ℕ → CommandError → Type 0
-FailsOver start address = OrMemory (RefusesSome start address)
 
 -- What is kept as the request that failed last was refused. Where nothing is kept no call failed.
 abbrev pub KeepsRefused : ConnectionValue → ConnectionValue → Option Failure → Type 0
 KeepsRefused start now None = now.failures ≡ start.failures
 KeepsRefused start now (Some f) =
-    (body : List ℕ) × IsRefusedFor start (request_of f.method f.digest.hash body) f.fault
+    (body : List ℕ) × Carries f.method f.digest body
+    × IsRefusedFor start (request_of f.method f.digest.hash body) f.fault
 
 abbrev pub IsToldOver : ConnectionValue → Telling → Type 0
 IsToldOver start told = (now : ConnectionValue) × IsClientOver start now told

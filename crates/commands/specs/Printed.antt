@@ -19,13 +19,13 @@ use Rattle.text_verifier.specs.Lacking.{lack_of}
 use Rattle.text_verifier.specs.Texts.{HasTexts, Question, IsDigestText}
 use Rattle.text_verifier.specs.declared.lack.Lack.{Lack}
 use Rattle.commands.specs.Got.{BeginsBlob, Writes}
-use Rattle.commands.specs.Options.{IsServerOf, number_of, number_or}
+use Rattle.commands.specs.Options.{IsServerOf, decimal_number, number_or}
 use Rattle.commands.specs.Places.{IsOfFolder, IsOfServer, IsConnected, LacksAtServer}
 use Rattle.commands.specs.Places.{LacksInFolder}
 use Rattle.commands.specs.Put.{PutsPath}
 use Rattle.commands.specs.Told.{AppendsBeginning}
 use Rattle.commands.specs.Trees.{BeginsLack, IsTreeGot}
-use Rattle.commands.specs.Words.{AllValid, server_words}
+use Rattle.commands.specs.Words.{AllValid, serve_words, server_words}
 use Rattle.commands.specs.World.{Serving, Sight}
 use Rattle.commands.specs.declared.ended.Ended.{Ended}
 use Rattle.commands.specs.declared.ended.Ended.TheVariants.{Done, No}
@@ -163,12 +163,16 @@ GetsPart sees options old new = (new ≡ old)
     ⊎ ((digest : DigestValue) × (start : ConnectionValue) × StartsGet sees options digest start
     × BeginsGot sees (first_of (codes "into") options) start digest old new)
 
--- What was read at the path is put to the server that the options name, and the line of its digest
--- was printed.
+-- the words are valid, and a connection to the server that they name was opened, and stood so
+pub record StartsPut (sees : Sight) (options : List Row) (start : ConnectionValue) : Type 0 where
+  pub valid : AllValid (server_words options)
+  pub opened : IsConnectedTo sees options start
+
+-- What was read at the path is put to that server, and the line of its digest was printed.
 pub record PrintsDigest (sees : Sight) (options : List Row) (old new : Option (List ℕ))
     : Type 0 where
   pub start : ConnectionValue
-  pub opened : IsConnectedTo sees options start
+  pub starts : StartsPut sees options start
   pub digest : DigestValue
   pub put : PutsPath sees start (option_text options (codes "path")) digest
   pub printed : Appends old new (digest_text digest ++ 10 ∷ [])
@@ -176,7 +180,7 @@ pub record PrintsDigest (sees : Sight) (options : List Row) (old new : Option (L
 -- nothing was printed, or a beginning of such a line
 abbrev pub BeginsDigest : Sight → List Row → Option (List ℕ) → Option (List ℕ) → Type 0
 BeginsDigest sees options old new = (new ≡ old)
-    ⊎ ((start : ConnectionValue) × (digest : DigestValue) × IsConnectedTo sees options start
+    ⊎ ((start : ConnectionValue) × (digest : DigestValue) × StartsPut sees options start
     × PutsPath sees start (option_text options (codes "path")) digest
     × AppendsBeginning old new (digest_text digest ++ 10 ∷ []))
 
@@ -187,10 +191,10 @@ BeginsDigest sees options old new = (new ≡ old)
 abbrev pub serving_of : List Row → SocketAddr → Serving
 serving_of options address = record {
   address = address;
-  cache = empty_cache (number_of (option_text options (codes "limit")))
-      (number_of (option_text options (codes "result-limit")));
+  cache = empty_cache (decimal_number (option_text options (codes "limit")))
+      (decimal_number (option_text options (codes "result-limit")));
   prefix = option_text options (codes "prefix");
-  connections = number_of (option_text options (codes "connections"));
+  connections = decimal_number (option_text options (codes "connections"));
   at_once = number_or 1 options (codes "at-once");
   idle = number_or 60 options (codes "idle");
 }
@@ -198,27 +202,31 @@ serving_of options address = record {
 abbrev pub listening_line : SocketAddr → List ℕ
 listening_line address = codes "listening " ++ socket_text address ++ codes "\n"
 
--- a socket listens where the options say, the line of its address was printed, and the connections
--- were served there, as they say
+-- the words are valid, and a socket listens where they say, at this address
+pub record StartsServe (sees : Sight) (options : List Row) (address : SocketAddr) : Type 0 where
+  pub valid : AllValid (serve_words options)
+  pub listens : sees.listens (option_text options (codes "listen")) address
+
+-- the line of its address was printed, and the connections were served there, as they say
 pub record ServesAsked (sees : Sight) (options : List Row) (old new : Option (List ℕ))
     : Type 0 where
   pub address : SocketAddr
-  pub listens : sees.listens (option_text options (codes "listen")) address
+  pub starts : StartsServe sees options address
   pub printed : Appends old new (listening_line address)
   pub served : sees.serves (serving_of options address)
 
 -- nothing was printed, or the line or a beginning of it, of an address where a socket so listens
 abbrev pub BeginsListening : Sight → List Row → Option (List ℕ) → Option (List ℕ) → Type 0
 BeginsListening sees options old new = (new ≡ old) ⊎ ((address : SocketAddr)
-    × sees.listens (option_text options (codes "listen")) address
-    × AppendsBeginning old new (listening_line address))
+    × StartsServe sees options address × AppendsBeginning old new (listening_line address))
 
 -- what the words of `serve` ask for is as they say
 pub record IsAsked (options : List Row) (asked : Asked) : Type 0 where
   pub address : asked.address.now ≡ option_text options (codes "listen")
-  pub limit : asked.limit ≡ number_of (option_text options (codes "limit"))
-  pub result_limit : asked.result_limit ≡ number_of (option_text options (codes "result-limit"))
+  pub limit : asked.limit ≡ decimal_number (option_text options (codes "limit"))
+  pub result_limit : asked.result_limit
+      ≡ decimal_number (option_text options (codes "result-limit"))
   pub prefix : asked.prefix ≡ option_text options (codes "prefix")
-  pub connections : asked.connections ≡ number_of (option_text options (codes "connections"))
+  pub connections : asked.connections ≡ decimal_number (option_text options (codes "connections"))
   pub at_once : asked.at_once ≡ number_or 1 options (codes "at-once")
   pub idle : asked.idle ≡ number_or 60 options (codes "idle")

@@ -1,6 +1,6 @@
 -- Why `put` ends without its line: the first fault, in the order words, connection, what stands at
 -- the path or below it together with the server's refusals, and output.
-use Rattle.std.specs.Prelude.{◌≡◌, ℕ, suc, List, ◌∷◌, ◌++◌, IsSorted, codes}
+use Rattle.std.specs.Prelude.{◌≡◌, ℕ, suc, List, ◌∷◌, ◌++◌, IsSorted, Some, codes}
 use Rattle.std.specs.List.{Contains}
 use Rattle.std.specs.declared.alloc.Global.{Global}
 use Rattle.blob_digest.specs.Digest.{DigestValue, digest_of}
@@ -9,14 +9,16 @@ use Rattle.command_lines.specs.CommandLine.{option_text}
 use Rattle.messages.specs.Directory.{directory_bytes}
 use Rattle.messages.specs.DirectoryRules.{DirectoryValue, IsDirectory}
 use Rattle.messages.specs.Name.{IsName}
+use Rattle.messages.specs.Node.{IsChild}
 use Rattle.messages.specs.Order.{IsAscending, bytes_cmp}
 use Rattle.messages.specs.Target.{IsTarget}
 use Rattle.remote.specs.Line.{ConnectionValue}
+use Rattle.tree.specs.Form.{NodeValue}
 use Rattle.remote.specs.declared.files.FileError.{FileError}
 use Rattle.commands.specs.Faults.{TellsOfEntry, error_of_file}
 use Rattle.commands.specs.Places.{FailsToConnect, RefusesAt}
-use Rattle.commands.specs.Printed.{IsConnectedTo}
-use Rattle.commands.specs.Put.{IsListed, PutsPath}
+use Rattle.commands.specs.Printed.{StartsPut}
+use Rattle.commands.specs.Put.{IsListed, IsPutAt, PutsPath}
 use Rattle.commands.specs.Refusal.{IsPrintFault}
 use Rattle.commands.specs.Words.{AllValid, FailsFirst, server_words}
 use Rattle.commands.specs.World.{Sight, a_link}
@@ -50,7 +52,8 @@ pub record HasEntry (sees : Sight) (place name : List ℕ) : Type 0 where
   pub read : sees.lists place names
   pub has : Contains names name
 
--- What stands at a place isn't put: it can't be read or spelled, or the server refused it.
+-- What stands at a place isn't put: it can't be read or spelled, or the server refused it; of a
+-- folder, whose entries it took.
 pub data FailsHere (sees : Sight) (start : ConnectionValue) (address place : List ℕ)
     (e : CommandError) : Type 0 where
   in_memory : e ≡ Memory → FailsHere sees start address place e
@@ -64,7 +67,9 @@ pub data FailsHere (sees : Sight) (start : ConnectionValue) (address place : Lis
       → FailsHere sees start address place e
   file_refused : (bytes : List ℕ) → sees.reads place bytes
       → ∥ RefusesPut start address bytes e ∥₁ → FailsHere sees start address place e
-  folder_refused : (d : DirectoryValue) → IsDirectory d → IsListed sees place d
+  folder_refused : (left : ℕ) (d : DirectoryValue) → IsDirectory d → IsListed sees place d
+      → ((n : List ℕ) (x : NodeValue) → IsChild n d (Some x)
+      → IsPutAt sees start left (place ++ 47 ∷ n) x)
       → ∥ RefusesPut start address (directory_bytes d) e ∥₁
       → FailsHere sees start address place e
 
@@ -79,12 +84,6 @@ pub data FailsBelow (sees : Sight) (start : ConnectionValue) (address : List ℕ
   below : (left : ℕ) (place name : List ℕ) → HasEntry sees place name
       → FailsBelow sees start address e left (place ++ 47 ∷ name)
       → FailsBelow sees start address e (suc left) place
-
--- the words are valid, and a connection to the server that they name was opened, and stood so
-pub record StartsPut (sees : Sight) (options : List Row) (start : ConnectionValue)
-    : Type 0 where
-  pub valid : AllValid (server_words options)
-  pub opened : IsConnectedTo sees options start
 
 -- The first fault: what comes before it has none. That memory is wanting may come anywhere, and is
 -- told as that.

@@ -1,12 +1,14 @@
 -- Why `verify` ends without its answer: the first fault, in the order words, digests, plan, record,
 -- connection and work. Of a file, that it can't be read comes before what is wrong in its text.
-use Rattle.std.specs.Prelude.{◌≡◌, ◌⊎◌, ℕ, List, codes, string_bytes}
+use Rattle.std.specs.Prelude.{◌≡◌, ◌⊎◌, ℕ, Bool, true, false, List, IfSome, codes, string_bytes}
 use Rattle.std.specs.declared.alloc.Global.{Global}
 use Rattle.blob_digest.specs.declared.error.DigestError.{DigestError}
 use Rattle.clap.specs.Words.{Row}
 use Rattle.plan.specs.Faults.{IsPlanFault}
 use Rattle.plan.specs.Record.{IsRecordFault, names_of}
 use Rattle.plan.specs.Values.{PlanValue}
+use Rattle.plan.specs.declared.error.Fault.{Fault}
+use Rattle.plan.specs.declared.error.Fault.TheVariants as faults
 use Rattle.plan.specs.declared.error.PlanError.{PlanError}
 use Rattle.remote.specs.Line.{ConnectionValue}
 use Rattle.remote.specs.declared.files.FileError.{FileError}
@@ -17,6 +19,8 @@ use Rattle.command_lines.specs.CommandLine.{option_text}
 use Rattle.commands.specs.declared.error.CommandError.{CommandError}
 use Rattle.commands.specs.declared.error.CommandError.TheVariants.{Digest, Memory, Output}
 use Rattle.commands.specs.declared.error.CommandError.TheVariants.{Text}
+use Rattle.commands.specs.declared.hint.Hint.{Hint}
+use Rattle.commands.specs.declared.hint.Hint.TheVariants.{LaterStep, NoStep, OwnStep}
 use Rattle.commands.specs.Faults.{error_of_file}
 use Rattle.commands.specs.Places.{FailsInFolder, FailsOver, FailsToConnect, IsConnected}
 use Rattle.commands.specs.Printed.{AsksQuestion, JudgesAsked, NamesServer, NamesStore}
@@ -60,10 +64,25 @@ FailsDigests options (Digest option text fault) =
 FailsDigests options Memory = Unit {0}
 FailsDigests options _ = ⊥
 
+-- a hint is of the step that a line reads, and else of the line's form
+abbrev pub is_of_step : Hint → Bool
+is_of_step LaterStep = true
+is_of_step OwnStep = true
+is_of_step NoStep = true
+is_of_step _ = false
+
+-- the hints that may stand beside a fault
+abbrev pub GoesWith : Fault → Hint → Type 0
+GoesWith faults.LaterStep hint = is_of_step hint ≡ true
+GoesWith faults.BadHeader hint = is_of_step hint ≡ false
+GoesWith faults.BadLine hint = is_of_step hint ≡ false
+GoesWith _ hint = ⊥
+
 -- a file can't be read, or the text that was read of it is at fault, or memory ran out
 abbrev pub FailsText : Sight → List ℕ → (List ℕ → PlanError → Type 0) → CommandError → Type 0
 FailsText sees path faulty (Text p fault hint) =
-    (string_bytes p ≡ path) × ((bytes : List ℕ) × sees.reads path bytes × faulty bytes fault)
+    (string_bytes p ≡ path) × IfSome hint (GoesWith fault.fault)
+    × ((bytes : List ℕ) × sees.reads path bytes × faulty bytes fault)
 FailsText sees path faulty e =
     (e ≡ Memory) ⊎ ((f : FileError Global) × sees.fails path f × (e ≡ error_of_file f))
 

@@ -9,22 +9,22 @@ use Rattle.commands.specs.declared.error.CommandError.TheVariants.{Memory, Proce
 
 -- 2 where the words or the texts that they name are at fault, and 3 where a file, a socket, a
 -- server, the output or memory is
-abbrev pub status_of : CommandError → ℕ
-status_of (Words text) = 2
-status_of (Digest option text fault) = 2
-status_of (Number option greatest text) = 2
-status_of (Text path fault hint) = 2
-status_of (Unlike option wanted text) = 2
-status_of (File path fault) = 3
-status_of (NotAFile path) = 3
-status_of (TooLarge path) = 3
-status_of (Entry path fault) = 3
-status_of (Connection server fault) = 3
-status_of (Server server asked digest fault) = 3
-status_of (WrongBytes server digest) = 3
-status_of (Address text fault) = 3
-status_of (Accept fault) = 3
-status_of (Process fault) = 3
-status_of (Random fault) = 3
-status_of (Output fault) = 3
-status_of Memory = 3
+abbrev pub exit_status : CommandError → ℕ
+exit_status (Words text) = 2
+exit_status (Digest option text fault) = 2
+exit_status (Number option greatest text) = 2
+exit_status (Text path fault hint) = 2
+exit_status (Unlike option wanted text) = 2
+exit_status (File path fault) = 3
+exit_status (NotAFile path) = 3
+exit_status (TooLarge path) = 3
+exit_status (Entry path fault) = 3
+exit_status (Connection server fault) = 3
+exit_status (Server server asked digest fault) = 3
+exit_status (WrongBytes server digest) = 3
+exit_status (Address text fault) = 3
+exit_status (Accept fault) = 3
+exit_status (Process fault) = 3
+exit_status (Random fault) = 3
+exit_status (Output fault) = 3
+exit_status Memory = 3

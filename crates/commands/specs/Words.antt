@@ -1,12 +1,12 @@
 -- What the words of a command have to be, in their order, and the first of them that isn't so.
-use Rattle.std.specs.Prelude.{◌≡◌, ◌⊎◌, ℕ, ◌≤◌, true, List, [], ◌∷◌, ◌++◌, Result, Ok, Err, IsSome}
-use Rattle.std.specs.Prelude.{IsTrue, codes, map, string_bytes}
+use Rattle.std.specs.Prelude.{◌≡◌, ◌≢◌, ◌⊎◌, ℕ, ◌≤◌, true, List, [], ◌∷◌, ◌++◌, Result, Ok, Err}
+use Rattle.std.specs.Prelude.{IsSome, IsTrue, codes, map, string_bytes}
 use Rattle.clap.specs.Words.{Row, first_of}
 use Rattle.command_lines.specs.CommandLine.{option_text}
 use Rattle.http_core.specs.Host.{is_host}
 use Rattle.http_core.specs.Prefix.{is_prefix}
 use Rattle.commands.specs.Faults.{IsUnlikeWanted, OrMemory}
-use Rattle.commands.specs.Options.{IsAddress, IsNumber, number_of}
+use Rattle.commands.specs.Options.{IsAddress, IsNumber, decimal_number}
 use Rattle.commands.specs.declared.error.CommandError.{CommandError}
 use Rattle.commands.specs.declared.error.CommandError.TheVariants.{Number, Words}
 
@@ -36,7 +36,7 @@ IsCheckedBy checks (Err e) = OrMemory (FailsFirst checks) e
 
 -- decimal digits of a number that is no greater
 abbrev pub IsUpTo : ℕ → List ℕ → Type 0
-IsUpTo greatest text = IsNumber text × (number_of text ≤ greatest)
+IsUpTo greatest text = IsNumber text × (decimal_number text ≤ greatest)
 
 abbrev pub IsNumberFault : List ℕ → ℕ → List ℕ → CommandError → Type 0
 IsNumberFault option greatest text (Number o g t) =
@@ -112,3 +112,26 @@ place_words options =
     names_place options ∷ names_one_place options
     ∷ goes_with_server options (codes "prefix") ∷ goes_with_server options (codes "timeout")
     ∷ map (where_said options (codes "server")) (server_words options)
+
+-- ---- what is served
+
+abbrev pub listens_at : List Row → Check
+listens_at options = is_wanted options (codes "listen") (codes "HOST:PORT") IsAddress
+
+abbrev pub is_idle : List Row → Check
+is_idle options =
+    where_said options (codes "idle") (has_number_up_to options (codes "idle") 9223372036854775807)
+
+abbrev pub is_at_once : List Row → List Check
+is_at_once options =
+    where_said options (codes "at-once") (has_number_up_to options (codes "at-once") 1024)
+    ∷ where_said options (codes "at-once") (is_wanted options (codes "at-once")
+    (codes "a number from 1 to 1024") (λ text. decimal_number text ≢ 0)) ∷ []
+
+abbrev pub serve_words : List Row → List Check
+serve_words options =
+    listens_at options
+    ∷ has_number_up_to options (codes "connections") 18446744073709551615
+    ∷ has_number_up_to options (codes "limit") 9223372036854775807
+    ∷ has_number_up_to options (codes "result-limit") 9223372036854775807
+    ∷ is_idle options ∷ (is_at_once options ++ has_prefix options ∷ [])

@@ -8,7 +8,7 @@ ghost use Rattle.commands.specs.Places.{AreLacked, FailsOver, FailsToConnect, Is
 ghost use Rattle.commands.specs.Places.{IsConnected, IsFresh, KeepsRefused, LacksIt, LacksOver};
 ghost use Rattle.commands.specs.Put.{TakesBlob};
 ghost use Rattle.commands.specs.PutRefused.{RefusesPut};
-ghost use Rattle.commands.specs.Status.{status_of};
+ghost use Rattle.commands.specs.Status.{exit_status};
 ghost use Rattle.http_core.specs.declared.event.Area.TheVariants.{Ac, Cas};
 ghost use Rattle.remote.specs.Remote.{blobs_of, connection_of, results_of, telling_of};
 
@@ -105,8 +105,8 @@ impl<S: Stream + Drop, K: Origin> Client<S, K> {
     ) -> Result<(), CommandError>
         ensures lacked { OnOk result (∥ LacksIt K.start lack.now ∥₁) }
         ensures fault { IfErr result
-            (λ e. ∥ FailsOver K.start (string_bytes server.now.address) e ∥₁) }
-        ensures status { IfErr result (λ e. status_of e ≡ 3) }
+            (OrMemory (λ e. ∥ FailsOver K.start (string_bytes server.now.address) e ∥₁)) }
+        ensures status { IfErr result (λ e. exit_status e ≡ 3) }
     {
         let refusal = match self.look_again(alloc, lack) {
             Ok(None) => return Ok(()),
@@ -124,8 +124,8 @@ impl<S: Stream + Drop, K: Origin> Client<S, K> {
         refusal: FetchError,
     ) -> Result<CommandError, AllocError>
         ensures over { IfOk result
-            (λ e. ∥ FailsOver K.start (string_bytes server.now.address) e ∥₁) }
-        ensures status { IfOk result (λ e. status_of e ≡ 3) }
+            (OrMemory (λ e. ∥ FailsOver K.start (string_bytes server.now.address) e ∥₁)) }
+        ensures status { IfOk result (λ e. exit_status e ≡ 3) }
         ensures error { IfOk result
             (TellsFailure (string_bytes server.now.address) self.now.failure refusal) }
         // Where a call failed, that memory is wanting isn't told in its place.
@@ -233,7 +233,7 @@ pub(crate) fn server_error(
     fault: Option<Fault>,
     refusal: FetchError,
 ) -> Result<CommandError, AllocError>
-    ensures status { IfOk result (λ e. status_of e ≡ 3) }
+    ensures status { IfOk result (λ e. exit_status e ≡ 3) }
     ensures error { IfOk result
         (TellsRefusal (string_bytes server.now.address) method digest.now fault refusal) }
 {
@@ -257,7 +257,8 @@ pub fn open<W: World>(
     ensures opened { IfOk result (λ remote. IsConnected W.sees (string_bytes server.now.address)
         server.now.host server.now.prefix (connection_of W.Link.flow remote)) }
     ensures fresh { IfOk result (λ remote. IsFresh remote) }
-    ensures fault { IfErr result (FailsToConnect W.sees (string_bytes server.now.address)) }
+    ensures fault { IfErr result
+        (OrMemory (FailsToConnect W.sees (string_bytes server.now.address))) }
 {
     match world.connect(alloc, server) {
         Ok(link) => Ok(Remote::new(alloc, link, &server.host, &server.prefix)?),

@@ -1,4 +1,4 @@
-ghost use Rattle.std.specs.Prelude.{◌≡◌, ◌∷◌, [], IfOk, IsTrue, codes, string_bytes};
+ghost use Rattle.std.specs.Prelude.{◌≡◌, ◌∷◌, [], IfOk, IsTrue, OnErr, OnOk, codes, string_bytes};
 ghost use Rattle.std.specs.Io.{ReadsAtMost, WritesAtMost};
 ghost use Rattle.std.specs.Io.Buffered.{reader_buffer, reader_inner};
 ghost use Rattle.std.specs.Io.KnownBytes.{ReadConsumes, WriteAppends};
@@ -209,7 +209,7 @@ impl<'r, R: Net<Stream = TcpStream>> Connection<'r, R> {
 }
 
 impl<R: Net<Stream = TcpStream>> Stream for Connection<'_, R> {
-    ghost use Rattle.remote.specs.Flow.{unknown};
+    ghost use Rattle.remote.specs.Flow.{IsOpenedAnew, StaysClosed, unknown};
 
     ghost flow = { λ _. unknown };
 
@@ -222,7 +222,9 @@ impl<R: Net<Stream = TcpStream>> Stream for Connection<'_, R> {
         write_again(&mut stream, buf)
     }
 
-    fn is_open(&self) -> bool {
+    fn is_open(&self) -> bool
+        ensures quiet { IsTrue result → reader_buffer self.now.reader ≡ [] }
+    {
         is_quiet(&self.reader)
     }
 
@@ -230,7 +232,11 @@ impl<R: Net<Stream = TcpStream>> Stream for Connection<'_, R> {
         true
     }
 
-    fn renew(&mut self) -> io::Result<()> {
+    fn renew(&mut self) -> io::Result<()>
+        ensures opened { OnOk result (IsOpenedAnew unknown unknown) }
+        ensures err { OnErr result (StaysClosed unknown unknown) }
+        ensures empty { OnOk result (reader_buffer self.new.reader ≡ []) }
+    {
         let stream = connect(self.rt, self.address.as_str(), self.timeout)?;
         replace(&mut self.reader, stream);
         Ok(())

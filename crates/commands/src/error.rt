@@ -1,6 +1,6 @@
 ghost use Rattle.std.specs.Prelude.{◌≡◌};
 ghost use Rattle.commands.specs.Faults.{TellsOfEntry, OrMemory};
-ghost use Rattle.commands.specs.Status.{status_of};
+ghost use Rattle.commands.specs.Status.{exit_status};
 
 use crate::hint::Hint;
 use crate::process_fault::ProcessFault;
@@ -77,7 +77,7 @@ pub enum CommandError {
 impl CommandError {
     /// 2 where the command's words or the texts that they name are at fault, and else 3.
     pub fn status(&self) -> u8
-        ensures { result ≡ status_of self.now }
+        ensures { result ≡ exit_status self.now }
     {
         match self {
             CommandError::Words(_)

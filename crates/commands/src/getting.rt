@@ -6,7 +6,7 @@ ghost use Rattle.commands.specs.GetRefused.{FailsGetBlob, FailsGet};
 ghost use Rattle.commands.specs.Got.{BeginsBlob, IsBlobOver, NotesNoBlob, Writes};
 ghost use Rattle.commands.specs.Places.{IsFresh};
 ghost use Rattle.commands.specs.Printed.{GetsAsked, GetsPart};
-ghost use Rattle.commands.specs.Status.{status_of};
+ghost use Rattle.commands.specs.Status.{exit_status};
 ghost use Rattle.http_core.specs.declared.event.Area.TheVariants.{Cas};
 ghost use Rattle.remote.specs.Line.{Gets};
 ghost use Rattle.remote.specs.Remote.{connection_of};
@@ -36,7 +36,6 @@ fn has_digest(bytes: &[u8], digest: &Digest) -> bool
 }
 
 /// The bytes of the blob of the digest, where the server at the other end of the connection has it.
-/// Nothing is asked for the empty one.
 fn get_blob<S: Stream + Drop>(
     alloc: Global,
     server: &ServerOptions,
@@ -48,8 +47,10 @@ fn get_blob<S: Stream + Drop>(
         IsBlobOver (connection_of S.flow remote.old) digest.now bytes.items)) }
     ensures none { IfOk result (λ found. IfNone found (Gets (connection_of S.flow remote.old)
         (connection_of S.flow remote.new) Cas digest.now.hash None)) }
+    // Nothing is asked for the empty one, which is there.
     ensures some { IfOk result (λ found. IfNone found (digest.now ≢ empty_digest)) }
-    ensures status { IfErr result (λ e. status_of e ≡ 3) }
+    ensures sure { OnErr result (digest.now ≢ empty_digest) }
+    ensures status { IfErr result (λ e. exit_status e ≡ 3) }
     ensures fault { IfErr result (FailsGetBlob (connection_of S.flow remote.old)
         (string_bytes server.now.address) digest.now) }
 {
@@ -99,7 +100,7 @@ fn print_blob<S: Stream + Drop, O: Write>(
         (string_bytes server.now.address) digest.now (O.contents out.old) (O.contents out.new)) }
     ensures begun { OnErr result (BeginsBlob (connection_of S.flow remote) digest.now
         (O.contents out.old) (O.contents out.new)) }
-    ensures status { IfErr result (λ e. status_of e ≡ 3) }
+    ensures status { IfErr result (λ e. exit_status e ≡ 3) }
     ensures fault { IfErr result (FailsGetBlob (connection_of S.flow remote)
         (string_bytes server.now.address) digest.now) }
 {
@@ -125,7 +126,7 @@ pub fn run_get<W: World, O: Write>(
     ensures begun { OnErr result (GetsPart W.sees (rows_of (found_of matches.now))
         (O.contents out.old) (O.contents out.new)) }
     ensures unprinted { IfErr result
-        (λ fault. status_of fault ≡ 2 → O.contents out.new ≡ O.contents out.old) }
+        (λ fault. exit_status fault ≡ 2 → O.contents out.new ≡ O.contents out.old) }
     // It is for the first fault: what comes before it has none.
     ensures refused { IfErr result (FailsGet W.sees (rows_of (found_of matches.now))) }
 {

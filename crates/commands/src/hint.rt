@@ -1,5 +1,6 @@
-ghost use Rattle.std.specs.Prelude.{◌≡◌, Some};
+ghost use Rattle.std.specs.Prelude.{◌≡◌, IfSome, Some, false, true};
 ghost use Rattle.commands.specs.ErrorText.{hint_words};
+ghost use Rattle.commands.specs.Refusal.{GoesWith, is_of_step};
 
 use plan::{Fault, PlanError};
 
@@ -18,7 +19,9 @@ pub enum Hint {
 
 impl Hint {
     /// That of the line at fault in a text.
-    pub(crate) fn of(text: &[u8], error: &PlanError) -> Option<Hint> {
+    pub(crate) fn of(text: &[u8], error: &PlanError) -> Option<Hint>
+        ensures { IfSome result (GoesWith error.now.fault) }
+    {
         let before = error.line.saturating_sub(1) as usize;
         let mut lines = text.split(|byte| *byte == b'\n').skip(before);
         let line = lines.next()?;
@@ -59,7 +62,9 @@ pub(crate) fn hint_text(hint: &Option<Hint>) -> &'static str
 }
 
 /// That of a line without the form of a line of a plan or a record.
-fn hint_of_form(line: &[u8], is_last: bool) -> Option<Hint> {
+fn hint_of_form(line: &[u8], is_last: bool) -> Option<Hint>
+    ensures { IfSome result (λ hint. is_of_step hint ≡ false) }
+{
     match line.last() {
         Some(b'\r') => Some(Hint::CarriageReturn),
         Some(b' ' | b'\t') => Some(Hint::BlankAtEnd),
@@ -108,7 +113,9 @@ fn is_plain(byte: &u8) -> bool {
 }
 
 /// That of a line which reads a step of this name, where so many lines stand before it.
-fn hint_of_step(text: &[u8], before: usize, name: &[u8]) -> Hint {
+fn hint_of_step(text: &[u8], before: usize, name: &[u8]) -> Hint
+    ensures { is_of_step result ≡ true }
+{
     if has_step(text, before, name) {
         Hint::LaterStep
     } else if has_step(text, 0, name) {

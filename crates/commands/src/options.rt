@@ -2,7 +2,7 @@ ghost use Rattle.std.specs.Prelude.{◌↔◌, IfErr, IfOk, IsTrue, SomeIff};
 ghost use Rattle.clap.specs.Words.{found_of, rows_of};
 ghost use Rattle.command_lines.specs.CommandLine.{option_text};
 ghost use Rattle.commands.specs.Faults.{IsDigestFault, IsUnlikeWanted};
-ghost use Rattle.commands.specs.Options.{IsAddress, IsNumber, number_of};
+ghost use Rattle.commands.specs.Options.{IsAddress, IsNumber, decimal_number};
 ghost use Rattle.text_verifier.specs.Texts.{IsDigestText};
 
 use crate::error::CommandError;
@@ -35,7 +35,7 @@ pub fn read_digest(
 
 /// The number that a text of decimal digits alone spells, where it is less than 2^64.
 pub fn number_in(text: &str) -> Option<u64>
-    ensures { SomeIff result (IsNumber text.now) (number_of text.now) }
+    ensures { SomeIff result (IsNumber text.now) (decimal_number text.now) }
 {
     if text.as_bytes().starts_with(b"+") {
         return None;

@@ -1,7 +1,7 @@
 ghost use Rattle.std.specs.Prelude.{◌≡◌, IfErr, OnErr, OnOk};
 ghost use Rattle.std.specs.Io.KnownBytes.{Appends};
 ghost use Rattle.commands.specs.Refusal.{IsPrintFault};
-ghost use Rattle.commands.specs.Status.{status_of};
+ghost use Rattle.commands.specs.Status.{exit_status};
 ghost use Rattle.commands.specs.Told.{AppendsBeginning};
 
 use crate::error::CommandError;
@@ -14,7 +14,7 @@ pub fn print_all<O: Write>(out: &mut O, bytes: &[u8]) -> Result<(), CommandError
     ensures begun { OnErr result
         (AppendsBeginning (O.contents out.old) (O.contents out.new) bytes.now) }
     ensures fault { IfErr result IsPrintFault }
-    ensures status { IfErr result (λ e. status_of e ≡ 3) }
+    ensures status { IfErr result (λ e. exit_status e ≡ 3) }
 {
     write_bytes(out, bytes)?;
     out.flush().map_err(CommandError::Output)

@@ -9,9 +9,18 @@ use std::time::{Clock, Duration, Instant};
 /// How many milliseconds a line stands at least.
 const STANDS: u64 = 100;
 
-/// What hears of each file that was put.
+/// What counts the files that were put, and their bytes.
 pub(crate) trait Counter {
-    fn count(&mut self, bytes: usize);
+    ghost use Rattle.std.specs.Prelude.{ℕ};
+
+    ghost files: { Self → ℕ };
+
+    ghost size: { Self → ℕ };
+
+    /// Counts a file that was put.
+    fn count(&mut self, bytes: usize)
+        ensures files { files self.new ≡ min (files self.old + 1) 18446744073709551615 }
+        ensures bytes { size self.new ≡ min (size self.old + bytes) 18446744073709551615 };
 }
 
 /// How far a `put` is, told on a terminal in one line that is written over. Without a terminal
@@ -76,6 +85,10 @@ impl<R: AllocGlobal + Clock + Clone + Drop, T: Write + Drop> PutProgress<R, T> {
 }
 
 impl<R: AllocGlobal + Clock + Clone + Drop, T: Write + Drop> Counter for PutProgress<R, T> {
+    ghost files = { λ put. put.files };
+
+    ghost size = { λ put. put.bytes };
+
     /// Counts a file that was put. The line is written anew where the last one stands long enough.
     fn count(&mut self, bytes: usize)
         ensures files { self.new.files ≡ min (self.old.files + 1) 18446744073709551615 }

@@ -1,5 +1,5 @@
-ghost use Rattle.std.specs.Prelude.{◌≡◌, ◌⊎◌, ◌∷◌, ◌++◌, ℕ, suc, [], false, IfErr, IfOk};
-ghost use Rattle.std.specs.Prelude.{OnErr, OnOk, string_bytes};
+ghost use Rattle.std.specs.Prelude.{◌≡◌, ◌⊎◌, ◌+◌, ◌∷◌, ◌++◌, ℕ, suc, [], false, IfErr, IfOk};
+ghost use Rattle.std.specs.Prelude.{OnErr, OnOk, min, string_bytes};
 ghost use Rattle.std.specs.Io.KnownBytes.{Appends};
 ghost use Rattle.blob_digest.specs.Text.{digest_text};
 ghost use Rattle.clap.specs.Words.{found_of, rows_of};
@@ -10,7 +10,7 @@ ghost use Rattle.commands.specs.PutRefused.{FailsBelow, FailsHere, FailsPut, Has
 ghost use Rattle.commands.specs.PutRefused.{LinksToNoText};
 ghost use Rattle.commands.specs.Faults.{OrMemory};
 ghost use Rattle.commands.specs.Refusal.{IsPrintFault};
-ghost use Rattle.commands.specs.Status.{status_of};
+ghost use Rattle.commands.specs.Status.{exit_status};
 ghost use Rattle.commands.specs.Told.{AppendsBeginning};
 ghost use Rattle.messages.specs.declared.node.Node.TheVariants as nodes;
 ghost use Rattle.remote.specs.Remote.{connection_of};
@@ -73,6 +73,9 @@ fn put_file<W: World, K: Origin, P: Counter>(
         → IsPutAt W.sees K.start (suc left) place.now (nodes.File digest false)) }
     ensures refused { IfErr result
         (FailsHere W.sees K.start (string_bytes server.now.address) place.now) }
+    ensures counted { OnOk result
+        (P.files progress.new ≡ min (P.files progress.old + 1) 18446744073709551615) }
+    ensures uncounted { OnErr result (progress.new ≡ progress.old) }
 {
     let bytes = world.read(alloc, place)?;
     let digest = client.put(alloc, server, &bytes)?;
@@ -211,7 +214,7 @@ where
     ensures begun { OnErr result (BeginsDigest W.sees (rows_of (found_of matches.now))
         (O.contents out.old) (O.contents out.new)) }
     ensures unprinted { IfErr result
-        (λ fault. status_of fault ≡ 2 → O.contents out.new ≡ O.contents out.old) }
+        (λ fault. exit_status fault ≡ 2 → O.contents out.new ≡ O.contents out.old) }
     // It is for the first fault: what comes before it has none.
     ensures refused { IfErr result (FailsPut W.sees (rows_of (found_of matches.now))) }
 {

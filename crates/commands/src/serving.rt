@@ -3,15 +3,15 @@ ghost use Rattle.std.specs.Prelude.{codes};
 ghost use Rattle.std.specs.Io.KnownBytes.{Appends};
 ghost use Rattle.clap.specs.Words.{found_of, rows_of};
 ghost use Rattle.command_lines.specs.CommandLine.{option_text};
-ghost use Rattle.commands.specs.Options.{IsNumber, number_of, number_or};
+ghost use Rattle.commands.specs.Options.{IsNumber, decimal_number, number_or};
 ghost use Rattle.commands.specs.Printed.{BeginsListening, IsAsked, ServesAsked, listening_line};
 ghost use Rattle.commands.specs.Faults.{OrMemory};
 ghost use Rattle.commands.specs.Refusal.{IsPrintFault};
-ghost use Rattle.commands.specs.ServeRefused.{FailsServe, FailsToListen, is_at_once, is_idle};
-ghost use Rattle.commands.specs.ServeRefused.{listens_at, serve_words};
-ghost use Rattle.commands.specs.Status.{status_of};
+ghost use Rattle.commands.specs.ServeRefused.{FailsServe, FailsToListen};
+ghost use Rattle.commands.specs.Status.{exit_status};
 ghost use Rattle.commands.specs.Told.{AppendsBeginning};
-ghost use Rattle.commands.specs.Words.{IsCheckedBy, has_number_up_to};
+ghost use Rattle.commands.specs.Words.{IsCheckedBy, has_number_up_to, is_at_once, is_idle};
+ghost use Rattle.commands.specs.Words.{listens_at, serve_words};
 
 use crate::connecting::read_prefix;
 use crate::error::CommandError;
@@ -59,7 +59,7 @@ fn read_number(
     ensures few { IfOk result (λ number. number ≤ greatest) }
     ensures number { IfOk result (λ number.
         IsNumber (option_text (rows_of (found_of matches.now)) option.now)
-        × (number ≡ number_of (option_text (rows_of (found_of matches.now)) option.now))) }
+        × (number ≡ decimal_number (option_text (rows_of (found_of matches.now)) option.now))) }
     ensures checked { IsCheckedBy
         (has_number_up_to (rows_of (found_of matches.now)) option.now greatest ∷ []) result }
 {
@@ -191,7 +191,7 @@ pub fn run_serve<R: AllocGlobal + RandomSource, W: World, O: Write>(
     // A refusal leaves no byte that isn't of the address's line.
     ensures begun { OnErr result (BeginsListening W.sees (rows_of (found_of matches.now))
         (O.contents out.old) (O.contents out.new)) }
-    ensures unprinted { IfErr result (λ fault. status_of fault ≡ 2
+    ensures unprinted { IfErr result (λ fault. exit_status fault ≡ 2
         → O.contents out.new ≡ O.contents out.old) }
     // It is for the first fault: what comes before it has none.
     ensures refused { IfErr result (FailsServe W.sees (rows_of (found_of matches.now))) }

@@ -1,4 +1,5 @@
 ghost use Rattle.std.specs.Prelude.{◌≡◌, IfSome, IsTrue, string_bytes};
+ghost use Rattle.commands.specs.Faults.{OrMemory};
 ghost use Rattle.commands.specs.Places.{FailsInFolder, IsInFolder, LacksInFolder};
 ghost use Rattle.remote.specs.Folder.{IsFreshFolder, place_of};
 
@@ -67,7 +68,7 @@ impl<'w, W: World, K: Place> Shelf<'w, W, K> {
 
     /// The error of a look-up that failed.
     pub(crate) fn into_error(self) -> CommandError
-        ensures { ∥ FailsInFolder W.sees K.place result ∥₁ }
+        ensures { OrMemory (λ e. ∥ FailsInFolder W.sees K.place e ∥₁) result }
     {
         match self.store.into_error() {
             Some(error) => CommandError::from(error),

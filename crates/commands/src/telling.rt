@@ -3,7 +3,7 @@ ghost use Rattle.std.specs.Prelude.{string_bytes};
 ghost use Rattle.std.specs.Io.KnownBytes.{Appends};
 ghost use Rattle.commands.specs.ErrorText.{IsErrorText};
 ghost use Rattle.commands.specs.Refusal.{IsPrintFault};
-ghost use Rattle.commands.specs.Status.{status_of};
+ghost use Rattle.commands.specs.Status.{exit_status};
 ghost use Rattle.commands.specs.Told.{AppendsPart, IsNoStoreText, IsNoteText, TellsNote, TellsOf};
 ghost use Rattle.commands.specs.Told.{in_one_line, line_after, no_blob_text};
 
@@ -17,7 +17,7 @@ use std::io::{ErrorKind, Write};
 pub(crate) fn write_bytes<O: Write>(out: &mut O, bytes: &[u8]) -> Result<(), CommandError>
     ensures written { OnOk result (Appends (O.contents out.old) (O.contents out.new) bytes.now) }
     ensures part { OnErr result (AppendsPart (O.contents out.old) (O.contents out.new) bytes.now) }
-    ensures fault { IfErr result (λ e. status_of e ≡ 3) }
+    ensures fault { IfErr result (λ e. exit_status e ≡ 3) }
     ensures output { IfErr result IsPrintFault }
 {
     let mut rest = bytes;

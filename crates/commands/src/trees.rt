@@ -3,7 +3,7 @@ ghost use Rattle.std.specs.Io.KnownBytes.{Appends};
 ghost use Rattle.commands.specs.GetRefused.{FailsGetTree, TellsCheckout};
 ghost use Rattle.commands.specs.Places.{IsFresh};
 ghost use Rattle.commands.specs.Refusal.{IsPrintFault};
-ghost use Rattle.commands.specs.Status.{status_of};
+ghost use Rattle.commands.specs.Status.{exit_status};
 ghost use Rattle.commands.specs.Told.{AppendsBeginning};
 ghost use Rattle.commands.specs.Trees.{BeginsLack, IsTreeGot, PrintsLack, missing_line};
 ghost use Rattle.remote.specs.Remote.{connection_of};
@@ -38,7 +38,7 @@ fn print_missing<O: Write>(alloc: Global, digest: &Digest, out: &mut O) -> Resul
     ensures begun { OnErr result ((O.contents out.new ≡ O.contents out.old)
         ⊎ AppendsBeginning (O.contents out.old) (O.contents out.new) (missing_line digest.now)) }
     ensures fault { IfErr result (λ e. (e ≡ CommandError.Memory) ⊎ IsPrintFault e) }
-    ensures status { IfErr result (λ e. status_of e ≡ 3) }
+    ensures status { IfErr result (λ e. exit_status e ≡ 3) }
 {
     let line = missing_line(alloc, digest)?;
     print_all(out, line.as_bytes())
@@ -59,7 +59,7 @@ fn print_lack<S: Stream + Drop, K: Origin, O: Write>(
         ⊎ PrintsLack K.start error (AppendsBeginning (O.contents out.old) (O.contents out.new))) }
     ensures fault { IfErr result (λ e. (e ≡ CommandError.Memory)
         ⊎ TellsCheckout K.start (string_bytes server.now.address) error e) }
-    ensures status { IfErr result (λ e. status_of e ≡ 3) }
+    ensures status { IfErr result (λ e. exit_status e ≡ 3) }
 {
     match error {
         CheckoutError::Missing(lacked) => {
@@ -102,7 +102,7 @@ fn get_over<W: World, S: Stream + Drop, K: Origin, O: Write>(
         (O.contents out.old) (O.contents out.new)) }
     ensures fault { IfErr result (FailsGetTree W.sees K.start (string_bytes server.now.address)
         digest.now (string_bytes folder)) }
-    ensures status { IfErr result (λ e. status_of e ≡ 3) }
+    ensures status { IfErr result (λ e. exit_status e ≡ 3) }
 {
     let mut client: Client<S, K> = Client::new(remote);
     match world.check_out(alloc, folder.as_str(), digest, &mut client) {
@@ -132,7 +132,7 @@ pub(crate) fn get_tree<W: World, O: Write>(
         folder.now (O.contents out.old) (O.contents out.new)) }
     ensures fault { IfErr result (FailsGetTree W.sees (connection_of W.Link.flow remote)
         (string_bytes server.now.address) digest.now folder.now) }
-    ensures status { IfErr result (λ e. status_of e ≡ 3) }
+    ensures status { IfErr result (λ e. exit_status e ≡ 3) }
 {
     let folder = String::from_str(alloc, folder)?;
     get_over::<W, W::Link, Brand, O>(alloc, world, server, remote, digest, folder, out)

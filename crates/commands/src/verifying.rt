@@ -4,6 +4,7 @@ ghost use Rattle.std.specs.Io.KnownBytes.{Appends};
 ghost use Rattle.clap.specs.Words.{found_of, first_of, rows_of};
 ghost use Rattle.command_lines.specs.CommandLine.{option_text};
 ghost use Rattle.commands.specs.Ended.{is_done};
+ghost use Rattle.commands.specs.Faults.{OrMemory};
 ghost use Rattle.commands.specs.Places.{FailsInFolder, FailsOver, IsFresh, IsOfFolder};
 ghost use Rattle.commands.specs.Places.{IsOfServer, IsAnsweredBy, IsToldOver, LacksAtServer};
 ghost use Rattle.commands.specs.Places.{LacksInFolder, LacksIt};
@@ -11,7 +12,7 @@ ghost use Rattle.commands.specs.Printed.{AsksQuestion, BeginsVerdict, IsNamedPla
 ghost use Rattle.commands.specs.Printed.{LacksAtPlace, LacksFolder, NotesStore, PrintsVerdict};
 ghost use Rattle.commands.specs.Refusal.{FailsDigests, FailsAtPlace, FailsPlan, FailsRecord};
 ghost use Rattle.commands.specs.Refusal.{FailsServer, FailsVerify, HasPlanRead, IsPrintFault};
-ghost use Rattle.commands.specs.Status.{status_of};
+ghost use Rattle.commands.specs.Status.{exit_status};
 ghost use Rattle.commands.specs.Told.{AppendsBeginning, PrintsNoLine};
 ghost use Rattle.commands.specs.Words.{IsCheckedBy, IsSaid, IsToldInWords, goes_with_server};
 ghost use Rattle.commands.specs.Words.{place_words};
@@ -184,7 +185,7 @@ fn judge_folder<W: World, K: Place>(
     requires { K.place ≡ string_bytes folder }
     ensures answered { IfOk result
         (IsAnsweredBy (IsOfFolder W.sees K.place) (LacksInFolder W.sees K.place) case.now) }
-    ensures fault { IfErr result (λ e. ∥ FailsInFolder W.sees K.place e ∥₁) }
+    ensures fault { IfErr result (OrMemory (λ e. ∥ FailsInFolder W.sees K.place e ∥₁)) }
 {
     let files = FilesOf(world);
     let mut shelf: Shelf<'_, W, K> = Shelf::new(alloc, &files, folder);
@@ -209,7 +210,7 @@ fn confirm_lack<S: Stream + Drop, K: Origin>(
 ) -> Result<(), CommandError>
     ensures lacked { OnOk result (IfSome lack.now (λ lack. ∥ LacksIt K.start lack ∥₁)) }
     ensures fault { IfErr result
-        (λ e. ∥ FailsOver K.start (string_bytes server.now.address) e ∥₁) }
+        (OrMemory (λ e. ∥ FailsOver K.start (string_bytes server.now.address) e ∥₁)) }
 {
     match lack {
         Some(lack) => client.confirm(alloc, server, lack),
@@ -229,7 +230,7 @@ fn judge_over<S: Stream + Drop, K: Origin>(
     ensures answered { IfOk result
         (IsAnsweredBy (IsToldOver K.start) (LacksIt K.start) case.now) }
     ensures fault { IfErr result
-        (λ e. ∥ FailsOver K.start (string_bytes server.now.address) e ∥₁) }
+        (OrMemory (λ e. ∥ FailsOver K.start (string_bytes server.now.address) e ∥₁)) }
 {
     let mut client: Client<S, K> = Client::new(remote);
     match answer_question(alloc, case, &mut client) {
@@ -253,8 +254,8 @@ fn judge_server<W: World>(
     ensures answered { IfOk result (IsAnsweredBy
         (IsOfServer W.sees (string_bytes server.now.address) server.now.prefix)
         (LacksAtServer W.sees (string_bytes server.now.address) server.now.prefix) case.now) }
-    ensures fault { IfErr result (λ e. ∥ FailsServer W.sees (string_bytes server.now.address)
-        server.now.prefix e ∥₁) }
+    ensures fault { IfErr result (OrMemory (λ e. ∥ FailsServer W.sees
+        (string_bytes server.now.address) server.now.prefix e ∥₁)) }
 {
     let remote = open(alloc, world, server)?;
     judge_over::<W::Link, Brand>(alloc, server, remote, case)
@@ -273,7 +274,7 @@ fn judge<W: World>(
         (IsAnsweredBy (IsOfPlace W.sees (rows_of (found_of matches.now)))
         (LacksAtPlace W.sees (rows_of (found_of matches.now))) case.now) }
     ensures fault { IfErr result
-        (λ e. ∥ FailsAtPlace W.sees (rows_of (found_of matches.now)) e ∥₁) }
+        (OrMemory (λ e. ∥ FailsAtPlace W.sees (rows_of (found_of matches.now)) e ∥₁)) }
 {
     match build {
         Build::Folder(folder) => judge_folder::<W, Brand>(alloc, world, folder, case),
@@ -350,7 +351,7 @@ pub fn run_verify<W: World, O: Write>(
         × (IsTrue (is_done ended) ↔ IsYes prints.verdict)) }
     ensures noted { IfOk result (NotesStore W.sees (rows_of (found_of matches.now))) }
     ensures unprinted { IfErr result
-        (λ fault. status_of fault ≡ 2 → O.contents out.new ≡ O.contents out.old) }
+        (λ fault. exit_status fault ≡ 2 → O.contents out.new ≡ O.contents out.old) }
     // A refusal leaves no byte that isn't of that line, and no newline.
     ensures begun { OnErr result (BeginsVerdict W.sees (rows_of (found_of matches.now))
         (O.contents out.old) (O.contents out.new)) }

@@ -149,8 +149,7 @@ where
 
     ghost sees = { sees_nothing };
 
-    fn read(&self, alloc: Global, path: &str) -> Result<Vec<u8>, FileError<Global>> {
-        let _alloc = alloc;
+    fn read(&self, _alloc: Global, path: &str) -> Result<Vec<u8>, FileError<Global>> {
         read_file(self.0, path)
     }
 

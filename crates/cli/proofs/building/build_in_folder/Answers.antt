@@ -2,7 +2,7 @@ use Rattle.std.proofs.Common.{inl, inr, string_bytes}
 use Rattle.std.proofs.Math.Logic.{∥∥₁_map}
 use Rattle.remote.specs.Remote.{connection_of}
 use Rattle.commands.specs.Places.{IsToldOver}
-use Rattle.cli.proofs.Builds.{putting_fails, stops_of, told_as}
+use Rattle.cli.proofs.Builds.{over_fails, stops_of, told_as}
 use Rattle.commands.proofs.Exits.{exit_by}
 use Rattle.cli.specs.Refused.{FailsTelling}
 use Rattle.cli.proofs.building.build_in_folder.Goals as goal
@@ -21,7 +21,12 @@ returns-in_err-put_root-in-Ok-clause-fault g c =
     let asked = c.args.asked.now in
     let address = string_bytes asked.server.address in
     exit_by (FailsTelling g.K.Origin.start address asked.jobs asked.plan asked.sources) _ c.from_residual.ensures.1
-    (putting_fails g.K.Origin.start address asked.jobs asked.plan asked.sources _ c.in_err-put_root-in-Ok.ensures.fault)
+    (over_fails g.K.Origin.start address asked.jobs asked.plan asked.sources _ c.in_err-put_root-in-Ok.ensures.fault)
+
+pub returns-in_ok-error-in-Err-Fetch-clause-fault : goal.returns-in_ok-error-in-Err-Fetch-clause-fault
+returns-in_ok-error-in-Err-Fetch-clause-fault g c =
+    let asked = c.args.asked.now in
+    over_fails g.K.Origin.start (string_bytes asked.server.address) asked.jobs asked.plan asked.sources _ c.in_ok-error-in-Err-Fetch.ensures.over
 
 pub returns-in-Some-clause-fault : goal.returns-in-Some-clause-fault
 returns-in-Some-clause-fault g c =

@@ -1,7 +1,7 @@
-use Rattle.std.proofs.Common.{[], ◌≡◌, ◌≢◌, ◌∙◌, Some, Ok, Option, Result, ℕ, inr, subst, sym, string_bytes}
+use Rattle.std.proofs.Common.{rules, [], ◌≡◌, ◌≢◌, ◌∙◌, Some, Ok, Option, Result, ℕ, inr, subst, sym, string_bytes}
 use Rattle.std.specs.declared.alloc.Global.{Global}
 use Rattle.std.specs.declared.vec.Vec.{Vec}
-use Rattle.blob_digest.specs.Digest.{digest_of}
+use Rattle.blob_digest.specs.Digest.{digest_of, empty_digest}
 use Rattle.blob_source.specs.declared.source.FetchError.{FetchError}
 use Rattle.http_core.specs.declared.event.Area.TheVariants.{Cas}
 use Rattle.remote.specs.Remote.{blobs_of, connection_of}
@@ -39,7 +39,8 @@ returns-in_ok-write_text-in-Ok-Some-clause-fault g c =
     let yes = c.has_digest.ensures.1 (subst (λ b. digest_of b ≡ digest) (sym c.deref.ensures.value) same) in
     let no = c.if-has_digest.false in
     cc (yes, no) in
-    in_bytes (record {
+    let some : digest ≢ empty_digest = search rules in
+    in_bytes some (record {
       bytes = c.in-Ok-Some.bytes.items;
       came = got_bytes Cas digest (connection_of flow old) (connection_of flow new) (blobs_of old) (blobs_of new) c.fetch.result c.in-Ok-Some.bytes
           c.fetch.ensures.asked (c.requires.blobs digest) is;
@@ -55,6 +56,7 @@ returns-in_ok-server_error-in-Err-clause-fault g c =
     let address = string_bytes c.args.server.now.address in
     let digest = c.args.digest.now in
     let e = c.in_ok-server_error-in-Err.field-0 in
-    or_memory (RefusesAt start address GetBlob digest []) (FailsGetBlob start address digest) e in_memory in_reply
+    let some : digest ≢ empty_digest = search rules in
+    or_memory (RefusesAt start address GetBlob digest []) (FailsGetBlob start address digest) e (in_memory some) (in_reply some)
     (refused_at start start (connection_of flow new) address GetBlob digest [] c.last_fault-fault.result c.in-Err.refusal e fresh c.in-Err.ensures.asked.refused
     (sym c.last_fault-fault.ensures) c.in_ok-server_error-in-Err.ensures.error)

@@ -1,10 +1,26 @@
-use Rattle.std.proofs.Common.{rules, ◌≡◌, None, Some, string_bytes}
+use Rattle.std.proofs.Common.{rules, ◌≡◌, None, Some, string_bytes, subst}
 use Rattle.std.specs.Prelude.{codes}
 use Rattle.clap.specs.Words.{first_of, found_of, rows_of}
+use Rattle.command_lines.specs.CommandLine.{option_text}
+use Rattle.commands.specs.Faults.{OrMemory}
+use Rattle.commands.specs.GetRefused.{FailsGet}
+use Rattle.commands.specs.GetRefused.FailsGet.{in_memory, in_server}
+use Rattle.commands.specs.Places.{FailsToConnect}
 use Rattle.commands.specs.Printed.{StartsGet}
 use Rattle.remote.specs.Remote.{connection_of}
+use Rattle.commands.proofs.Exits.{exit_by}
 use Rattle.commands.proofs.Gotten.{asked_by, begun_by, refused_by, starts_get}
+use Rattle.commands.proofs.Refused.{or_memory}
 use Rattle.commands.proofs.getting.run_get.Goals as goal
+
+pub returns-in_err-remote-clause-refused : goal.returns-in_err-remote-clause-refused
+returns-in_err-remote-clause-refused g c =
+    let sees = g.W.World.sees in
+    let rows = rows_of (found_of c.args.matches.now) in
+    exit_by (FailsGet sees rows) _ c.from_residual-in_err-remote.ensures.1
+    (or_memory (FailsToConnect sees (option_text rows (codes "server"))) (FailsGet sees rows) _ in_memory
+    (in_server c.in_ok-server.ensures.checked (c.in_ok-digest.digest, c.in_ok-digest.ensures.found))
+    (subst (λ a. OrMemory (FailsToConnect sees a) c.in_err-remote.field-0.0) c.in_ok-server.ensures.server.address c.in_err-remote.ensures.fault))
 
 pub returns-in-Some-clause-answered : goal.returns-in-Some-clause-answered
 returns-in-Some-clause-answered g c =

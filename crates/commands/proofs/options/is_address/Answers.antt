@@ -1,6 +1,6 @@
 use Rattle.std.proofs.Common.{◌<◌, length, rules}
 use Rattle.commands.proofs.Addresses.{AreAddress, address_of_parts, no_address, parts_of_address}
-use Rattle.commands.specs.Options.{IsNumber, number_of}
+use Rattle.commands.specs.Options.{IsNumber, decimal_number}
 use Rattle.commands.proofs.options.is_address.Goals as goal
 
 pub returns-in_default : goal.returns-in_default
@@ -15,7 +15,7 @@ returns-then-not-is_empty c =
     let some : 0 < length host = search rules in
     let number : IsNumber port = search rules in (
       (λ less.
-          let few : number_of port < 65536 = search rules in
+          let few : decimal_number port < 65536 = search rules in
           address_of_parts text host port cut (some, number, few)),
       λ is.
           let are : AreAddress host port = parts_of_address text host port cut is in

@@ -2,15 +2,16 @@ use Rattle.std.proofs.Common.{◌≡◌, ◌∙◌, codes, refl, rules, string_b
 use Rattle.clap.specs.Words.{found_of, rows_of}
 use Rattle.command_lines.specs.CommandLine.{option_text}
 use Rattle.remote.specs.Remote.{connection_of}
+use Rattle.commands.specs.Faults.{OrMemory}
 use Rattle.commands.specs.Places.{FailsToConnect}
 use Rattle.commands.specs.Put.{PutsPath}
 use Rattle.commands.specs.PutRefused.{FailsBelow, FailsPut}
 use Rattle.commands.specs.PutRefused.FailsPut.{in_connection, in_memory, in_output, in_path, in_words}
 use Rattle.commands.specs.Refusal.{IsPrintFault}
-use Rattle.commands.specs.Status.{status_of}
+use Rattle.commands.specs.Status.{exit_status}
 use Rattle.commands.specs.Words.{FailsFirst, server_words}
 use Rattle.commands.proofs.Exits.{exit_by, or_else}
-use Rattle.commands.proofs.Placed.{opened_to}
+use Rattle.commands.proofs.Placed.{starts_put}
 use Rattle.commands.proofs.Refused.{not_words, or_memory}
 use Rattle.commands.proofs.Writing.{where_err}
 use Rattle.commands.proofs.putting.run_put.Goals as goal
@@ -31,8 +32,8 @@ returns-in_err-remote-clause-refused g c =
     let sees = g.W.World.sees in
     let options = rows_of (found_of c.args.matches.now) in
     exit_by (FailsPut sees options) _ c.from_residual-in_err-remote.ensures.1
-    (in_connection c.in_ok-server.ensures.checked
-    (subst (λ a. FailsToConnect sees a c.in_err-remote.field-0.0) c.in_ok-server.ensures.server.address c.in_err-remote.ensures.fault))
+    (or_memory (FailsToConnect sees (option_text options (codes "server"))) (FailsPut sees options) _ in_memory (in_connection c.in_ok-server.ensures.checked)
+    (subst (λ a. OrMemory (FailsToConnect sees a) c.in_err-remote.field-0.0) c.in_ok-server.ensures.server.address c.in_err-remote.ensures.fault))
 
 pub returns-in_err-progress-clause-refused : goal.returns-in_err-progress-clause-refused
 returns-in_err-progress-clause-refused g c =
@@ -44,10 +45,7 @@ returns-in_err-digest-clause-refused g c =
     let options = rows_of (found_of c.args.matches.now) in
     let start = connection_of g.W.Link.Stream.flow c.in_ok-remote.remote in
     exit_by (FailsPut sees options) _ c.from_residual-in_err-digest.ensures.1
-    (in_path start (record {
-      valid = c.in_ok-server.ensures.checked;
-      opened = opened_to sees options c.in_ok-server.server start c.in_ok-server.ensures.server c.in_ok-remote.ensures.opened;
-    })
+    (in_path start (starts_put sees options c.in_ok-server.server start c.in_ok-server.ensures.server c.in_ok-remote.ensures.opened c.in_ok-server.ensures.checked)
     (subst (λ a. FailsBelow sees start a c.in_err-digest.field-0.0 64 (option_text options (codes "path"))) c.in_ok-server.ensures.server.address
     (subst (FailsBelow sees start (string_bytes c.in_ok-server.server.address) c.in_err-digest.field-0.0 64) (c.in_ok-place.ensures.ok ∙ c.text_of.ensures) c.in_err-digest.ensures.refused)))
 
@@ -58,10 +56,7 @@ returns-in_err-print_digest-clause-refused g c =
     let start = connection_of g.W.Link.Stream.flow c.in_ok-remote.remote in
     exit_by (FailsPut sees options) _ c.from_residual-in_err-print_digest.ensures.1
     (or_memory IsPrintFault (FailsPut sees options) _ in_memory
-    (in_output start c.in_ok-digest.digest (record {
-      valid = c.in_ok-server.ensures.checked;
-      opened = opened_to sees options c.in_ok-server.server start c.in_ok-server.ensures.server c.in_ok-remote.ensures.opened;
-    })
+    (in_output start c.in_ok-digest.digest (starts_put sees options c.in_ok-server.server start c.in_ok-server.ensures.server c.in_ok-remote.ensures.opened c.in_ok-server.ensures.checked)
     (subst (λ p. PutsPath sees start p c.in_ok-digest.digest) (c.in_ok-place.ensures.ok ∙ c.text_of.ensures) c.in_ok-digest.ensures.put))
     c.in_err-print_digest.ensures.fault)
 
@@ -73,14 +68,14 @@ returns-in_err-print_digest-clause-begun g c =
     where_err c.from_residual-in_err-print_digest.result (or_else c.in_err-print_digest.ensures.begun (λ begun. (
       start,
       c.in_ok-digest.digest,
-      opened_to sees options c.in_ok-server.server start c.in_ok-server.ensures.server c.in_ok-remote.ensures.opened,
+      starts_put sees options c.in_ok-server.server start c.in_ok-server.ensures.server c.in_ok-remote.ensures.opened c.in_ok-server.ensures.checked,
       subst (λ p. PutsPath sees start p c.in_ok-digest.digest) (c.in_ok-place.ensures.ok ∙ c.text_of.ensures) c.in_ok-digest.ensures.put,
       begun,
     )))
 
 pub returns-in_err-print_digest-clause-unprinted : goal.returns-in_err-print_digest-clause-unprinted
 returns-in_err-print_digest-clause-unprinted g c =
-    exit_by (λ e. status_of e ≡ 2 → g.O.Write.contents c.print_digest.new.out ≡ g.O.Write.contents c.args.out.now) _ c.from_residual-in_err-print_digest.ensures.1
+    exit_by (λ e. exit_status e ≡ 2 → g.O.Write.contents c.print_digest.new.out ≡ g.O.Write.contents c.args.out.now) _ c.from_residual-in_err-print_digest.ensures.1
     (λ status. absurd (not_words _ c.in_err-print_digest.ensures.fault status))
 
 pub returns-clause-printed : goal.returns-clause-printed
@@ -89,7 +84,7 @@ returns-clause-printed g c =
     let start = connection_of g.W.Link.Stream.flow c.in_ok-remote.remote in
     record {
       start = start;
-      opened = opened_to sees (rows_of (found_of c.args.matches.now)) c.in_ok-server.server start c.in_ok-server.ensures.server c.in_ok-remote.ensures.opened;
+      starts = starts_put sees (rows_of (found_of c.args.matches.now)) c.in_ok-server.server start c.in_ok-server.ensures.server c.in_ok-remote.ensures.opened c.in_ok-server.ensures.checked;
       digest = c.in_ok-digest.digest;
       put = subst (λ p. PutsPath sees start p c.in_ok-digest.digest) (c.in_ok-place.ensures.ok ∙ c.text_of.ensures) c.in_ok-digest.ensures.put;
       printed = search rules;

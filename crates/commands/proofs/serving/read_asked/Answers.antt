@@ -1,7 +1,6 @@
 use Rattle.std.proofs.Common.{[], ◌∷◌, ◌++◌, codes}
 use Rattle.clap.specs.Words.{found_of, rows_of}
-use Rattle.commands.specs.ServeRefused.{is_at_once, is_idle, listens_at}
-use Rattle.commands.specs.Words.{has_prefix, has_number_up_to}
+use Rattle.commands.specs.Words.{has_prefix, has_number_up_to, is_at_once, is_idle, listens_at}
 use Rattle.commands.proofs.Checking.{checks_exit}
 use Rattle.commands.proofs.serving.read_asked.Goals as goal
 

@@ -1,14 +1,14 @@
-use Rattle.std.proofs.Common.{◌≡◌, codes, inr, refl, rules, subst}
+use Rattle.std.proofs.Common.{◌≡◌, codes, inr, refl, rules}
 use Rattle.clap.specs.Words.{found_of, rows_of}
 use Rattle.command_lines.specs.CommandLine.{option_text}
 use Rattle.commands.specs.Refusal.{IsPrintFault}
-use Rattle.commands.specs.ServeRefused.{FailsServe, FailsToListen, serve_words}
+use Rattle.commands.specs.ServeRefused.{FailsServe, FailsToListen}
 use Rattle.commands.specs.ServeRefused.FailsServe.{in_address, in_connections, in_memory, in_output, in_words}
-use Rattle.commands.specs.Status.{status_of}
-use Rattle.commands.specs.Words.{FailsFirst}
+use Rattle.commands.specs.Status.{exit_status}
+use Rattle.commands.specs.Words.{FailsFirst, serve_words}
 use Rattle.commands.specs.Printed.{listening_line}
 use Rattle.commands.proofs.Exits.{exit_by, or_else}
-use Rattle.commands.proofs.Refused.{not_words, or_memory}
+use Rattle.commands.proofs.Refused.{not_words, or_memory, starts_serve}
 use Rattle.commands.proofs.Writing.{beginning_of_all, where_err}
 use Rattle.commands.proofs.serving.run_serve.Goals as goal
 
@@ -39,19 +39,19 @@ returns-in_err-print_address-clause-refused g c =
     let address = c.in_ok-listening.listening.address in
     exit_by (FailsServe sees options) _ c.from_residual-in_err-print_address.ensures.1
     (or_memory IsPrintFault (FailsServe sees options) _ in_memory
-    (in_output address c.in_ok-asked.ensures.checked (subst (λ a. sees.listens a address) c.in_ok-asked.ensures.asked.address c.in_ok-listening.ensures.listens))
+    (in_output address (starts_serve sees options c.in_ok-asked.asked address c.in_ok-asked.ensures.asked c.in_ok-asked.ensures.checked c.in_ok-listening.ensures.listens))
     c.in_err-print_address.ensures.fault)
 
 pub returns-in_err-print_address-clause-unprinted : goal.returns-in_err-print_address-clause-unprinted
 returns-in_err-print_address-clause-unprinted g c =
-    exit_by (λ e. status_of e ≡ 2 → g.O.Write.contents c.print_address.new.out ≡ g.O.Write.contents c.args.out.now) _ c.from_residual-in_err-print_address.ensures.1
+    exit_by (λ e. exit_status e ≡ 2 → g.O.Write.contents c.print_address.new.out ≡ g.O.Write.contents c.args.out.now) _ c.from_residual-in_err-print_address.ensures.1
     (λ status. absurd (not_words _ c.in_err-print_address.ensures.fault status))
 
 pub returns-in-Err-clause-refused : goal.returns-in-Err-clause-refused
 returns-in-Err-clause-refused g c =
-    let sees = g.W.World.sees in
     let address = c.in_ok-listening.listening.address in
-    in_connections address c.in-Err.fault c.in_ok-asked.ensures.checked (subst (λ a. sees.listens a address) c.in_ok-asked.ensures.asked.address c.in_ok-listening.ensures.listens)
+    in_connections address c.in-Err.fault
+    (starts_serve g.W.World.sees (rows_of (found_of c.args.matches.now)) c.in_ok-asked.asked address c.in_ok-asked.ensures.asked c.in_ok-asked.ensures.checked c.in_ok-listening.ensures.listens)
     (search rules) refl
 
 pub returns-in_err-print_address-clause-begun : goal.returns-in_err-print_address-clause-begun
@@ -59,9 +59,19 @@ returns-in_err-print_address-clause-begun g c =
     let address = c.in_ok-listening.listening.address in
     where_err c.from_residual-in_err-print_address.result (or_else c.in_err-print_address.ensures.begun (λ begun. (
       address,
-      subst (λ a. g.W.World.sees.listens a address) c.in_ok-asked.ensures.asked.address c.in_ok-listening.ensures.listens,
+      starts_serve g.W.World.sees (rows_of (found_of c.args.matches.now)) c.in_ok-asked.asked address c.in_ok-asked.ensures.asked c.in_ok-asked.ensures.checked c.in_ok-listening.ensures.listens,
       begun,
     )))
+
+pub returns-in-Ok-clause-served : goal.returns-in-Ok-clause-served
+returns-in-Ok-clause-served g c =
+    let address = c.in_ok-listening.listening.address in
+    record {
+      address = address;
+      starts = starts_serve g.W.World.sees (rows_of (found_of c.args.matches.now)) c.in_ok-asked.asked address c.in_ok-asked.ensures.asked c.in_ok-asked.ensures.checked c.in_ok-listening.ensures.listens;
+      printed = c.in_ok-print_address.ensures.printed;
+      served = search rules;
+    }
 
 -- the whole line was printed
 pub returns-in-Err-clause-begun : goal.returns-in-Err-clause-begun
@@ -69,6 +79,6 @@ returns-in-Err-clause-begun g c =
     let address = c.in_ok-listening.listening.address in
     inr (
       address,
-      subst (λ a. g.W.World.sees.listens a address) c.in_ok-asked.ensures.asked.address c.in_ok-listening.ensures.listens,
+      starts_serve g.W.World.sees (rows_of (found_of c.args.matches.now)) c.in_ok-asked.asked address c.in_ok-asked.ensures.asked c.in_ok-asked.ensures.checked c.in_ok-listening.ensures.listens,
       beginning_of_all (g.O.Write.contents c.args.out.now) (g.O.Write.contents c.print_address.new.out) (listening_line address) c.in_ok-print_address.ensures.printed,
     )

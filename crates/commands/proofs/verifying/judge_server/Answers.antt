@@ -1,11 +1,22 @@
-use Rattle.std.proofs.Common.{inr, subst, string_bytes}
+use Rattle.std.proofs.Common.{inl, inr, subst, string_bytes}
 use Rattle.std.proofs.Math.Logic.{∥∥₁_map}
 use Rattle.std.proofs.lemmas.Result.{IfErr-weaker}
 use Rattle.remote.specs.Remote.{connection_of}
-use Rattle.commands.specs.Places.{FailsOver, IsOfServer, IsConnected, IsToldOver, LacksAtServer, LacksIt}
+use Rattle.commands.specs.Faults.{OrMemory}
+use Rattle.commands.specs.Places.{FailsOver, FailsToConnect, IsOfServer, IsConnected, IsToldOver, LacksAtServer, LacksIt}
 use Rattle.commands.specs.Refusal.{FailsServer}
+use Rattle.commands.proofs.Exits.{exit_by}
 use Rattle.commands.proofs.Placed.{place_weaker}
+use Rattle.commands.proofs.Refused.{or_weaker}
 use Rattle.commands.proofs.verifying.judge_server.Goals as goal
+
+pub returns-in_err-remote-clause-fault : goal.returns-in_err-remote-clause-fault
+returns-in_err-remote-clause-fault g c =
+    let sees = g.W.World.sees in
+    let address = string_bytes c.args.server.now.address in
+    let prefix = c.args.server.now.prefix in
+    exit_by (OrMemory (λ e. ∥ FailsServer sees address prefix e ∥₁)) _ c.from_residual.ensures.1
+    (or_weaker (FailsToConnect sees address) (λ e. ∥ FailsServer sees address prefix e ∥₁) _ (λ fails. ∣ inl fails ∣₁) c.in_err-remote.ensures.fault)
 
 pub returns-clause-answered : goal.returns-clause-answered
 returns-clause-answered g c =
@@ -24,5 +35,6 @@ returns-clause-fault g c =
     let address = string_bytes server.address in
     let start = connection_of g.W.Link.Stream.flow c.in_ok-remote.remote in
     let opened = subst (λ h. IsConnected sees address h server.prefix start) c.requires c.in_ok-remote.ensures.opened in
-    IfErr-weaker c.judge_over.result (λ e. ∥ FailsOver start address e ∥₁) (λ e. ∥ FailsServer sees address server.prefix e ∥₁)
-    (λ e is. ∥∥₁_map is (λ fails. inr (start, opened, fails))) c.judge_over.ensures.fault
+    IfErr-weaker c.judge_over.result (OrMemory (λ e. ∥ FailsOver start address e ∥₁)) (OrMemory (λ e. ∥ FailsServer sees address server.prefix e ∥₁))
+    (λ e. or_weaker (λ x. ∥ FailsOver start address x ∥₁) (λ x. ∥ FailsServer sees address server.prefix x ∥₁) e
+    (λ is. ∥∥₁_map is (λ fails. inr (start, opened, fails)))) c.judge_over.ensures.fault

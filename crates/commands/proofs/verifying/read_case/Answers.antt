@@ -13,5 +13,6 @@ returns-in-Err-Record-clause-fault g c =
     let fault : IsRecordFault (names_of c.args.plan) bytes c.in-Err-Record.fault =
     subst (IsRecordRefusal (names_of c.args.plan) bytes) c.in-Err-Record.field-0-is c.in-Err-Record.ensures.fault in (
       c.in_ok-from_str-in-Err-Record.ensures.ok ∙ c.text_of-path.ensures,
+      c.of.ensures,
       (bytes, subst (λ b. g.W.World.sees.reads (option_text (rows_of (found_of c.args.matches.now)) (codes "record")) b) (sym c.deref.ensures.value) read, fault),
     )

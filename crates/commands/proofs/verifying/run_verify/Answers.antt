@@ -4,7 +4,7 @@ use Rattle.clap.specs.Words.{found_of, rows_of}
 use Rattle.verifier.specs.Verdict.{IsYes}
 use Rattle.commands.specs.Printed.{JudgesAsked}
 use Rattle.commands.specs.Told.{AppendsBeginning}
-use Rattle.commands.specs.Refusal.{FailsVerify}
+use Rattle.commands.specs.Refusal.{FailsAtPlace, FailsVerify}
 use Rattle.commands.specs.Refusal.FailsVerify.{in_memory, in_output, in_place, in_record, in_words}
 use Rattle.commands.specs.Words.{FailsFirst, place_words}
 use Rattle.commands.proofs.Exits.{exit_by}
@@ -38,8 +38,10 @@ returns-in_err-case-clause-refused g c =
 
 pub returns-in_err-answer-clause-refused : goal.returns-in_err-answer-clause-refused
 returns-in_err-answer-clause-refused g c =
-    exit_by (FailsVerify g.W.World.sees (rows_of (found_of c.args.matches.now))) _ c.from_residual-in_err-answer.ensures.1
-    (in_place c.in_ok-case.case c.in_ok-case.ensures.asks c.in_err-answer.ensures.fault)
+    let sees = g.W.World.sees in
+    let options = rows_of (found_of c.args.matches.now) in
+    exit_by (FailsVerify sees options) _ c.from_residual-in_err-answer.ensures.1
+    (or_memory (λ x. ∥ FailsAtPlace sees options x ∥₁) (FailsVerify sees options) _ in_memory (in_place c.in_ok-case.case c.in_ok-case.ensures.asks) c.in_err-answer.ensures.fault)
 
 pub returns-in_err-print_line-clause-refused : goal.returns-in_err-print_line-clause-refused
 returns-in_err-print_line-clause-refused g c =

@@ -3,7 +3,7 @@ use Rattle.std.proofs.Math.Logic.{∥∥₁_map}
 use Rattle.std.proofs.lemmas.Result.{IfOk-weaker}
 use Rattle.blob_source.specs.declared.source.FetchError.TheVariants.{Failed}
 use Rattle.remote.specs.Remote.{connection_of, telling_of}
-use Rattle.commands.specs.Faults.{TellsFailure}
+use Rattle.commands.specs.Faults.{OrMemory, TellsFailure}
 use Rattle.commands.specs.Places.{FailsOver, KeepsRefused}
 use Rattle.commands.specs.declared.error.CommandError.TheVariants.{Memory}
 use Rattle.commands.proofs.Failures.{failure_told, unkept_told}
@@ -15,8 +15,8 @@ returns-in-Some-clause-over g c =
     let now = connection_of g.S.Stream.flow c.args.self.now.remote in
     let address = string_bytes c.args.server.now.address in
     let failure = Some c.in-Some.failure in
-    IfOk-weaker c.server_error.result (TellsFailure address failure c.args.refusal) (λ e. ∥ FailsOver start address e ∥₁)
-    (λ e told. ∥∥₁_map c.args.self.now.refused (λ kept. failure_told start now address failure c.args.refusal e (subst (KeepsRefused start now) c.in-Some.is kept) told))
+    IfOk-weaker c.server_error.result (TellsFailure address failure c.args.refusal) (OrMemory (λ e. ∥ FailsOver start address e ∥₁))
+    (λ e told. failure_told start now address failure c.args.refusal e (∥∥₁_map c.args.self.now.refused (subst (KeepsRefused start now) c.in-Some.is)) told)
     c.server_error.ensures.error
 
 pub returns-in-Some-clause-failed : goal.returns-in-Some-clause-failed

@@ -1,4 +1,4 @@
-use Rattle.std.proofs.Common.{◌≡◌, IfErr, OnOk, string_bytes, subst, sym}
+use Rattle.std.proofs.Common.{◌≡◌, IfErr, OnOk, string_bytes, refl, subst, sym}
 use Rattle.std.proofs.Math.Logic.{∥∥₁_map, ∥∥₁_map₂}
 use Rattle.blob_digest.specs.Digest.{digest_of}
 use Rattle.http_core.specs.declared.event.Area.TheVariants.{Ac, Cas}
@@ -37,7 +37,7 @@ invariant_of-self g c =
       });
       refused = subst (λ f. ∥ KeepsRefused start new f ∥₁) (sym kept)
           (∥∥₁_map₂ c.args.self.now.over c.args.self.now.refused (λ over before. keeps_after start old new c.args.self.now.failure PutBlob (digest_of bytes) bytes
-          c.send_blob-put.result c.last_fault-fault.result sent.refused sent.called.unfailed (sym c.last_fault-fault.ensures) over.came before));
+          c.send_blob-put.result c.last_fault-fault.result sent.refused sent.called.unfailed (sym c.last_fault-fault.ensures) refl over.came before));
     }
 
 pub returns-in-Ok-clause-taken : goal.returns-in-Ok-clause-taken

@@ -33,5 +33,5 @@ invariant_of-self g c =
       });
       refused = subst (λ f. ∥ KeepsRefused start (connection_of flow new) f ∥₁) (sym kept)
           (∥∥₁_map₂ c.args.self.now.over c.args.self.now.refused (λ over before. keeps_after start (connection_of flow old) (connection_of flow new)
-          c.args.self.now.failure PutResult d bytes c.put_result-put.result c.last_fault-fault.result put.stored.refused put.called.unfailed (sym c.last_fault-fault.ensures) over.came before));
+          c.args.self.now.failure PutResult d bytes c.put_result-put.result c.last_fault-fault.result put.stored.refused put.called.unfailed (sym c.last_fault-fault.ensures) tt over.came before));
     }

@@ -1,4 +1,4 @@
-use Rattle.std.proofs.Common.{[], subst, sym}
+use Rattle.std.proofs.Common.{[], refl, subst, sym}
 use Rattle.std.proofs.Math.Logic.{∥∥₁_map, ∥∥₁_map₂}
 use Rattle.http_core.specs.declared.event.Area.TheVariants.{Ac, Cas}
 use Rattle.remote.specs.Remote.{connection_of, results_of}
@@ -31,7 +31,7 @@ invariant_of-self g c =
       });
       refused = subst (λ f. ∥ KeepsRefused start (connection_of flow new) f ∥₁) (sym c.keep_failure.ensures)
           (∥∥₁_map₂ c.args.self.now.over c.args.self.now.refused (λ over kept. keeps_after start (connection_of flow old) (connection_of flow new)
-          c.args.self.now.failure GetResult d [] c.result-found.result c.last_fault-fault.result is.asked.refused is.called.unfailed (sym c.last_fault-fault.ensures) over.came kept));
+          c.args.self.now.failure GetResult d [] c.result-found.result c.last_fault-fault.result is.asked.refused is.called.unfailed (sym c.last_fault-fault.ensures) refl over.came kept));
     }
 
 pub returns-clause-lacked : goal.returns-clause-lacked

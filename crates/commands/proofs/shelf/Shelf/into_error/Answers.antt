@@ -4,4 +4,4 @@ use Rattle.commands.proofs.shelf.Shelf.into_error.Goals as goal
 
 pub returns-in-Some : goal.returns-in-Some
 returns-in-Some g c =
-    ∥∥₁_map c.args.self.told (λ is. inr (c.in-Some.error, is.failed c.in-Some.error (sym c.into_error.ensures ∙ c.in-Some.is), c.from.ensures))
+    inr (∥∥₁_map c.args.self.told (λ is. (c.in-Some.error, is.failed c.in-Some.error (sym c.into_error.ensures ∙ c.in-Some.is), c.from.ensures)))
