@@ -33,6 +33,11 @@ module _ {A : Type 0} (Came : EndValue → Type 0) where
   pub ends_absolute : (t : RunError A) → TellsCame Came (Err t) → t ≡ children.NotAbsolute → ⊥
   ends_absolute t h is = subst (λ e. TellsCame Came (Err e)) is h
 
+pub trouble_so : (Fails So : Error → Type 0) (t : Trouble) → ((error : Error) → Fails error → So error) → TellsTrouble Fails t → TellsTrouble So t
+trouble_so Fails So (troubles.Unread error) to h = to error h
+trouble_so Fails So troubles.NoOutput to h = tt
+trouble_so Fails So troubles.Memory to h = tt
+
 -- what is told of a trouble at an output path
 pub trouble_tells : {A : Type 0} (Fails : Error → Type 0) (t : Trouble) (program : String A) (r : RunError A) → TellsTrouble Fails t → (IsFailure r → (error : Error) × (t ≡ troubles.Unread error) × (r ≡ children.Device program (Unread error)))
     → TellsRunFailure (λ e. (error : Error) × (e ≡ failed (string_bytes program) (Unread error)) × Fails error) r

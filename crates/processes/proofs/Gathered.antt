@@ -1,5 +1,5 @@
 -- What is collected so far, path by path.
-use Rattle.std.proofs.Common.{◌≡◌, ℕ, suc, ◌+◌, ◌<◌, length, take, get_or, List, [], ◌∷◌, ◌++◌, sym, subst, ◌∙◌, ap, refl, arith, inl, inr, append-nil}
+use Rattle.std.proofs.Common.{◌≡◌, ℕ, zero, suc, ◌+◌, ◌<◌, length, take, get_or, List, [], ◌∷◌, ◌++◌, sym, subst, ◌∙◌, ap, refl, arith, inl, inr, append-nil}
 use Rattle.std.specs.Prelude.{◌⊎◌, Contains, ℤ}
 use Rattle.std.specs.List.{AllByRecursion}
 use Rattle.std.proofs.lemmas.List.{map-append, take_more}
@@ -9,7 +9,7 @@ use Rattle.actions.specs.Outcome.{OutputValue, OutcomeValue, AddsOutput, paths_o
 use Rattle.processes.specs.declared.workshop.Standing.TheVariants as standings
 use Rattle.processes.specs.Workshop.{Works}
 use Rattle.processes.specs.Laying.{place_in}
-use Rattle.processes.specs.Collected.{AreKept, IsOutputAt, IsFound, IsSettled, IsOfOutput, IsMore}
+use Rattle.processes.specs.Collected.{AreKept, IsOutputAt, IsFound, IsSettled, IsOfOutput, IsMore, WasCollected}
 use Rattle.processes.proofs.Lists.{all_more, all_still, kept_trans}
 
 there : {X : Type 0} (y x : X) (ys : List X) → Contains ys x → Contains (y ∷ ys) x
@@ -34,6 +34,7 @@ module _ {R C E : Type 0} (works : Works R C E) (ended : E) where
       pub found : AllByRecursion (IsFound works ended folder paths blobs) o.outputs
       pub settled : AllByRecursion (IsSettled works ended folder o.outputs) some
       pub only : (b : List ℕ) → Contains blobs b → IsOfOutput works ended folder o.outputs b
+      pub among : (q : List (List ℕ)) → Contains (output_paths o.outputs) q → Contains some q
 
     still_found : (before after : List (List ℕ)) → AreKept before after → (os : List (List (List ℕ) × OutputValue))
         → AllByRecursion (IsFound works ended folder paths before) os → AllByRecursion (IsFound works ended folder paths after) os
@@ -56,6 +57,7 @@ module _ {R C E : Type 0} (works : Works R C E) (ended : E) where
             found = still_found before after before_kept old.outputs s.found;
             settled = all_more (IsSettled works ended folder old.outputs) some path s.settled (inl stands);
             only = λ b h. s.only b (subst (λ bs. Contains bs b) same h);
+            among = λ q h. Contains-append_left some (path ∷ []) q (s.among q h);
           }
 
       output_more : Contains paths path → (o : OutputValue) → IsOutputAt works ended (place_in folder (path_text path)) o own
@@ -72,6 +74,7 @@ module _ {R C E : Type 0} (works : Works R C E) (ended : E) where
             settled = all_more (IsSettled works ended folder new.outputs) some path
                 (all_still (IsSettled works ended folder old.outputs) (IsSettled works ended folder new.outputs) some settled_still s.settled) (inr named);
             only = λ b h. only_more mine b (Contains-append_cases before own b (subst (λ bs. Contains bs b) blobs h));
+            among = λ q h. among_more q (subst (λ ps. Contains ps q) names h);
           }
         where
           names : paths_of_outputs new.outputs ≡ paths_of_outputs adds.before ++ path ∷ paths_of_outputs adds.behind
@@ -85,6 +88,17 @@ module _ {R C E : Type 0} (works : Works R C E) (ended : E) where
 
           still : (e : List (List ℕ) × OutputValue) → Contains old.outputs e → Contains new.outputs e
           still e h = subst (λ xs. Contains xs e) (sym adds.placed) (contains_inserted adds.before adds.behind (path, o) e (subst (λ xs. Contains xs e) adds.others h))
+
+          among_more : (q : List (List ℕ)) → Contains (output_paths adds.before ++ path ∷ output_paths adds.behind) q → Contains (some ++ path ∷ []) q
+          among_more q h = by (Contains-append_cases (output_paths adds.before) (path ∷ output_paths adds.behind) q h)
+            where
+              was : Contains (output_paths adds.before ++ output_paths adds.behind) q → Contains (some ++ path ∷ []) q
+              was k = Contains-append_left some (path ∷ []) q (s.among q (subst (λ ps. Contains ps q) (sym olds) k))
+
+              by : Contains (output_paths adds.before) q ⊎ Contains (path ∷ output_paths adds.behind) q → Contains (some ++ path ∷ []) q
+              by (inl l) = was (Contains-append_left (output_paths adds.before) (output_paths adds.behind) q l)
+              by (inr (zero, lt, at)) = subst (Contains (some ++ path ∷ [])) at (Contains-append_right some (path ∷ []) path (0, omega arith, refl))
+              by (inr (suc k, lt, at)) = was (Contains-append_right (output_paths adds.before) (output_paths adds.behind) q (k, omega (arith, lt), at))
 
           settled_still : (q : List (List ℕ)) → IsSettled works ended folder old.outputs q → IsSettled works ended folder new.outputs q
           settled_still q (inl stands) = inl stands
@@ -114,3 +128,17 @@ module _ {R C E : Type 0} (works : Works R C E) (ended : E) where
         let taken : take (i + 1) paths ≡ take i paths ++ path ∷ [] = take_more paths i path lt ∙ ap (λ y. take i paths ++ y ∷ []) (sym is) in
         subst (λ ps. IsSoFar ps code new after) (sym taken)
         (so_far_more (take i paths) code path old before new after s (i, lt, sym is) (subst (λ p. IsMore works ended p path old before new after) at m))
+
+    -- at each path so far nothing stood, or an output
+    named_found : (blobs : List (List ℕ)) (q : List (List ℕ)) (os : List (List (List ℕ) × OutputValue)) → AllByRecursion (IsFound works ended folder paths blobs) os → Contains (output_paths os) q → WasCollected works ended folder q
+    named_found blobs q [] all (k, lt, at) = absurd (omega (arith, lt))
+    named_found blobs q (e ∷ os) all (zero, lt, at) =
+        let found = all.0.1 in inr (e.1, found.0, subst (λ p. IsOutputAt works ended (place_in folder (path_text p)) e.1 found.0) at found.1)
+    named_found blobs q (e ∷ os) all (suc k, lt, at) = named_found blobs q os all.1 (k, omega (arith, lt), at)
+
+    pub all_collected : (some : List (List (List ℕ))) (code : ℤ) (o : OutcomeValue) (blobs : List (List ℕ)) → IsSoFar some code o blobs → AllByRecursion (WasCollected works ended folder) some
+    all_collected some code o blobs s = all_still (IsSettled works ended folder o.outputs) (WasCollected works ended folder) some by s.settled
+      where
+        by : (q : List (List ℕ)) → IsSettled works ended folder o.outputs q → WasCollected works ended folder q
+        by q (inl stands) = inl stands
+        by q (inr named) = named_found blobs q o.outputs s.found named

@@ -4,3 +4,5 @@ pub mod Saying
 pub mod Walks
 pub mod Gathered
 pub mod Ends
+pub mod Numbers
+pub mod Unread

@@ -1,5 +1,5 @@
 -- Lists that grow by one element.
-use Rattle.std.proofs.Common.{◌≡◌, ℕ, ◌+◌, ◌-◌, ◌<◌, ◌≤◌, length, take, drop, get_or, List, [], ◌∷◌, ◌++◌, sym, ◌∙◌, ap, arith}
+use Rattle.std.proofs.Common.{◌≡◌, ℕ, zero, suc, ◌+◌, ◌-◌, ◌<◌, ◌≤◌, length, take, drop, get_or, List, [], ◌∷◌, ◌++◌, sym, ◌∙◌, ap, arith}
 use Rattle.std.specs.Prelude.{map, remove}
 use Rattle.std.specs.List.{AllByRecursion}
 use Rattle.std.proofs.Math.Seq.{take-length}
@@ -14,6 +14,12 @@ pub map_taken : {X Y : Type 0} (f : X → Y) (xs : List X) (i : ℕ) (x : X) →
 map_taken f xs i x lt is =
     let taken : take (i + 1) xs ≡ take i xs ++ x ∷ [] = take_more xs i x lt ∙ ap (λ y. take i xs ++ y ∷ []) (sym is) in
     ap (map f) taken ∙ map-append f (take i xs) (x ∷ [])
+
+-- a list around one of its elements
+pub around : {X : Type 0} (xs : List X) (i : ℕ) (x : X) → i < length xs → x ≡ get_or xs i x → (after : List X) × (xs ≡ take i xs ++ x ∷ after)
+around [] i x lt is = absurd (omega (arith, lt))
+around (y ∷ xs) zero x lt is = (xs, ap (λ z. z ∷ xs) (sym is))
+around (y ∷ xs) (suc i) x lt is = let rest = around xs i x (omega (arith, lt)) is in (rest.0, ap (λ ys. y ∷ ys) rest.1)
 
 -- what holds of some holds of each, where it does at any element
 pub all_still : {X : Type 0} (P Q : X → Type 0) (xs : List X) → ((x : X) → P x → Q x) → AllByRecursion P xs → AllByRecursion Q xs

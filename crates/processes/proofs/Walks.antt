@@ -26,7 +26,7 @@ use Rattle.processes.specs.declared.workshop.Standing.{Standing as PlaceStanding
 use Rattle.processes.specs.declared.workshop.Standing.TheVariants as standings
 use Rattle.processes.specs.Workshop.{Works}
 use Rattle.processes.specs.Laying.{place_in}
-use Rattle.processes.specs.Collected.{AreKept, IsFileAt, place_at, HasNames, IsStandingOf, IsContentAt, IsTreeAt, IsNoOutput, IsBadFolder}
+use Rattle.processes.specs.Collected.{AreKept, IsFileAt, IsFolderAt, place_at, HasNames, IsStandingOf, IsContentAt, IsTreeAt, IsNoOutput, IsBadFolder}
 use Rattle.processes.specs.Walking.{HasAbove, IsBare, IsOfMessage, LeavesOthers, IsWalked}
 use Rattle.processes.specs.declared.trouble.Trouble.{Trouble}
 use Rattle.processes.specs.declared.trouble.Trouble.TheVariants.{NoOutput}
@@ -338,19 +338,22 @@ module _ {R C E : Type 0} (works : Works R C E) (ended : E) (place : List ℕ) (
 
 -- ---- the Tree of a folder
 
-module _ {R C E : Type 0} (works : Works R C E) (ended : E) (place : List ℕ) (entries : FlatValue) (tree : Tree NodeValue) (list : IsListOf entries tree) (m : TreeValue) (directories : directories_of m ≡ first_visits tree) where
-  pub folder_tree : (old : FlatValue) (before after : List (List ℕ)) → IsWalked works ended place [] old entries before after → (more : List (List ℕ)) × IsTreeAt works ended place m more × (after ≡ before ++ more)
-  folder_tree old before after walked = (
+module _ {R C E : Type 0} (works : Works R C E) (ended : E) (place : List ℕ) (entries : FlatValue) (tree : Tree NodeValue) (list : IsListOf entries tree) where
+  pub walked_folder : (old : FlatValue) (before after : List (List ℕ)) → (w : IsWalked works ended place [] old entries before after) → IsFolderAt works ended w.more place (stands_at tree)
+  walked_folder old before after walked = record {
+    names = names_same works ended place (λ q. standing_in entries q) (stands_at tree) [] [] (λ k. list_maps entries tree list k []) walked.folder.names;
+    below = λ n p.
+        subst (λ v. IsStandingOf works ended walked.more (place_at place (n ∷ p)) (stands_at tree) (n ∷ p) v) (list_maps entries tree list n p)
+        (stands_same works ended walked.more (place_at place (n ∷ p)) (λ q. standing_in entries q) (stands_at tree) (n ∷ p) (n ∷ p) (standing_in entries (n ∷ p)) (λ k. list_maps entries tree list n (p ++ k ∷ [])) (walked.folder.below n p));
+  }
+
+  pub folder_tree : (m : TreeValue) → directories_of m ≡ first_visits tree → (old : FlatValue) (before after : List (List ℕ)) → IsWalked works ended place [] old entries before after → (more : List (List ℕ)) × IsTreeAt works ended place m more × (after ≡ before ++ more)
+  folder_tree m directories old before after walked = (
     walked.more,
     record {
       tree = tree;
       ordered = list.ordered;
-      folder = record {
-        names = names_same works ended place (λ q. standing_in entries q) (stands_at tree) [] [] (λ k. list_maps entries tree list k []) walked.folder.names;
-        below = λ n p.
-            subst (λ v. IsStandingOf works ended walked.more (place_at place (n ∷ p)) (stands_at tree) (n ∷ p) v) (list_maps entries tree list n p)
-            (stands_same works ended walked.more (place_at place (n ∷ p)) (λ q. standing_in entries q) (stands_at tree) (n ∷ p) (n ∷ p) (standing_in entries (n ∷ p)) (λ k. list_maps entries tree list n (p ++ k ∷ [])) (walked.folder.below n p));
-      };
+      folder = walked_folder old before after walked;
       directories = directories;
       only = λ b h. let c = walked.only b h in record { name = c.name; path = c.path; file = sym (list_maps entries tree list c.name c.path) ∙ c.file; holds = c.holds };
     },

@@ -8,7 +8,8 @@ use Rattle.std.specs.List.{AllByRecursion}
 use Rattle.blob_digest.specs.Digest.{DigestValue, digest_of}
 use Rattle.messages.specs.Name.{IsName}
 use Rattle.messages.specs.Path.{path_text}
-use Rattle.messages.specs.Tree.{TreeValue}
+use Rattle.messages.specs.Tree.{IsTree, TreeValue}
+use Rattle.action_messages.specs.Overlaps.{ArePathsApart}
 use Rattle.messages.specs.declared.node.Node.TheVariants as nodes
 use Rattle.tree.specs.Tree.{Name, Standing, nothing, a_leaf, a_directory, Tree, IsOrdered}
 use Rattle.tree.specs.Tree.{stands_at}
@@ -154,10 +155,53 @@ abbrev pub HasNoOutput : {R C E : Type 0} → Works R C E → E → List ℕ →
 HasNoOutput works ended place = (s : PlaceStanding) × works.stands ended place s
     × IsNoOutput works ended (IsBadFolder works ended 64) place s
 
--- The error by which nothing is collected: a call that looks was refused by it; or the names that
--- were listed don't fit one tree.
-abbrev pub IsUnread : {R C E : Type 0} → Works R C E → E → Error → Type 0
-IsUnread works ended error = works.unread ended error ⊎ (error_kind error ≡ InvalidData)
+-- nothing stood at a path below a folder, or an output
+abbrev pub WasCollected : {R C E : Type 0} → Works R C E → E → List ℕ → List (List ℕ) → Type 0
+WasCollected works ended folder q =
+    works.stands ended (place_in folder (path_text q)) standings.Nothing
+    ⊎ ((o : OutputValue) × (blobs : List (List ℕ))
+    × IsOutputAt works ended (place_in folder (path_text q)) o blobs)
+
+-- the first of the paths below a folder at which what stood is no output
+pub record IsFirstBad {R C E : Type 0} (works : Works R C E) (ended : E) (folder : List ℕ)
+    (paths : List (List (List ℕ))) (path : List (List ℕ)) : Type 0 where
+  pub before : List (List (List ℕ))
+  pub after : List (List (List ℕ))
+  pub whole : paths ≡ before ++ path ∷ after
+  pub collected : AllByRecursion (WasCollected works ended folder) before
+  pub bad : HasNoOutput works ended (place_in folder (path_text path))
+
+-- ---- why nothing is collected
+
+-- a folder was listed with a name twice
+pub record IsListedTwice {R C E : Type 0} (works : Works R C E) (ended : E) : Type 0 where
+  pub place : List ℕ
+  pub before : List Name
+  pub name : Name
+  pub after : List Name
+  pub listed : works.lists ended place (Some (before ++ name ∷ after))
+  pub again : Contains before name
+
+-- the folder at a place was read whole, and its Directories are those of no Tree
+pub record MakesNoTree {R C E : Type 0} (works : Works R C E) (ended : E) : Type 0 where
+  pub place : List ℕ
+  pub blobs : List (List ℕ)
+  pub tree : Tree NodeValue
+  pub ordered : IsOrdered tree
+  pub folder : IsFolderAt works ended blobs place (stands_at tree)
+  pub none : (m : TreeValue) → IsTree m → directories_of m ≡ first_visits tree → ⊥
+
+-- The error by which a folder isn't read: a call that looks was refused by it; or what was listed
+-- makes no Tree.
+abbrev pub IsUnreadFolder : {R C E : Type 0} → Works R C E → E → Error → Type 0
+IsUnreadFolder works ended error = works.unread ended error
+    ⊎ ((error_kind error ≡ InvalidData) × (IsListedTwice works ended ⊎ MakesNoTree works ended))
+
+-- The error by which nothing is collected at paths: that of a file or a folder; or the paths
+-- overlap, as those of no command do.
+abbrev pub IsUnread : {R C E : Type 0} → Works R C E → E → List (List (List ℕ)) → Error → Type 0
+IsUnread works ended paths error = IsUnreadFolder works ended error
+    ⊎ ((error_kind error ≡ InvalidData) × (ArePathsApart paths → ⊥))
 
 -- ---- one path more
 

@@ -1,8 +1,7 @@
 -- Jobs in a workshop, and what may come of them.
-use Rattle.std.specs.Prelude.{◌≡◌, ◌⊎◌, ℕ, ℤ, List, Contains, Result, Ok, Err, string_bytes}
-use Rattle.std.specs.List.{AllByRecursion}
+use Rattle.std.specs.Prelude.{suc, ◌≡◌, ◌⊎◌, ◌≤◌, ℕ, ℤ, List, [], ◌∷◌, Result, Ok, Err}
+use Rattle.std.specs.Prelude.{string_bytes}
 use Rattle.action_messages.specs.Command.{CommandValue}
-use Rattle.messages.specs.Path.{path_text}
 use Rattle.std.specs.declared.io.Error.{Error}
 use Rattle.worker.specs.Values.{LayoutValue, ProducedValue, EndValue, made, bad_at, failed}
 use Rattle.worker.specs.Values.{StartValue, IsAbsolute, program_of}
@@ -18,8 +17,8 @@ use Rattle.processes.specs.declared.workshop.Exit.{Exit}
 use Rattle.processes.specs.declared.workshop.Exit.TheVariants.{Code}
 use Rattle.processes.specs.declared.workshop.Exit.TheVariants as exits
 use Rattle.processes.specs.Workshop.{Works}
-use Rattle.processes.specs.Laying.{folder_of, place_in, start_of, room_of_job}
-use Rattle.processes.specs.Collected.{AreCollected, HasNoOutput, IsUnread}
+use Rattle.processes.specs.Laying.{folder_of, start_of, room_of_job}
+use Rattle.processes.specs.Collected.{AreCollected, IsFirstBad, IsUnread}
 
 -- how many children haven't been waited for yet
 abbrev pub alive_in : Tally → ℕ
@@ -47,14 +46,14 @@ abbrev pub errors_of : {R : Type 0} → Disk R → ChildErrors
 errors_of d = d.errors
 
 -- what stood at the paths below a folder after a process has ended with a code: the outputs of an
--- outcome, or at one of them what is no output
+-- outcome, or at the first of them what is no output
 abbrev pub WasLeft : {R C E : Type 0} → Works R C E → E → List ℕ → List (List (List ℕ)) → ℤ
     → EndValue → Type 0
 WasLeft works end start paths code (made p) =
     (p.outcome.exit_code ≡ code) × AreCollected works end start paths p.outcome p.blobs
-WasLeft works end start paths code (bad_at path) =
-    Contains paths path × HasNoOutput works end (place_in start (path_text path))
-WasLeft works end start paths code (failed program (Unread error)) = IsUnread works end error
+WasLeft works end start paths code (bad_at path) = IsFirstBad works end start paths path
+WasLeft works end start paths code (failed program (Unread error)) =
+    IsUnread works end paths error
 WasLeft works end start paths code (failed program cause) = ⊥
 
 -- A child ended so: it was waited for and ended with a code, and this stood after that at the paths
@@ -84,10 +83,18 @@ pub record IsJobLaunched {R C E : Type 0} (works : Works R C E) (folder : List �
   pub is_start : start ≡ start_of folder c.working_directory
   pub started : works.runs child (room_of_job folder l c) c start
 
--- children were started, one for each of these, each in a numbered folder below one folder
-abbrev pub HaveStarted : {R C E : Type 0} → Works R C E → List ℕ → List StartValue → Type 0
-HaveStarted {R} {C} works work = AllByRecursion (λ s. (number : ℕ) × (child : C) × (start : List ℕ)
-    × IsJobLaunched works (folder_of work number) s.layout s.command child start)
+-- Children were started, one for each of these, each in a folder with a number below one folder.
+-- The numbers ascend, from the first on, and are below the next.
+abbrev pub HaveStartedFrom : {R C E : Type 0} → Works R C E → List ℕ → ℕ → ℕ → List StartValue
+    → Type 0
+HaveStartedFrom works work first next [] = first ≤ next
+HaveStartedFrom {R} {C} works work first next (s ∷ ss) =
+    (number : ℕ) × (first ≤ number) × (child : C) × (start : List ℕ)
+    × IsJobLaunched works (folder_of work number) s.layout s.command child start
+    × HaveStartedFrom works work (suc number) next ss
+
+abbrev pub HaveStarted : {R C E : Type 0} → Works R C E → List ℕ → ℕ → List StartValue → Type 0
+HaveStarted works work next = HaveStartedFrom works work 0 next
 
 -- The command names its program from the root. A child was started so, in a numbered folder, and
 -- came to this.
@@ -108,10 +115,17 @@ may_yield works work l c (failed program (Unstarted error)) =
     IsAbsolute c × (program ≡ program_of c) × works.unstarted error
 may_yield works work l c e = IsJobRun works work l c e
 
+-- the child of a job, and the folder that it started in
+abbrev pub child_of : {C A : Type 0} → ProcessJob C A → C
+child_of job = job.started.child
+
+abbrev pub start_in : {C A : Type 0} → ProcessJob C A → List ℕ
+start_in job = string_bytes job.started.start
+
 -- what may come of a job
 abbrev pub may_come : {R C E A : Type 0} → Works R C E → ProcessJob C A → EndValue → Type 0
-may_come works job = CameOf works job.started.child (string_bytes job.program)
-    (string_bytes job.started.start) job.started.outputs.items
+may_come works job = CameOf works (child_of job) (string_bytes job.program) (start_in job)
+    job.started.outputs.items
 
 -- what was told as a child was waited for
 abbrev pub IsEnded : {R C E : Type 0} → Works R C E → C → Result (E × Exit) Error → Type 0

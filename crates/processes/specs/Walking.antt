@@ -1,5 +1,6 @@
 -- What a walk through a folder adds to a flat tree, and why it ends: words of private functions.
-use Rattle.std.specs.Prelude.{◌≡◌, ◌≢◌, ◌⊎◌, ℕ, ◌<◌, ◌≤◌, List, ◌∷◌, ◌++◌, length, take, Contains}
+use Rattle.std.specs.Prelude.{◌≡◌, ◌≢◌, ◌⊎◌, ℕ, ◌<◌, ◌≤◌, List, ◌∷◌, ◌++◌, length, map, take}
+use Rattle.std.specs.Prelude.{Contains}
 use Rattle.std.specs.IoError.{error_kind}
 use Rattle.std.specs.declared.io.Error.{Error}
 use Rattle.std.specs.declared.io.ErrorKind.TheVariants.{InvalidData, OutOfMemory}
@@ -16,7 +17,13 @@ use Rattle.worker.specs.declared.runner.RunError.TheVariants as children
 use Rattle.processes.specs.declared.trouble.Trouble.{Trouble}
 use Rattle.processes.specs.declared.trouble.Trouble.TheVariants.{Unread, NoOutput, Memory}
 use Rattle.processes.specs.Workshop.{Works}
-use Rattle.processes.specs.Collected.{IsContentAt, IsFolderAt}
+use Rattle.processes.specs.Collected.{IsContentAt, IsFolderAt, IsUnreadFolder}
+use Rattle.std.specs.List.{AllByRecursion}
+use Rattle.messages.specs.Directory.{directory_bytes}
+use Rattle.messages.specs.DirectoryRules.{DirectoryValue, IsDirectory}
+use Rattle.messages.specs.Tree.{IsTree, TreeValue}
+use Rattle.actions.specs.Outcome.{LeavesNoRoom, OutcomeValue}
+use Rattle.worker.specs.Outcomes.{directories_of}
 
 -- directories stand at a path and above it
 abbrev pub HasAbove : FlatValue → List Name → Type 0
@@ -69,6 +76,21 @@ IsOfAdding (adding.Overlap path) t =
 abbrev pub TellsTrouble : (Error → Type 0) → Trouble → Type 0
 TellsTrouble Fails (Unread error) = Fails error
 TellsTrouble Fails t = Unit {0}
+
+-- the error by which no output of a path is added to an outcome
+abbrev pub IsUnreadOutput : {R C E : Type 0} → Works R C E → E → OutcomeValue → List Name → Error
+    → Type 0
+IsUnreadOutput works ended o path error = IsUnreadFolder works ended error
+    ⊎ ((error_kind error ≡ InvalidData) × LeavesNoRoom o path)
+
+-- the bytes are the encodings of no Directories
+abbrev pub AreOfNone : List (List ℕ) → Type 0
+AreOfNone bs = (ds : List DirectoryValue) → AllByRecursion IsDirectory ds
+    → map directory_bytes ds ≡ bs → ⊥
+
+-- or the Directories of no Tree
+abbrev pub AreOfNoTree : List (List ℕ) → Type 0
+AreOfNoTree bs = (m : TreeValue) → IsTree m → directories_of m ≡ bs → ⊥
 
 -- the refusal of a program that failed by a cause, which is of this error of the system
 abbrev pub IsFailedBy : {A : Type 0} → String A → Error → Cause → RunError A → Type 0

@@ -1,13 +1,11 @@
-ghost use Rattle.std.specs.Prelude.{◌≡◌, ℕ, List, Contains, Err, IfErr, IfOk, IsErrOf, OnOk};
+ghost use Rattle.std.specs.Prelude.{◌≡◌, ℕ, List, Err, IfErr, IfOk, IsErrOf, OnOk};
 ghost use Rattle.std.specs.Prelude.{string_bytes};
 ghost use Rattle.std.specs.declared.io.Error.{Error};
-ghost use Rattle.messages.specs.Path.{path_text};
 ghost use Rattle.worker.specs.Counted.{TellsRunFailure};
 ghost use Rattle.worker.specs.Values.{blobs_of, failed};
 ghost use Rattle.worker.specs.declared.failure.Cause.TheVariants.{Unread};
-ghost use Rattle.processes.specs.Collected.{AreCollected, HasNoOutput, IsMore, IsUnread};
-ghost use Rattle.processes.specs.Walking.{TellsTrouble};
-ghost use Rattle.processes.specs.Laying.{place_in};
+ghost use Rattle.processes.specs.Collected.{AreCollected, HasNoOutput, IsFirstBad, IsMore, IsUnread};
+ghost use Rattle.processes.specs.Walking.{IsUnreadOutput, TellsTrouble};
 
 use crate::laying::place_in;
 use crate::trouble::Trouble;
@@ -31,7 +29,8 @@ fn take_output<A: Allocator + Copy, W: Workshop>(
     ensures more { OnOk result (IsMore W.works ended.now place.now path.now outcome.old
         (blobs_of blobs.old.items) outcome.new (blobs_of blobs.new.items)) }
     ensures bad { IsErrOf result Trouble.NoOutput → HasNoOutput W.works ended.now place.now }
-    ensures failed { IfErr result (TellsTrouble (IsUnread W.works ended.now)) }
+    ensures failed { IfErr result
+        (TellsTrouble (IsUnreadOutput W.works ended.now outcome.old path.now)) }
 {
     let output = match workshop.look(ended, place)? {
         Standing::Nothing => return Ok(()),
@@ -62,10 +61,10 @@ pub(crate) fn collect<A: Allocator + Copy, W: Workshop>(
         (λ p. AreCollected W.works ended.now folder.now paths.now p.outcome p.blobs) }
     ensures error { result ≡ Err RunError.NotAbsolute → ⊥ }
     ensures bad { (path : List (List ℕ)) → IsErrOf result (RunError.BadOutput path)
-        → Contains paths.now path
-        × HasNoOutput W.works ended.now (place_in folder.now (path_text path)) }
+        → IsFirstBad W.works ended.now folder.now paths.now path }
     ensures failed { IfErr result (TellsRunFailure (λ e. (error : Error)
-        × (e ≡ failed (string_bytes program) (Unread error)) × IsUnread W.works ended.now error)) }
+        × (e ≡ failed (string_bytes program) (Unread error))
+        × IsUnread W.works ended.now paths.now error)) }
 {
     let mut outcome = Outcome::new(alloc, exit_code);
     let mut blobs = Vec::new(alloc);

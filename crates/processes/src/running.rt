@@ -1,10 +1,16 @@
-ghost use Rattle.std.specs.Prelude.{◌≡◌, ◌+◌, IfErr, IfOk, IsTrue, OnErr, OnOk, string_bytes};
-ghost use Rattle.worker.specs.Values.{IsAbsolute};
+ghost use Rattle.std.specs.Prelude.{◌≡◌, ◌+◌, ◌<◌, ◌≤◌, ℕ, List, IfErr, IfOk, IsErrOf, IsTrue};
+ghost use Rattle.std.specs.Prelude.{OnErr, OnOk, string_bytes};
+ghost use Rattle.std.specs.Result.{IsErrAnd};
+ghost use Rattle.blob_source.specs.Source.{greatest_count};
+ghost use Rattle.worker.specs.Counted.{Counts, IsFailure, TellsRunFailure};
+ghost use Rattle.worker.specs.Outcomes.{YieldsFor, YieldsNoMore};
+ghost use Rattle.worker.specs.Values.{EndValue, IsAbsolute, StartsNone, StartsOne};
 ghost use Rattle.worker.specs.declared.failure.Cause.TheVariants.{Signal};
 ghost use Rattle.messages.specs.Path.{begins_with_slash};
 ghost use Rattle.processes.specs.Laying.{IsUnstarted, folder_of};
-ghost use Rattle.processes.specs.Running.{CameOf, TellsCame, IsEnded, IsJobLaunched, alive_of};
-ghost use Rattle.processes.specs.Running.{failures_of, next_of, work_of};
+ghost use Rattle.processes.specs.Running.{CameOf, HaveStarted, IsEnded, IsJobLaunched, TellsCame};
+ghost use Rattle.processes.specs.Running.{alive_of, child_of, failures_of, may_come, may_yield};
+ghost use Rattle.processes.specs.Running.{next_of, start_in, work_of};
 
 use crate::collecting::collect;
 use crate::laying::{lay_out, make_parents, make_start};
@@ -100,7 +106,10 @@ impl<W: Workshop, A: Allocator + Copy> ProcessRunner<W, A> {
     fn next_folder(&mut self, alloc: A) -> Result<String<A>, AllocError>
         ensures folder { IfOk result
             (λ folder. string_bytes folder ≡ folder_of (work_of self.old) (next_of self.old)) }
-        ensures used { OnOk result (next_of self.new ≡ next_of self.old + 1) }
+        ensures used { next_of self.old < greatest_count
+            → next_of self.new ≡ next_of self.old + 1 }
+        ensures left { OnOk result (next_of self.old < greatest_count) }
+        ensures risen { next_of self.old ≤ next_of self.new }
         ensures work { work_of self.new ≡ work_of self.old }
         ensures alive { alive_of self.new ≡ alive_of self.old }
         ensures failures { failures_of self.new ≡ failures_of self.old }
@@ -124,7 +133,10 @@ impl<W: Workshop, A: Allocator + Copy> ProcessRunner<W, A> {
         ensures launched { IfOk result (λ s.
             IsJobLaunched W.works (folder_of (work_of self.old) (next_of self.old))
             layout.now command.now s.child (string_bytes s.start)) }
-        ensures used { OnOk result (next_of self.new ≡ next_of self.old + 1) }
+        ensures used { next_of self.old < greatest_count
+            → next_of self.new ≡ next_of self.old + 1 }
+        ensures left { OnOk result (next_of self.old < greatest_count) }
+        ensures risen { next_of self.old ≤ next_of self.new }
         ensures outputs { IfOk result (λ s. s.outputs.items ≡ command.now.output_paths) }
         ensures failed { IfErr result (IsUnstarted W.works) }
         ensures work { work_of self.new ≡ work_of self.old }
@@ -186,13 +198,13 @@ impl<W: Workshop + Drop, A: Allocator + Copy> Runner<A> for ProcessRunner<W, A> 
     type Job = ProcessJob<W::Child, A>;
 
     ghost use Rattle.processes.specs.Running.{HaveStarted, alive_of, failures_of, may_come};
-    ghost use Rattle.processes.specs.Running.{may_yield, work_of};
+    ghost use Rattle.processes.specs.Running.{may_yield, next_of, work_of};
 
     ghost yields = { λ r. may_yield W.works (work_of r) };
 
     ghost may_give = { λ job e. may_come W.works job e };
 
-    ghost starts = { λ r. HaveStarted W.works (work_of r) };
+    ghost starts = { λ r. HaveStarted W.works (work_of r) (next_of r) };
 
     ghost alive = { alive_of };
 
@@ -203,7 +215,37 @@ impl<W: Workshop + Drop, A: Allocator + Copy> Runner<A> for ProcessRunner<W, A> 
         alloc: A,
         layout: &Layout<A>,
         command: &Command<A>,
-    ) -> Result<ProcessJob<W::Child, A>, RunError<A>> {
+    ) -> Result<ProcessJob<W::Child, A>, RunError<A>>
+        ensures gives { IfOk result (λ job. (e : EndValue) → may_come W.works job e
+            → YieldsFor (may_yield W.works (work_of self.new)) layout.now command.now e) }
+        ensures same { YieldsNoMore (may_yield W.works (work_of self.new))
+            (may_yield W.works (work_of self.old)) }
+        ensures listed { OnOk result (StartsOne
+            (HaveStarted W.works (work_of self.old) (next_of self.old))
+            (HaveStarted W.works (work_of self.new) (next_of self.new))
+            (record { layout = layout.now; command = command.now })) }
+        ensures unlisted { OnErr result (StartsNone
+            (HaveStarted W.works (work_of self.old) (next_of self.old))
+            (HaveStarted W.works (work_of self.new) (next_of self.new))) }
+        ensures opened { OnOk result (alive_of self.new ≡ alive_of self.old + 1) }
+        ensures unopened { OnErr result (alive_of self.new ≡ alive_of self.old) }
+        ensures refused { IsErrOf result RunError.NotAbsolute → IsAbsolute command.now → ⊥ }
+        ensures bad { (path : List (List ℕ)) → IsErrOf result (RunError.BadOutput path) → ⊥ }
+        ensures device { IfErr result (TellsRunFailure
+            (YieldsFor (may_yield W.works (work_of self.new)) layout.now command.now)) }
+        ensures counted { Counts (failures_of self.old) (failures_of self.new)
+            (IsErrAnd result IsFailure) }
+        // A program that isn't named from the root is refused first, and uses no number.
+        ensures relative { (IsAbsolute command.now → ⊥)
+            → IsErrOf result RunError.NotAbsolute × (next_of self.new ≡ next_of self.old) }
+        // The job's folder has the next number, which is used also where the process fails.
+        ensures numbered { IfOk result (λ job. IsJobLaunched W.works
+            (folder_of (work_of self.old) (next_of self.old))
+            layout.now command.now (child_of job) (start_in job)) }
+        ensures used { OnOk result (next_of self.new ≡ next_of self.old + 1) }
+        ensures passed { IsErrAnd result IsFailure → next_of self.old < greatest_count
+            → next_of self.new ≡ next_of self.old + 1 }
+    {
         if !is_absolute(command) {
             return Err(RunError::NotAbsolute);
         }

@@ -1,13 +1,18 @@
-ghost use Rattle.std.specs.Prelude.{◌≡◌, ◌+◌, ℕ, List, [], ◌∷◌, ◌++◌, length, map};
-ghost use Rattle.std.specs.Prelude.{Some, None, IfErr, IfOk, IsErrOf, OnOk};
+ghost use Rattle.std.specs.Prelude.{◌≡◌, ◌⊎◌, ◌+◌, ℕ, List, [], ◌∷◌, ◌++◌, length, map};
+ghost use Rattle.std.specs.Prelude.{Some, None, IfErr, IfOk, IsErrOf, OnOk, string_bytes};
 ghost use Rattle.blob_digest.specs.Digest.{digest_of};
+ghost use Rattle.std.specs.IoError.{error_kind};
+ghost use Rattle.std.specs.declared.io.Error.{Error};
+ghost use Rattle.std.specs.declared.io.ErrorKind.TheVariants.{InvalidData};
+ghost use Rattle.std.specs.List.{AllByRecursion};
 ghost use Rattle.messages.specs.Directory.{directory_bytes};
+ghost use Rattle.messages.specs.DirectoryRules.{IsDirectory};
 ghost use Rattle.messages.specs.Name.{IsName};
 ghost use Rattle.tree.specs.Lookup.{names_in};
 ghost use Rattle.worker.specs.Outcomes.{directories_of};
 ghost use Rattle.worker.specs.Values.{blobs_of};
-ghost use Rattle.processes.specs.Collected.{IsBadFolder, IsTreeAt, IsUnread};
-ghost use Rattle.processes.specs.Walking.{IsBare, IsWalked, TellsTrouble};
+ghost use Rattle.processes.specs.Collected.{IsBadFolder, IsTreeAt, IsUnreadFolder};
+ghost use Rattle.processes.specs.Walking.{AreOfNone, AreOfNoTree, IsBare, IsWalked, TellsTrouble};
 
 use crate::laying::place_in;
 use crate::trouble::Trouble;
@@ -62,6 +67,24 @@ fn path_below<A: Allocator + Copy>(
     }
 }
 
+/// The names in the folder at a place. `NoOutput` where one is no text.
+fn list_names<A: Allocator + Copy, W: Workshop>(
+    alloc: A,
+    workshop: &W,
+    ended: &W::Ended,
+    place: &str,
+) -> Result<Vec<String<A>, A>, Trouble>
+    ensures listed { IfOk result (λ names.
+        W.works.lists ended.now place.now (Some (map string_bytes names.items))) }
+    ensures bad { IsErrOf result Trouble.NoOutput → W.works.lists ended.now place.now None }
+    ensures failed { IfErr result (TellsTrouble (W.works.unread ended.now)) }
+{
+    match workshop.list(alloc, ended, place)? {
+        Some(names) => Ok(names),
+        None => Err(Trouble::NoOutput),
+    }
+}
+
 /// Adds what stands in the folder at a place, at the path above in a tree, and keeps the contents
 /// of the files. A path below it has at most so many more names.
 fn walk<A: Allocator + Copy, W: Workshop>(
@@ -80,11 +103,9 @@ fn walk<A: Allocator + Copy, W: Workshop>(
         tree.old tree.new (blobs_of blobs.old.items) (blobs_of blobs.new.items)) }
     ensures bad { IsErrOf result Trouble.NoOutput
         → IsBadFolder W.works ended.now most place.now }
-    ensures failed { IfErr result (TellsTrouble (IsUnread W.works ended.now)) }
+    ensures failed { IfErr result (TellsTrouble (IsUnreadFolder W.works ended.now)) }
 {
-    let Some(names) = workshop.list(alloc, ended, place)? else {
-        return Err(Trouble::NoOutput);
-    };
+    let names = list_names(alloc, workshop, ended, place)?;
     for name in &names {
         let Some(fewer) = most.checked_sub(1) else {
             return Err(Trouble::NoOutput);
@@ -123,7 +144,10 @@ fn read_directories<A: Allocator + Copy>(
     alloc: A,
     encodings: &[Vec<u8, A>],
 ) -> Result<Vec<Directory<A>, A>, Trouble>
-    ensures { IfOk result (λ ds. map directory_bytes ds.items ≡ blobs_of encodings.now) }
+    ensures bytes { IfOk result (λ ds. map directory_bytes ds.items ≡ blobs_of encodings.now) }
+    ensures valid { IfOk result (λ ds. AllByRecursion IsDirectory ds.items) }
+    ensures none { IfErr result
+        (λ t. (t ≡ Trouble.Memory) ⊎ AreOfNone (blobs_of encodings.now)) }
 {
     let mut directories = Vec::new(alloc);
     for encoding in encodings {
@@ -134,7 +158,9 @@ fn read_directories<A: Allocator + Copy>(
 
 /// The Tree of Directories, of which the first is its root.
 fn tree_of<A: Allocator + Copy>(alloc: A, encodings: &[Vec<u8, A>]) -> Result<Tree<A>, Trouble>
-    ensures { IfOk result (λ t. directories_of t ≡ blobs_of encodings.now) }
+    ensures directories { IfOk result (λ t. directories_of t ≡ blobs_of encodings.now) }
+    ensures none { IfErr result
+        (λ t. (t ≡ Trouble.Memory) ⊎ AreOfNoTree (blobs_of encodings.now)) }
 {
     let mut directories = read_directories(alloc, encodings)?;
     if directories.is_empty() {
@@ -142,6 +168,20 @@ fn tree_of<A: Allocator + Copy>(alloc: A, encodings: &[Vec<u8, A>]) -> Result<Tr
     }
     let root = directories.remove(0);
     Ok(Tree::new(alloc, root, directories)?)
+}
+
+/// Why there is no Tree of the Directories of a folder: where it isn't lack of memory, the system
+/// failed.
+fn no_tree(trouble: Trouble) -> Trouble
+    ensures { (result ≡ Trouble.Memory) ⊎ ((trouble ≡ Trouble.Memory → ⊥)
+        × ((error : Error) × (error_kind error ≡ InvalidData) × (result ≡ Trouble.Unread error))) }
+{
+    match trouble {
+        Trouble::Memory => Trouble::Memory,
+        Trouble::NoOutput | Trouble::Unread(_) => {
+            Trouble::Unread(io::Error::from(ErrorKind::InvalidData))
+        }
+    }
 }
 
 /// Reads the folder at a place as a Tree, and keeps the contents of the files in it.
@@ -156,7 +196,7 @@ pub(crate) fn keep_folder<A: Allocator + Copy, W: Workshop>(
         × IsTreeAt W.works ended.now place.now t own
         × (blobs_of blobs.new.items ≡ blobs_of blobs.old.items ++ own)) }
     ensures bad { IsErrOf result Trouble.NoOutput → IsBadFolder W.works ended.now 64 place.now }
-    ensures failed { IfErr result (TellsTrouble (IsUnread W.works ended.now)) }
+    ensures failed { IfErr result (TellsTrouble (IsUnreadFolder W.works ended.now)) }
 {
     let mut tree = FlatTree::new(alloc);
     let top = None;
@@ -166,8 +206,6 @@ pub(crate) fn keep_folder<A: Allocator + Copy, W: Workshop>(
     let folded = fold(alloc, &tree)?;
     match tree_of(alloc, &folded.directories) {
         Ok(tree) => Ok(tree),
-        Err(Trouble::Memory) => Err(Trouble::Memory),
-        // The Directories of a fold are those of a Tree: else the system failed.
-        Err(_) => Err(Trouble::Unread(io::Error::from(ErrorKind::InvalidData))),
+        Err(trouble) => Err(no_tree(trouble)),
     }
 }

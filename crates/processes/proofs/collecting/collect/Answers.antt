@@ -1,5 +1,4 @@
-use Rattle.std.proofs.Common.{◌≡◌, ap, ◌∙◌, ◌≤◌, Err, length, subst, sym, arith}
-use Rattle.std.specs.Prelude.{Contains}
+use Rattle.std.proofs.Common.{◌≡◌, ap, ◌∙◌, ◌≤◌, Err, length, take, subst, sym, arith}
 use Rattle.std.specs.List.{AllByRecursion}
 use Rattle.std.proofs.lemmas.List.{take_all}
 use Rattle.worker.specs.Values.{blobs_of}
@@ -7,9 +6,12 @@ use Rattle.processes.specs.Laying.{place_in}
 use Rattle.messages.specs.Path.{path_text}
 use Rattle.worker.specs.declared.runner.RunError.{RunError}
 use Rattle.worker.specs.declared.runner.RunError.TheVariants as children
-use Rattle.processes.specs.Collected.{HasNoOutput, IsSettled, IsUnread}
-use Rattle.processes.proofs.Ends.{trouble_tells}
-use Rattle.processes.proofs.Gathered.{so_far_taken}
+use Rattle.processes.specs.Collected.{HasNoOutput, IsFirstBad, IsSettled, IsUnread}
+use Rattle.processes.specs.Walking.{IsUnreadOutput}
+use Rattle.processes.proofs.Ends.{trouble_so, trouble_tells}
+use Rattle.processes.proofs.Unread.{unread_output}
+use Rattle.processes.proofs.Gathered.{all_collected, so_far_taken}
+use Rattle.processes.proofs.Lists.{around}
 use Rattle.processes.proofs.collecting.collect.Goals as goal
 
 pub loop-path-preserved : goal.loop-path-preserved
@@ -39,8 +41,20 @@ returns-in-Err-clause-bad g c path is =
     let at = c.at.ensures.bad path told in
     let place : c.as_str-in-loop-path.result.now ≡ place_in folder (path_text c.path-item.result) = c.as_str-in-loop-path.ensures.value ∙ c.in-Ok.ensures ∙ ap (λ t. place_in folder t) c.as_str.ensures.value in
     let bad : HasNoOutput works ended c.as_str-in-loop-path.result.now = c.in-Err.ensures.bad (ap Err at.1) in
-    subst (λ p. Contains c.args.paths.now p × HasNoOutput works ended (place_in folder (path_text p))) (sym at.0)
-    ((c.loop-path.path-index, c.loop-path-test.true, sym c.path-item.is), subst (HasNoOutput works ended) place bad)
+    let whole = around c.args.paths.now c.loop-path.path-index c.path-item.result c.loop-path-test.true c.path-item.is in
+    subst (IsFirstBad works ended folder c.args.paths.now) (sym at.0) (record {
+      before = take c.loop-path.path-index c.args.paths.now;
+      after = whole.0;
+      whole = whole.1;
+      collected = all_collected works ended folder c.args.paths.now (take c.loop-path.path-index c.args.paths.now) _ c.loop-path.outcome (blobs_of c.loop-path.blobs.items) c.loop-path.invariant;
+      bad = subst (HasNoOutput works ended) place bad;
+    })
 
 pub returns-in-Err-clause-failed : goal.returns-in-Err-clause-failed
-returns-in-Err-clause-failed g c = trouble_tells (IsUnread g.W.Workshop.works c.args.ended.now) c.in-Err.trouble c.args.program c.at.result c.in-Err.ensures.failed c.at.ensures.failed
+returns-in-Err-clause-failed g c =
+    let works = g.W.Workshop.works in
+    let paths = c.args.paths.now in
+    trouble_tells (IsUnread works c.args.ended.now paths) c.in-Err.trouble c.args.program c.at.result
+    (trouble_so (IsUnreadOutput works c.args.ended.now c.loop-path.outcome c.path-item.result) (IsUnread works c.args.ended.now paths) c.in-Err.trouble
+    (λ error h. unread_output works c.args.ended.now paths c.loop-path.path-index c.path-item.result c.loop-path.outcome error c.loop-path-test.true c.path-item.is c.loop-path.invariant.among h) c.in-Err.ensures.failed)
+    c.at.ensures.failed

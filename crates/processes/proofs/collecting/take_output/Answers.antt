@@ -3,6 +3,8 @@ use Rattle.worker.specs.Values.{blobs_of}
 use Rattle.actions.specs.Outcome.{AddsOutput, output_value}
 use Rattle.processes.specs.Collected.{IsOutputAt}
 use Rattle.processes.proofs.Walks.{contains_one}
+use Rattle.std.proofs.lemmas.Result.{err_from_is_err_and}
+use Rattle.processes.proofs.Unread.{output_unread}
 use Rattle.processes.proofs.collecting.take_output.Goals as goal
 use Rattle.processes.proofs.collecting.take_output.Goals.{in-File+in_ok-digest-in-File, in-Folder+in_ok-keep_folder-in-Folder}
 
@@ -39,3 +41,8 @@ returns-clause-more g c =
       blobs = made.1;
       more = inr (output_value output, made.2, subst (λ p. AddsOutput c.args.outcome.now p (output_value output) c.add.new.self) c.in_ok-copy_of.ensures c.in_ok-add.ensures.added);
     }
+
+pub returns-in_err-add-clause-failed : goal.returns-in_err-add-clause-failed
+returns-in_err-add-clause-failed g c =
+    let p = err_from_is_err_and c.from_residual-in_err-add.result c.from_residual-in_err-add.ensures.1 in
+    rw p.1 (output_unread g.W.Workshop.works c.args.ended.now c.in_err-add.field-0.0 p.0 c.args.outcome.now _ c.args.path.now c.in_ok-copy_of.ensures p.2 c.in_err-add.ensures.refused)
