@@ -15,7 +15,7 @@ use Rattle.worker.specs.Outcomes.{Yields}
 use Rattle.worker.specs.Watching.{IsProgress, IsWatched}
 use Rattle.worker.proofs.Acts.{led_same, puts_act}
 use Rattle.builder.specs.Built.{Builds, BuiltValue, Ran, Seen}
-use Rattle.builder.specs.Telling.{IsBuildTold}
+use Rattle.builder.specs.Telling.{CanBeTold, IsBuildTold}
 use Rattle.builder.specs.declared.error.BuildPlanError.{BuildPlanError}
 use Rattle.builder.specs.declared.error.BuildPlanError.TheVariants as errors
 use Rattle.runs.specs.declared.error.RunsError.TheVariants as runs
@@ -44,11 +44,11 @@ ran_by A y most plan sources old new opening ending first last asked opened led 
     }
 
 -- memory ran out as it was told
-pub memory_told : {A : Type 0} (y : Yields) (most : ℕ) (plan : PlanValue) (sources : DigestValue) (old new : Seen) (came : Result BuiltValue (BuildPlanError A)) → Builds A y most plan sources old new came
+pub memory_told : {A : Type 0} (y : Yields) (most : ℕ) (plan : PlanValue) (sources : DigestValue) (old new : Seen) (came : Result BuiltValue (BuildPlanError A)) → Builds A y most plan sources old new came → CanBeTold came
     → (r : Result (Told A) (BuildPlanError A)) → IsErrAnd r (λ x. x ≡ errors.Root runs.Memory) → IsBuildTold y most plan sources old new r
-memory_told y most plan sources old new came builds r exit =
+memory_told y most plan sources old new came builds has r exit =
     let p = err_from_is_err_and r exit in
-    rw (p.1, p.2) (record { came = came; builds = builds; tells = record { unnumbered = tt; is = inr refl } })
+    rw (p.1, p.2) (record { came = came; builds = builds; tells = record { unnumbered = tt; is = inr (has, refl) } })
 
 -- what isn't refused has no number
 pub unnumbered : {A : Type 0} (error : BuildPlanError A) (fault : Fault) → fault ≡ fault_of error → ((place : Place) (number : ℕ) → fault ≡ Refused place number → ⊥) → HasNoNumber (fault_of error)

@@ -5,8 +5,10 @@ use Rattle.plan.specs.Record.{record_text}
 use Rattle.plan.specs.Values.{PlanValue}
 use Rattle.worker.specs.Outcomes.{Yields}
 use Rattle.worker.specs.Values.{blobs_of}
+use Rattle.runs.specs.declared.error.RunsError.TheVariants as runs
 use Rattle.builder.specs.declared.error.BuildPlanError.{BuildPlanError}
-use Rattle.builder.specs.declared.fault.Fault.TheVariants.{Refused, Memory}
+use Rattle.builder.specs.declared.error.BuildPlanError.TheVariants.{Root}
+use Rattle.builder.specs.declared.fault.Fault.TheVariants.{Refused}
 use Rattle.builder.specs.declared.fault.Place.{Place}
 use Rattle.builder.specs.declared.telling.Told.{Told}
 use Rattle.builder.specs.declared.telling.Told.TheVariants.{Built, Failed}
@@ -31,12 +33,17 @@ pub record TellsFailed {A : Type 0} (plan : PlanValue) (error : BuildPlanError A
   pub line_is : line ≡ failed_text plan.steps place number
   pub why_is : why ≡ why_text plan.steps place error
 
--- What came of a plan can't be told in a line: it ended with this error, which has no number; or
--- memory ran out as it was told.
+-- what came of a plan has a line: its root, or a refusal with a number
+abbrev pub CanBeTold : {A : Type 0} → Result BuiltValue (BuildPlanError A) → Type 0
+CanBeTold (Ok b) = Unit {0}
+CanBeTold (Err error) = HasNoNumber (fault_of error) → ⊥
+
+-- No line is told: the plan ended with this error, which has no number; or what came of it has a
+-- line, and memory ran out as it was told.
 pub record HasNoLine {A : Type 0} (came : Result BuiltValue (BuildPlanError A))
     (error : BuildPlanError A) : Type 0 where
   pub unnumbered : HasNoNumber (fault_of error)
-  pub is : (came ≡ Err error) ⊎ (fault_of error ≡ Memory)
+  pub is : (came ≡ Err error) ⊎ (CanBeTold came × (error ≡ Root runs.Memory))
 
 -- what is told of what came of a plan: the root, or a refusal with a number
 abbrev pub Tells : {A : Type 0} → PlanValue → Result (Told A) (BuildPlanError A)

@@ -1,13 +1,14 @@
-use Rattle.std.proofs.Common.{◌∙◌, sym}
+use Rattle.std.proofs.Common.{◌∙◌, subst, sym}
 use Rattle.worker.proofs.Failures.{counts_exit, counts_same}
-use Rattle.builder.specs.Faults.{IsRunnerFailure, fault_of}
+use Rattle.builder.specs.Faults.{HasNoNumber, IsRunnerFailure, fault_of}
+use Rattle.builder.specs.Telling.{CanBeTold}
 use Rattle.builder.proofs.Failing.{none_failed, unfailed_as}
 use Rattle.builder.proofs.Refusing.{memory_told}
 use Rattle.builder.proofs.telling.tell_build.Goals as goal
 
 pub returns-in_err-tell_root-in-Ok-clause-told : goal.returns-in_err-tell_root-in-Ok-clause-told
 returns-in_err-tell_root-in-Ok-clause-told g c =
-    memory_told _ _ _ _ _ _ c.build_plan.result c.build_plan.ensures.build _ c.from_residual.ensures.1
+    memory_told _ _ _ _ _ _ c.build_plan.result c.build_plan.ensures.build (subst CanBeTold (sym c.in-Ok.is) tt) _ c.from_residual.ensures.1
 
 pub returns-in-Ok-clause-told : goal.returns-in-Ok-clause-told
 returns-in-Ok-clause-told g c =
@@ -15,11 +16,11 @@ returns-in-Ok-clause-told g c =
 
 pub returns-in_err-line-clause-told : goal.returns-in_err-line-clause-told
 returns-in_err-line-clause-told g c =
-    memory_told _ _ _ _ _ _ c.build_plan.result c.build_plan.ensures.build _ c.from_residual-in_err-line.ensures.1
+    memory_told _ _ _ _ _ _ c.build_plan.result c.build_plan.ensures.build (subst CanBeTold (sym c.in-Err.is) (λ h. subst HasNoNumber (sym c.fault_of.ensures ∙ c.in-Refused.is) h)) _ c.from_residual-in_err-line.ensures.1
 
 pub returns-in_err-why-clause-told : goal.returns-in_err-why-clause-told
 returns-in_err-why-clause-told g c =
-    memory_told _ _ _ _ _ _ c.build_plan.result c.build_plan.ensures.build _ c.from_residual-in_err-why.ensures.1
+    memory_told _ _ _ _ _ _ c.build_plan.result c.build_plan.ensures.build (subst CanBeTold (sym c.in-Err.is) (λ h. subst HasNoNumber (sym c.fault_of.ensures ∙ c.in-Refused.is) h)) _ c.from_residual-in_err-why.ensures.1
 
 pub returns-in_err-tell_root-in-Ok-clause-alone : goal.returns-in_err-tell_root-in-Ok-clause-alone
 returns-in_err-tell_root-in-Ok-clause-alone g c one =
