@@ -34,7 +34,7 @@ module _ {R C E : Type 0} (works : Works R C E) (ended : E) where
       pub found : AllByRecursion (IsFound works ended folder paths blobs) o.outputs
       pub settled : AllByRecursion (IsSettled works ended folder o.outputs) some
       pub only : (b : List ℕ) → Contains blobs b → IsOfOutput works ended folder o.outputs b
-      pub among : (q : List (List ℕ)) → Contains (output_paths o.outputs) q → Contains some q
+      pub among : (q : List (List ℕ)) → Contains (paths_of_outputs o.outputs) q → Contains some q
 
     still_found : (before after : List (List ℕ)) → AreKept before after → (os : List (List (List ℕ) × OutputValue))
         → AllByRecursion (IsFound works ended folder paths before) os → AllByRecursion (IsFound works ended folder paths after) os
@@ -89,16 +89,16 @@ module _ {R C E : Type 0} (works : Works R C E) (ended : E) where
           still : (e : List (List ℕ) × OutputValue) → Contains old.outputs e → Contains new.outputs e
           still e h = subst (λ xs. Contains xs e) (sym adds.placed) (contains_inserted adds.before adds.behind (path, o) e (subst (λ xs. Contains xs e) adds.others h))
 
-          among_more : (q : List (List ℕ)) → Contains (output_paths adds.before ++ path ∷ output_paths adds.behind) q → Contains (some ++ path ∷ []) q
-          among_more q h = by (Contains-append_cases (output_paths adds.before) (path ∷ output_paths adds.behind) q h)
+          among_more : (q : List (List ℕ)) → Contains (paths_of_outputs adds.before ++ path ∷ paths_of_outputs adds.behind) q → Contains (some ++ path ∷ []) q
+          among_more q h = by (Contains-append_cases (paths_of_outputs adds.before) (path ∷ paths_of_outputs adds.behind) q h)
             where
-              was : Contains (output_paths adds.before ++ output_paths adds.behind) q → Contains (some ++ path ∷ []) q
+              was : Contains (paths_of_outputs adds.before ++ paths_of_outputs adds.behind) q → Contains (some ++ path ∷ []) q
               was k = Contains-append_left some (path ∷ []) q (s.among q (subst (λ ps. Contains ps q) (sym olds) k))
 
-              by : Contains (output_paths adds.before) q ⊎ Contains (path ∷ output_paths adds.behind) q → Contains (some ++ path ∷ []) q
-              by (inl l) = was (Contains-append_left (output_paths adds.before) (output_paths adds.behind) q l)
+              by : Contains (paths_of_outputs adds.before) q ⊎ Contains (path ∷ paths_of_outputs adds.behind) q → Contains (some ++ path ∷ []) q
+              by (inl l) = was (Contains-append_left (paths_of_outputs adds.before) (paths_of_outputs adds.behind) q l)
               by (inr (zero, lt, at)) = subst (Contains (some ++ path ∷ [])) at (Contains-append_right some (path ∷ []) path (0, omega arith, refl))
-              by (inr (suc k, lt, at)) = was (Contains-append_right (output_paths adds.before) (output_paths adds.behind) q (k, omega (arith, lt), at))
+              by (inr (suc k, lt, at)) = was (Contains-append_right (paths_of_outputs adds.before) (paths_of_outputs adds.behind) q (k, omega (arith, lt), at))
 
           settled_still : (q : List (List ℕ)) → IsSettled works ended folder old.outputs q → IsSettled works ended folder new.outputs q
           settled_still q (inl stands) = inl stands
@@ -130,7 +130,7 @@ module _ {R C E : Type 0} (works : Works R C E) (ended : E) where
         (so_far_more (take i paths) code path old before new after s (i, lt, sym is) (subst (λ p. IsMore works ended p path old before new after) at m))
 
     -- at each path so far nothing stood, or an output
-    named_found : (blobs : List (List ℕ)) (q : List (List ℕ)) (os : List (List (List ℕ) × OutputValue)) → AllByRecursion (IsFound works ended folder paths blobs) os → Contains (output_paths os) q → WasCollected works ended folder q
+    named_found : (blobs : List (List ℕ)) (q : List (List ℕ)) (os : List (List (List ℕ) × OutputValue)) → AllByRecursion (IsFound works ended folder paths blobs) os → Contains (paths_of_outputs os) q → WasCollected works ended folder q
     named_found blobs q [] all (k, lt, at) = absurd (omega (arith, lt))
     named_found blobs q (e ∷ os) all (zero, lt, at) =
         let found = all.0.1 in inr (e.1, found.0, subst (λ p. IsOutputAt works ended (place_in folder (path_text p)) e.1 found.0) at found.1)

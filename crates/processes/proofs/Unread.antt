@@ -5,7 +5,7 @@ use Rattle.std.specs.List.{AllByRecursion}
 use Rattle.std.specs.declared.vec.Vec.{Vec}
 use Rattle.std.proofs.lemmas.List.{map-append, take-append-le}
 use Rattle.action_messages.specs.Overlaps.{ArePathsApart}
-use Rattle.actions.specs.Outcome.{ExplainsAdd, LeavesNoRoom, OutcomeValue, output_paths}
+use Rattle.actions.specs.Outcome.{ExplainsAdd, LeavesNoRoom, OutcomeValue, paths_of_outputs}
 use Rattle.std.specs.declared.io.Error.{Error}
 use Rattle.std.specs.declared.io.ErrorKind.TheVariants.{InvalidData}
 use Rattle.std.specs.IoError.{error_kind}
@@ -121,7 +121,7 @@ not_apart (p ∷ ps) (suc i) path other lt is (zero, less, at) over apart =
 not_apart (p ∷ ps) (suc i) path other lt is (suc k, less, at) over apart = not_apart ps i path other (omega (arith, lt)) is (k, omega (arith, less), at) over apart.1
 
 pub unread_output : {R C E : Type 0} (works : Works R C E) (ended : E) (paths : List (List Name)) (i : ℕ) (path : List Name) (o : OutcomeValue) (error : Error) → i < length paths → path ≡ get_or paths i path
-    → ((q : List Name) → Contains (output_paths o.outputs) q → Contains (take i paths) q) → IsUnreadOutput works ended o path error → IsUnread works ended paths error
+    → ((q : List Name) → Contains (paths_of_outputs o.outputs) q → Contains (take i paths) q) → IsUnreadOutput works ended o path error → IsUnread works ended paths error
 unread_output works ended paths i path o error lt is among (inl folder) = inl folder
 unread_output works ended paths i path o error lt is among (inr (kind, (other, there, over))) = inr (kind, not_apart paths i path other lt is (among other there) over)
 
