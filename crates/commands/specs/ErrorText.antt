@@ -2,7 +2,7 @@
 -- isn't: the option, the path, the line, the hint, the server, the request, the program and the
 -- signal.
 use Rattle.std.specs.Prelude.{◌≡◌, ℕ, List, [], ◌++◌, Option, None, Some, IfSome, codes, decimal}
-use Rattle.std.specs.Prelude.{string_bytes}
+use Rattle.std.specs.Prelude.{bytes_eq, if◌then◌else◌, string_bytes}
 use Rattle.std.specs.Fmt.{debug_str, signed_decimal}
 use Rattle.commands.specs.declared.error.CommandError.{CommandError}
 use Rattle.commands.specs.declared.error.CommandError.TheVariants.{Accept, Address, Connection}
@@ -40,10 +40,18 @@ IsOfPath path said text = (quoted : List ℕ) × IsQuoted path quoted × (text �
 abbrev pub IsWordsAt : List ℕ → List ℕ → Type 0
 IsWordsAt path text = (said : List ℕ) × IsOfPath path said text
 
+-- an option as it is written; the digest of `get` is a word without one
+abbrev pub written_option : List ℕ → List ℕ
+written_option option =
+    if bytes_eq option (codes "digest") then codes "<DIGEST>" else codes "--" ++ option
+
 -- said of an option, for which this was given
 abbrev pub IsOfOption : List ℕ → List ℕ → List ℕ → List ℕ → Type 0
 IsOfOption option said given text = (quoted : List ℕ) × IsQuoted given quoted
-    × (text ≡ codes "--" ++ said_of option (said ++ (codes ", not " ++ quoted)))
+    × (text ≡ said_of (written_option option) (said ++ (codes ", not " ++ quoted)))
+
+abbrev pub number_at_most : ℕ → List ℕ
+number_at_most greatest = codes "a decimal number of at most " ++ decimal greatest
 
 -- what may be wrong with a line that can't be read
 abbrev pub hint_words : Option Hint → List ℕ
@@ -86,8 +94,8 @@ abbrev pub IsErrorText : CommandError → List ℕ → Type 0
 IsErrorText (Words words) text = text ≡ string_bytes words
 IsErrorText (Digest option given fault) text =
     (said : List ℕ) × IsOfOption option.now said (string_bytes given) text
-IsErrorText (Number option greatest given) text = IsOfOption option.now
-    (codes "a decimal number of at most " ++ decimal greatest) (string_bytes given) text
+IsErrorText (Number option greatest given) text =
+    IsOfOption option.now (number_at_most greatest ++ codes " is wanted") (string_bytes given) text
 IsErrorText (Text path fault hint) text = IsWordsInLine (string_bytes path) fault.line hint text
 IsErrorText (File path fault) text = IsWordsAt (string_bytes path) text
 IsErrorText (NotAFile path) text = IsOfPath (string_bytes path) (codes "not a file") text

@@ -1,7 +1,7 @@
 ghost use Rattle.std.specs.Prelude.{◌≡◌, ◌++◌, ℕ, List, IfOk, codes, decimal, string_bytes};
 ghost use Rattle.commands.specs.ErrorText.{IsCauseText, IsErrorText, IsProcessText, IsWordsAt};
 ghost use Rattle.commands.specs.ErrorText.{IsWordsInLine, IsWordsOf, IsWordsOfRequest, IsOfOption};
-ghost use Rattle.commands.specs.ErrorText.{IsOfPath, said_of};
+ghost use Rattle.commands.specs.ErrorText.{IsOfPath, number_at_most, said_of, written_option};
 
 use crate::error::CommandError;
 use crate::hint::{Hint, hint_text};
@@ -47,13 +47,24 @@ fn fault_at(alloc: Global, path: &str, fault: &io::Error) -> Result<String, Allo
     of_path(alloc, path, said.as_str())
 }
 
+/// An option as it is written. The digest of `get` is a word without one.
+fn written_option(alloc: Global, option: &str) -> Result<String, AllocError>
+    ensures { IfOk result (λ text. string_bytes text ≡ written_option option.now) }
+{
+    if option == "digest" {
+        return String::from_str(alloc, "<DIGEST>");
+    }
+    format!(in alloc; "--{option}")
+}
+
 /// What is said of an option, for which a text was given.
 fn of_option(alloc: Global, option: &str, said: &str, given: &str) -> Result<String, AllocError>
     ensures { IfOk result
         (λ text. IsOfOption option.now said.now given.now (string_bytes text)) }
 {
+    let written = written_option(alloc, option)?;
     let quoted = format!(in alloc; "{given:?}")?;
-    format!(in alloc; "--{option}: {said}, not {quoted}")
+    format!(in alloc; "{written}: {said}, not {quoted}")
 }
 
 /// That the text of an option is no digest.
@@ -73,11 +84,10 @@ fn no_digest(
 /// That it is no number, or is greater than this one.
 fn no_number(alloc: Global, option: &str, greatest: u64, given: &str) -> Result<String, AllocError>
     ensures { IfOk result (λ text. IsOfOption option.now
-        (codes "a decimal number of at most " ++ decimal greatest) given.now
-        (string_bytes text)) }
+        (number_at_most greatest ++ codes " is wanted") given.now (string_bytes text)) }
 {
-    let said = format!(in alloc; "a decimal number of at most {greatest}")?;
-    of_option(alloc, option, said.as_str(), given)
+    let wanted = format!(in alloc; "a decimal number of at most {greatest}")?;
+    not_wanted(alloc, option, wanted.as_str(), given)
 }
 
 /// That it isn't what is wanted.

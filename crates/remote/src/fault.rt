@@ -5,7 +5,7 @@ use thiserror::Error;
 #[derive(Clone, Copy, Debug, PartialEq, Eq, Error)]
 pub enum Fault {
     /// The stream ended or failed within a request or a reply, or couldn't be opened anew.
-    #[error("the connection failed")]
+    #[error("the connection failed, ended, or was silent too long")]
     Io,
     /// What came is no valid reply.
     #[error("the server's reply is none of HTTP/1.1")]

@@ -23,10 +23,10 @@ returns-in_err-put_root-in-Ok-clause-fault g c =
     exit_by (FailsTelling g.K.Origin.start address asked.jobs asked.plan asked.sources) _ c.from_residual.ensures.1
     (over_fails g.K.Origin.start address asked.jobs asked.plan asked.sources _ c.in_err-put_root-in-Ok.ensures.fault)
 
-pub returns-in_ok-error-in-Err-Fetch-clause-fault : goal.returns-in_ok-error-in-Err-Fetch-clause-fault
-returns-in_ok-error-in-Err-Fetch-clause-fault g c =
+pub returns-in_ok-error-in-Fetch-clause-fault : goal.returns-in_ok-error-in-Fetch-clause-fault
+returns-in_ok-error-in-Fetch-clause-fault g c =
     let asked = c.args.asked.now in
-    over_fails g.K.Origin.start (string_bytes asked.server.address) asked.jobs asked.plan asked.sources _ c.in_ok-error-in-Err-Fetch.ensures.over
+    over_fails g.K.Origin.start (string_bytes asked.server.address) asked.jobs asked.plan asked.sources _ c.in_ok-error-in-Fetch.ensures.over
 
 pub returns-in-Some-clause-fault : goal.returns-in-Some-clause-fault
 returns-in-Some-clause-fault g c =
