@@ -23,8 +23,8 @@ returns-in_err-put_root-in-Ok-clause-fault g c =
     exit_by (FailsTelling g.K.Origin.start address asked.jobs asked.plan asked.sources) _ c.from_residual.ensures.1
     (over_fails g.K.Origin.start address asked.jobs asked.plan asked.sources _ c.in_err-put_root-in-Ok.ensures.fault)
 
-pub returns-in_ok-error-in-Fetch-clause-fault : goal.returns-in_ok-error-in-Fetch-clause-fault
-returns-in_ok-error-in-Fetch-clause-fault g c =
+pub returns-in-Fetch-clause-fault : goal.returns-in-Fetch-clause-fault
+returns-in-Fetch-clause-fault g c =
     let asked = c.args.asked.now in
     over_fails g.K.Origin.start (string_bytes asked.server.address) asked.jobs asked.plan asked.sources _ c.in_ok-error-in-Fetch.ensures.over
 
