@@ -186,7 +186,7 @@ module _ (prefix : List ℕ) (old : CacheValue) (input left more written_before 
             )
 
       -- given up in its answers
-      pub runs_broken : (others : List EventValue) (lost : List ℕ) → TellsBut now events written written_more after others lost
+      pub runs_broken : (others : List EventValue) (lost : List ℕ) (t : TellsBut now events written written_more after others lost)
           → (rest : List ℕ) × (cut : Option (List ℕ)) × (runs : RunsBut prefix old input more written_before written_more after rest lost cut)
           × (0 < length others → (0 < length rest) × (cut ≡ None → ⊥)) × (0 < length t.done → 0 < length runs.answered.events)
       runs_broken others lost t =

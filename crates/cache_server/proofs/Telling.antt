@@ -1,8 +1,8 @@
 -- Events answered on a writer.
 use Rattle.std.proofs.Common.{◌≡◌, ℕ, Option, List, [], ◌∷◌, ◌++◌, ◌<◌, true, false, map, length, length-append, arith, refl, sym, ◌∙◌, ap, subst, append_assoc}
 use Rattle.std.proofs.lemmas.List.{append-nil}
-use Rattle.std.specs.Io.KnownBytes.{Appends}
-use Rattle.std.proofs.KnownBytes.{Appends-nil, Appends-trans}
+use Rattle.std.specs.Io.KnownBytes.{Appends, Keeps}
+use Rattle.std.proofs.KnownBytes.{Appends-nil, Appends-trans, Appends-kept}
 use Rattle.std.specs.Prelude.{◌==◌}
 use Rattle.std.proofs.lemmas.Bool.Decides.{Decides-eqb}
 use Rattle.http_core.specs.declared.event.Event.{Event}
@@ -78,5 +78,11 @@ module _ {A : Type 0} (events : List (Event A)) where
   told_nothing old before t = told_so_far old old old (map event_of events) [] before before (told_first old (map event_of events) [] before (none_of events t)) refl
 
   -- all is written, but it isn't flushed
-  pub flush_failed : (old new : CacheValue) (before after : Option (List ℕ)) → TellsBut old (map event_of events) before after new [] [] → (length events == 0) ≡ false → StopsTelling old (map event_of events) before after new WriteFault
-  flush_failed old new before after t f = ([], [], t, let n = ap length t.whole ∙ ap length (append-nil t.done) in let some = some_of events f in omega (arith, n, some))
+  pub flush_failed : (old new : CacheValue) (before mid after : Option (List ℕ)) → TellsBut old (map event_of events) before mid new [] [] → Keeps mid after → (length events == 0) ≡ false
+      → StopsTelling old (map event_of events) before after new WriteFault
+  flush_failed old new before mid after t kept f = (
+    [],
+    [],
+    record { done = t.done; told = t.told; whole = t.whole; answers = t.answers; appends = Appends-kept before mid after t.told t.appends kept },
+    let n = ap length t.whole ∙ ap length (append-nil t.done) in let some = some_of events f in omega (arith, n, some),
+  )

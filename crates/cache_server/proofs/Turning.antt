@@ -189,7 +189,7 @@ pub open_answered : (old new : ServerValue) (k : ℕ) (piece : List ℕ) (taken 
 open_answered old new k piece taken text t some = by (session_at old k) t.held
   where
     none_answered : (event : Option EventValue) (text : Option (List ℕ)) → AnswersIfAny old.cache event text new.cache → IsSome text → option_to_list event ≡ [] → ⊥
-    none_answered None None a s e = s
+    none_answered None None a s e = let none : false ≡ true = s in absurd cc
     none_answered None (Some bytes) a s e = a
     none_answered (Some event) text a s e = absurd cc
 

@@ -31,7 +31,6 @@ fn answer_all<A: Allocator + Copy, W: Write>(
 
 /// Answers the events, if there are any, and flushes the answers; where memory is wanting, those
 /// that were written. A writer that has failed isn't flushed.
-#[tactic(auto, using(crate::proofs::Telling::told_nothing, crate::proofs::Telling::flush_failed))]
 pub(crate) fn answer_and_flush<A: Allocator + Copy, W: Write>(
     alloc: A,
     cache: &mut Cache<A>,

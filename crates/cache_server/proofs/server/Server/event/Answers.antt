@@ -77,7 +77,7 @@ was_wanting (Err d) b P p e f = p
 
 some_text : (o : Option AnswerValue) → IsSome o → IsSome (option_map text_of o)
 some_text None s = s
-some_text (Some answer) s = tt
+some_text (Some answer) s = refl
 
 pub returns-in_err-open-clause-memory : goal.returns-in_err-open-clause-memory
 returns-in_err-open-clause-memory g c = on_err c.from_residual.result (subst IsOpenAt (sym c.in_err-open.ensures.none) tt)
