@@ -169,6 +169,34 @@ module _ (opening : CacheValue) (old mid new : ServerValue) (k : ℕ) (history :
 pub taken_more : (piece : List ℕ) (at taken next : ℕ) (rest : List ℕ) → rest ≡ drop at piece → at + taken ≡ next → take at piece ++ take taken rest ≡ take next piece
 taken_more piece at taken next rest e f = ap (λ z. take at piece ++ take taken z) e ∙ sym (take-add at taken piece) ∙ ap (λ n. take n piece) f
 
+-- ---- a connection that is open was open before
+
+pub opened_before : (old mid : ServerValue) (k : ℕ) → OpensAt old k mid → IsOpenAt (session_at mid k) → IsOpenAt (session_at old k)
+opened_before old mid k opens still = by (session_at old k) opens.held
+  where
+    by : (o : Option SessionValue) → IsSessionFor old.prefix o opens.session → IsOpenAt o
+    by None fresh = tt
+    by (Some held) same = subst sessions.IsOpen same (subst IsOpenAt opens.at still)
+
+pub open_within : (old new : ServerValue) (k : ℕ) (bytes text : List ℕ) → HasFed old k bytes text new → IsOpenAt (session_at new k) → IsOpenAt (session_at old k)
+open_within old new k bytes text f still =
+    let after : sessions.IsOpen f.after = subst IsOpenAt f.at still in
+    let before : sessions.IsOpen f.before = λ shut. after (f.feeds.closed shut).0 in
+    subst IsOpenAt (sym f.held) before
+
+-- so was one that was answered
+pub open_answered : (old new : ServerValue) (k : ℕ) (piece : List ℕ) (taken : ℕ) (text : Option (List ℕ)) → AnswersOne old k piece taken text new → IsSome text → IsOpenAt (session_at old k)
+open_answered old new k piece taken text t some = by (session_at old k) t.held
+  where
+    none_answered : (event : Option EventValue) (text : Option (List ℕ)) → AnswersIfAny old.cache event text new.cache → IsSome text → option_to_list event ≡ [] → ⊥
+    none_answered None None a s e = let none : false ≡ true = s in absurd cc
+    none_answered None (Some bytes) a s e = a
+    none_answered (Some event) text a s e = absurd cc
+
+    by : (o : Option SessionValue) → IsSessionFor old.prefix o t.before → IsOpenAt o
+    by None fresh = tt
+    by (Some held) same = subst sessions.IsOpen same (λ shut. none_answered t.event text t.answered some (t.takes.feeds.closed shut).1)
+
 -- ---- one answer
 
 pub one_answer : (old mid new : ServerValue) (k : ℕ) (piece : List ℕ) (taken : ℕ) (text : Option (List ℕ)) → OpensAt old k mid → AnswersOne mid k piece taken text new → AnswersOne old k piece taken text new

@@ -61,15 +61,18 @@ applied c ask =
     let out : ReplyValue × CacheState = step c.state ask in
     (out.0, record { state = out.1; counts = count_ask ask out.0.status c.counts })
 
--- What memory may be wanting for: a look-up that finds something, a result that has to be read, and
--- a change that is made. So a blob for which there is no room is refused, whatever memory there is.
+-- What memory may be wanting for: a look-up that finds something, a result that has to be read, a
+-- new blob with room, and a change of a pin. So a blob that is held, or for which there is no room,
+-- is answered whatever memory there is.
 abbrev pub MayWant : CacheState → AskValue → Type 0
 MayWant s (Get Ac hash) = IsSome (under hash s.results)
 MayWant s (Get Cas hash) = IsSome (bytes_given (machine.get_blob by_messages s hash).0)
 MayWant s (Get Pin hash) = ⊥
 MayWant s (Get Unpin hash) = ⊥
 MayWant s (Put Ac hash body) = ⊤
-MayWant s (Put Cas hash body) = (machine.put_blob by_messages s hash body).0 ≡ done
+MayWant s (Put Cas hash body) =
+    ((machine.put_blob by_messages s hash body).0 ≡ done)
+    × ((machine.get_blob by_messages s hash).0 ≡ nothing)
 MayWant s (Put Pin hash body) =
     (body ≡ []) × IsSomeAnd (under hash s.results) (λ r. r.pinned ≡ false)
 MayWant s (Put Unpin hash body) = (body ≡ []) × ((machine.unpin by_messages s hash).0 ≡ done)

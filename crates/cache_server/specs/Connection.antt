@@ -51,11 +51,13 @@ module _ (prefix : List ℕ) (old : CacheValue) (input input_left before after :
   Runs = (left : Option (List ℕ)) × RunsBut [] [] left × (IsAtEnd input_left ⊎ (left ≡ None))
 
   -- Where the reader failed all that was read is answered, and nothing in it closes; without memory
-  -- only whole answers are written, of requests that don't close, and not all.
+  -- only whole answers are written, of requests that don't close, and not all. The writer fails
+  -- where a request is answered.
   abbrev pub BreaksOff : ConnError → Type 0
   BreaksOff ReadFault = (begun : List ℕ) × RunsBut [] [] (Some begun)
   BreaksOff Memory =
       (rest : List ℕ) × (begun : List ℕ) × (runs : RunsBut rest [] (Some begun))
       × StopsShort runs.front rest
   BreaksOff WriteFault =
-      (rest : List ℕ) × (lost : List ℕ) × (left : Option (List ℕ)) × RunsBut rest lost left
+      (rest : List ℕ) × (lost : List ℕ) × (left : Option (List ℕ))
+      × (runs : RunsBut rest lost left) × (0 < length runs.answered.events)

@@ -1,4 +1,4 @@
-ghost use Rattle.std.specs.Prelude.{◌≡◌};
+ghost use Rattle.std.specs.Prelude.{◌≡◌, IsTrue, false};
 ghost use Rattle.http_core.specs.Reply.{reply_text};
 ghost use Rattle.cache_server.specs.Answer.{text_of};
 
@@ -17,11 +17,15 @@ pub struct Answer<A: Allocator> {
 
 impl<A: Allocator> Model for Answer<A> {
     ghost use Rattle.http_core.specs.Reply.{content_bytes};
-    ghost use Rattle.cache_server.specs.Answer.{AnswerValue};
+    ghost use Rattle.cache_server.specs.Answer.{AnswerValue, is_shared};
 
     ghost Value = { AnswerValue };
 
-    ghost view = { λ a. record { head = a.head; body = content_bytes a.body } };
+    ghost view = { λ a. record {
+      head = a.head;
+      body = content_bytes a.body;
+      shared = is_shared a.body;
+    } };
 }
 
 impl<A: Allocator> Answer<A> {
@@ -47,9 +51,11 @@ impl<A: Allocator> Answer<A> {
         self.body.as_slice()
     }
 
-    /// Whether the cache doesn't hold the body any more, or never did. Nothing is proved of it: no
-    /// contract can see who else holds shared bytes.
-    pub fn is_alone(&self) -> bool {
+    /// Whether the cache doesn't hold the body any more, or never did. Of a shared body nothing is
+    /// proved: no contract can see who else holds it.
+    pub fn is_alone(&self) -> bool
+        ensures { self.now.shared ≡ false → IsTrue result }
+    {
         match &self.body {
             Content::Own(_) => true,
             Content::Shared(bytes) => Rc::strong_count(bytes) <= 1,

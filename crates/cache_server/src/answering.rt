@@ -29,8 +29,8 @@ fn answer_all<A: Allocator + Copy, W: Write>(
     Ok(())
 }
 
-/// Answers the events, and flushes the answers; where memory is wanting, those that were written. A
-/// writer that has failed isn't flushed.
+/// Answers the events, if there are any, and flushes the answers; where memory is wanting, those
+/// that were written. A writer that has failed isn't flushed.
 pub(crate) fn answer_and_flush<A: Allocator + Copy, W: Write>(
     alloc: A,
     cache: &mut Cache<A>,
@@ -42,6 +42,9 @@ pub(crate) fn answer_and_flush<A: Allocator + Copy, W: Write>(
     ensures err { IfErr result (StopsTelling cache.old (map event_of events.items)
         (W.contents writer.old) (W.contents writer.new) cache.new) }
 {
+    if events.is_empty() {
+        return Ok(());
+    }
     match answer_all(alloc, cache, events, writer) {
         Ok(()) => match writer.flush() {
             Ok(()) => Ok(()),

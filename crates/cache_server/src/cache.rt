@@ -181,8 +181,8 @@ impl<A: Allocator + Copy> Cache<A> {
     }
 
     /// Does what is asked, and gives the reply. A blob isn't copied. An `Err` changes nothing, and
-    /// comes only where memory may be wanting: a blob for which there is no room is refused without
-    /// any.
+    /// comes only where memory may be wanting: a blob that is held, or for which there is no room,
+    /// is answered without any.
     pub fn apply(&mut self, alloc: A, ask: Ask<A>) -> Result<Reply<A>, AllocError>
         ensures ok { IfOk result (λ reply. applied self.old (ask_of ask) ≡ (reply, self.new)) }
         ensures err { OnErr result (self.new ≡ self.old) }

@@ -54,7 +54,7 @@ impl<A: Allocator + Copy> Server<A> {
     /// The answers to the next piece on the connection, which is a new one where none has the
     /// number. After an `Err` the connection is closed, or still unknown where there was no memory
     /// for its session, the answers are lost, and the cache is as some of the requests left it,
-    /// from the first on.
+    /// from the first on. One that is closed wants no memory.
     pub fn event(
         &mut self,
         alloc: A,
@@ -66,6 +66,7 @@ impl<A: Allocator + Copy> Server<A> {
             → AnswersTo self.old.prefix opening history (Piece connection piece.now) text.items) }
         ensures ok { OnOk result (LeadsTo self.old (Piece connection piece.now) self.new) }
         ensures err { OnErr result (LeadsToFailure self.old connection piece.now self.new) }
+        ensures memory { OnErr result (IsOpenAt (session_at self.old connection)) }
         ensures others { (j : ℕ) → (j ≡ connection → ⊥)
             → session_at self.new j ≡ session_at self.old j }
         ensures prefix { self.new.prefix ≡ self.old.prefix }
@@ -239,8 +240,9 @@ fn push_text<A: Allocator>(
     text: &mut Vec<u8, A>,
     answer: Option<Answer<A>>,
 ) -> Result<(), AllocError>
-    ensures { OnOk result
+    ensures text { OnOk result
         (text.new.items ≡ text.old.items ++ unwrap_or (option_map text_of answer) []) }
+    ensures memory { OnErr result (IsSome answer) }
 {
     let Some(answer) = answer else {
         return Ok(());

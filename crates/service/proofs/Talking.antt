@@ -1,8 +1,8 @@
 -- What is read of one connection and sent to it, as the server goes on.
-use Rattle.std.proofs.Common.{◌≡◌, ℕ, ◌≤◌, inl, inr, Bool, true, false, Option, Some, None, List, [], ◌∷◌, ◌++◌, take, drop, length, refl, sym, ◌∙◌, ap, subst, append_assoc, arith, ◌+◌, ◌-◌, length-take}
+use Rattle.std.proofs.Common.{◌≡◌, ℕ, inl, inr, Bool, true, false, Option, Some, None, List, [], ◌∷◌, ◌++◌, take, drop, refl, sym, ◌∙◌, ap, subst, append_assoc}
 use Rattle.std.specs.Prelude.{option_map}
 use Rattle.std.specs.Option.{unwrap_or}
-use Rattle.std.proofs.lemmas.List.{append-nil, length-append, length-drop, take-append-drop, take-append-le, drop-drop, drop_at, drop-append-le, take-take}
+use Rattle.std.proofs.lemmas.List.{append-nil, take-append-drop}
 use Rattle.std.specs.Prelude.{Ok, Err}
 use Rattle.http_core.specs.Event.{EventValue}
 use Rattle.http_core.specs.Session.{SessionValue, Closed, Reading}
@@ -138,34 +138,6 @@ module _ (prefix : List ℕ) (opening : CacheValue) (history : List HistoryEntry
 both_own : (k : ℕ) (some more : List HistoryEntry) → AreOf k some → AreOf k more → AreOf k (some ++ more)
 both_own k [] more t os = os
 both_own k (e ∷ some) more (o, ts) os = (o, both_own k some more ts os)
-
--- ---- what of an answer is sent
-
-pub drop_past : (s : ℕ) (head body : List ℕ) → length head ≤ s → drop s (head ++ body) ≡ drop (s - length head) body
-drop_past s head body h =
-    ap (λ (z : ℕ). drop z (head ++ body)) (let e : s ≡ length head + (s - length head) = omega arith in e)
-    ∙ sym (drop-drop (s - length head) (length head) (head ++ body)) ∙ ap (drop (s - length head)) (drop_at head body (length head) refl)
-
--- a front of what isn't sent of the body
-pub body_front : (count most s : ℕ) (head body : List ℕ) → length head ≤ s → count ≤ length (take most (drop (s - length head) body))
-    → take count (take most (drop (s - length head) body)) ≡ take count (drop s (head ++ body))
-body_front count most s head body h c =
-    let few : count ≤ most = omega (arith, length-take most (drop (s - length head) body)) in
-    take-take count most (drop (s - length head) body) few ∙ ap (take count) (sym (drop_past s head body h))
-
--- the rest of the head, and a front of the body
-pub head_front : (count most s : ℕ) (head body : List ℕ) → s ≤ length head → count ≤ length (drop s head ++ take most body)
-    → take count (drop s head ++ take most body) ≡ take count (drop s (head ++ body))
-head_front count most s head body h c =
-    sym (take-append-le count (drop s head ++ take most body) (drop most body) c)
-    ∙ ap (take count) (append_assoc (drop s head) (take most body) (drop most body) ∙ ap (λ (z : List ℕ). drop s head ++ z) (take-append-drop most body) ∙ sym (drop-append-le s head body h))
-
-pub whole_sent : (a : AnswerValue) (s : ℕ) → unsent_of (Some a) s ≡ [] → (length a.head ≤ s) × (length a.body ≤ s - length a.head)
-whole_sent a s e =
-    let n : length (drop s (a.head ++ a.body)) ≡ length (a.head ++ a.body) - s = length-drop s (a.head ++ a.body) in
-    let m : length (a.head ++ a.body) ≡ length a.head + length a.body = length-append a.head a.body in
-    let z : length (drop s (a.head ++ a.body)) ≡ 0 = ap length e in
-    (omega (arith, n, m, z), omega (arith, n, m, z))
 
 text_unsent : (answer : Option AnswerValue) → unwrap_or (option_map text_of answer) [] ≡ unsent_of answer 0
 text_unsent None = refl
@@ -307,9 +279,6 @@ module _ {S : Type 0} (spoke : ℕ → S → List ℕ → List ℕ → Type 0) (
   }
 
   -- ended, or with so much more sent
-  pub sends_lost : (count : ℕ) (before after : MemberValue S) → Stays spoke before.stream after.stream → PassesSent (Some (Err Memory)) spoke over count before after
-  sends_lost count before after stays = record { left = λ e. cc; unsent = λ e. cc; stays = stays; fails = inl refl }
-
   pub sends_over : (count : ℕ) (before after : MemberValue S) → Stays spoke before.stream after.stream → over after.stream (Failed WriteFault) → PassesSent (Some (Err WriteFault)) spoke over count before after
   sends_over count before after stays o = record { left = λ e. cc; unsent = λ e. cc; stays = stays; fails = inr o }
 

@@ -8,6 +8,7 @@ mod door;
 mod ending;
 mod epoll;
 mod error;
+mod lingering;
 mod listening;
 mod load;
 mod member;

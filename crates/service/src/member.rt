@@ -1,4 +1,5 @@
-ghost use Rattle.std.specs.Prelude.{◌≡◌, ◌↔◌, [], take, drop, IfErr, IfOk, IfSome, IsTrue, OnErr};
+ghost use Rattle.std.specs.Prelude.{◌≡◌, ◌↔◌, ◌<◌, ◌≤◌, [], length, take, drop, IfErr, IfOk, IfSome};
+ghost use Rattle.std.specs.Prelude.{IsTrue, None, OnErr};
 ghost use Rattle.cache_server.specs.Server.{IsOpenAt, session_at};
 ghost use Rattle.service.specs.Member.{EndsWell, MovesOn, Passes, PassesSent};
 ghost use Rattle.service.specs.Member.{end_of, new_member, unsent_of};
@@ -7,8 +8,9 @@ ghost use Rattle.service.specs.Talks.{IsReason};
 
 use crate::desk::Desk;
 use crate::error::finds_none;
+use crate::lingering::Lingering;
 use crate::load::{Leave, Load};
-use crate::part::{gather, next_of};
+use crate::part::{gather, next_of, sent_with};
 use crate::silence::was_silent;
 use crate::sockets::Peer;
 use crate::telling::Traffic;
@@ -28,21 +30,6 @@ const STEPS: u32 = 16;
 const PRESSED_TIME: u64 = 5_000;
 
 const HEAVY: u64 = 65_536;
-
-/// The most reads of what still comes after the last answer.
-const LAST_READS: u32 = 1024;
-
-/// How many milliseconds they last at most, and how long one of them waits.
-const LAST_TIME: u64 = 10_000;
-
-const LAST_WAIT: u64 = 2_000;
-
-/// What is left to do after the last answer.
-#[derive(Clone, Copy)]
-struct Lingering {
-    begun: u64,
-    reads: u32,
-}
 
 /// An open connection, one of many. Clauses see its stream, what was read and hasn't come to the
 /// server, and what of the answers isn't sent.
@@ -170,8 +157,7 @@ impl<S: Peer + Drop> Member<S> {
     /// one that holds much.
     pub(crate) fn deadline(&self, idle: Option<u64>, pressed: bool) -> Option<u64> {
         if let Some(lingering) = self.lingering {
-            let silent = self.moved.saturating_add(LAST_WAIT);
-            return Some(silent.min(lingering.begun.saturating_add(LAST_TIME)));
+            return Some(lingering.deadline(self.moved));
         }
         if self.is_held {
             return None;
@@ -294,6 +280,7 @@ impl<S: Peer + Drop> Member<S> {
         ensures unsent { self.new.unsent ≡ self.old.unsent }
         ensures sent { IfOk result (λ count.
             SendsTo S.spoke self.old.stream (take count self.old.unsent) self.new.stream) }
+        ensures within { IfOk result (λ count. count ≤ length self.old.unsent) }
         ensures fault { OnErr result (Stays S.spoke self.old.stream self.new.stream) }
         ensures end { IfOk result (λ count. count ≡ 0
             → S.over self.new.stream (Failed ConnError.WriteFault)) }
@@ -312,18 +299,18 @@ impl<S: Peer + Drop> Member<S> {
     }
 
     /// So much more of the answer is sent.
-    #[tactic(auto, using(crate::proofs::Talking::sends_lost, crate::proofs::Talking::sends_over, crate::proofs::Talking::sends_more))]
+    #[tactic(auto, using(crate::proofs::Talking::sends_over, crate::proofs::Talking::sends_more))]
     fn pass(&mut self, count: usize, now: u64) -> Turn
-        requires { count ≡ 0 → S.over self.old.stream (Failed ConnError.WriteFault) }
+        requires within { count ≤ length self.old.unsent }
+        requires over { count ≡ 0 → S.over self.old.stream (Failed ConnError.WriteFault) }
         ensures passes { PassesSent (end_of result) S.spoke S.over count self.old self.new }
         ensures none { count ≡ 0 → end_of result ≡ Some (Err ConnError.WriteFault) }
+        ensures some { 0 < count → end_of result ≡ None }
     {
-        let Some(sent) = self.sent.checked_add(count) else {
-            return Turn::Ends(Err(ConnError::Memory));
-        };
         if count == 0 {
             return Turn::Ends(Err(ConnError::WriteFault));
         }
+        let sent = sent_with(&self.answer, self.sent, count);
         self.traffic.written = self.traffic.written.saturating_add(count as u64);
         self.moved = now;
         self.sent = sent;
@@ -362,10 +349,7 @@ impl<S: Peer + Drop> Member<S> {
         ensures stays { Stays S.spoke self.old.stream self.new.stream }
     {
         self.stream.shut();
-        self.lingering = Some(Lingering {
-            begun: now,
-            reads: 0,
-        });
+        self.lingering = Some(Lingering::begin(now));
         self.readable = true;
     }
 
@@ -388,13 +372,10 @@ impl<S: Peer + Drop> Member<S> {
         match self.stream.discard(desk.buffer.as_mut_slice()) {
             Ok(0) => Turn::Ends(Ok(())),
             Ok(_) => {
-                if lingering.reads >= LAST_READS {
+                let Some(lingering) = lingering.read_again() else {
                     return Turn::Ends(Ok(()));
-                }
-                self.lingering = Some(Lingering {
-                    begun: lingering.begun,
-                    reads: lingering.reads + 1,
-                });
+                };
+                self.lingering = Some(lingering);
                 self.moved = now;
                 Turn::Again
             }

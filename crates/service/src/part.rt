@@ -1,5 +1,6 @@
 //! What of an answer is written next.
-ghost use Rattle.std.specs.Prelude.{◌≡◌, ◌++◌, take, drop, OnOk};
+ghost use Rattle.std.specs.Prelude.{◌≡◌, ◌+◌, ◌<◌, ◌≤◌, ◌++◌, length, take, drop, OnOk};
+ghost use Rattle.service.specs.Member.{unsent_of};
 
 use cache_server::Answer;
 use std::alloc::{AllocError, Global};
@@ -53,4 +54,18 @@ pub(crate) fn gather(
     gathered.extend_from_slice(after(answer.head(), sent))?;
     gathered.extend_from_slice(front_of(answer.body(), GATHERED))?;
     Ok(())
+}
+
+/// How many bytes of the answer are sent once so many more are, of those that weren't.
+#[tactic(auto, using(crate::proofs::Sending::sent_within))]
+pub(crate) fn sent_with(answer: &Option<Answer<Global>>, sent: usize, count: usize) -> usize
+    requires some { 0 < count }
+    requires within { count ≤ length (unsent_of answer.now sent) }
+    ensures { result ≡ sent + count }
+{
+    let Some(answer) = answer else {
+        return count;
+    };
+    let _whole = answer.head().len() + answer.body().len();
+    sent + count
 }

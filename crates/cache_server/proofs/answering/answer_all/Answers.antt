@@ -42,7 +42,7 @@ returns-in_err-write_answer-clause-err g c =
     let after = g.W.Write.contents c.write_answer.new.writer in
     let told = told_part c.args.cache.now c.loop-event.cache c.answer.new.self (map event_of c.args.events.items) (map event_of left) (event_of c.in-Some.event) (text_of c.in_ok-answer.answer) (g.W.Write.contents c.args.writer.now) now after on c.in_ok-answer.ensures.ok some in
     err_and (StopsTelling c.args.cache.now (map event_of c.args.events.items) (g.W.Write.contents c.args.writer.now) after c.answer.new.self) c.from_residual-in_err-write_answer.result c.in_err-write_answer.field-0.0 c.from_residual-in_err-write_answer.ensures.1
-    (subst (StopsTelling c.args.cache.now (map event_of c.args.events.items) (g.W.Write.contents c.args.writer.now) after c.answer.new.self) (sym c.in_err-write_answer.ensures.fault) (map event_of left, some.lost, told))
+    (subst (StopsTelling c.args.cache.now (map event_of c.args.events.items) (g.W.Write.contents c.args.writer.now) after c.answer.new.self) (sym c.in_err-write_answer.ensures.fault) (map event_of left, some.lost, told.0, told.1))
 
 nothing_left : {X : Type 0} (xs : List X) → length xs ≡ 0 → xs ≡ []
 nothing_left [] e = refl

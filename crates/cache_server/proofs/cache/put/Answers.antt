@@ -38,7 +38,7 @@ returns-else-not-is_empty-2-clause-ok g c =
 pub returns-in-Cas-clause-memory : goal.returns-in-Cas-clause-memory
 returns-in-Cas-clause-memory g c =
     wanting c.put_sealed.result c.status_of.result (MayWant c.args.store.now (Put c.args.area c.args.hash c.args.body)) c.status_of.ensures.err
-    (λ is. subst (λ a. MayWant c.args.store.now (Put a c.args.hash c.args.body)) (sym c.in-Cas.is) (c.put_sealed.ensures.memory is))
+    (λ is. subst (λ a. MayWant c.args.store.now (Put a c.args.hash c.args.body)) (sym c.in-Cas.is) (c.put_sealed.ensures.memory is, c.put_sealed.ensures.held is))
 
 pub returns-in-Ac-clause-memory : goal.returns-in-Ac-clause-memory
 returns-in-Ac-clause-memory g c =

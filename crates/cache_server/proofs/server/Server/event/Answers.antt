@@ -1,10 +1,11 @@
-use Rattle.std.proofs.Common.{◌≡◌, ◌+◌, Bool, true, false, [], ◌++◌, take, drop, refl, sym, ◌∙◌, subst, arith, Result, Ok, Err, OnOk}
+use Rattle.std.proofs.Common.{◌≡◌, ◌+◌, Bool, true, false, [], ◌++◌, take, drop, refl, sym, ◌∙◌, subst, arith, Option, Some, None, IsSome, Result, Ok, Err, OnOk, OnErr}
 use Rattle.std.specs.Prelude.{option_map, unwrap_or, is_err}
 use Rattle.std.proofs.lemmas.List.{take-append-drop, take_all}
-use Rattle.cache_server.specs.Answer.{text_of}
+use Rattle.cache_server.specs.Answer.{AnswerValue, text_of}
+use Rattle.cache_server.specs.Server.{IsOpenAt}
 use Rattle.cache_server.proofs.Serving.{on_err}
 use Rattle.cache_server.proofs.Standing.{HasFed, stands_closed}
-use Rattle.cache_server.proofs.Turning.{is_there, fed_none, fed_join, fed_turn, taken_more, opened_stands, opened_answers, opened_breaks}
+use Rattle.cache_server.proofs.Turning.{is_there, fed_none, fed_join, fed_turn, taken_more, opened_stands, opened_answers, opened_breaks, opened_before, open_within, open_answered}
 use Rattle.cache_server.proofs.server.Server.event.Goals as goal
 
 pub returns-in_err-open-clause-err : goal.returns-in_err-open-clause-err
@@ -35,7 +36,7 @@ loop-at-preserved g c =
     let bytes = taken_more c.args.piece.now at taken (at + taken) rest c.split_at.ensures.back refl in
     record {
       within = omega (arith, turn.takes.within, c.split_at.ensures.back_len);
-      fed = subst (λ z. HasFed c.open.new.self c.args.connection z c.push_text.new.text.items c.turn.new.self) bytes (subst (λ z. HasFed c.open.new.self c.args.connection (take at c.args.piece.now ++ take taken rest) z c.turn.new.self) (sym (was_pushed c.push_text.result c.is_err.result _ c.push_text.ensures c.is_err.ensures.value c.if-is_err.false)) fed);
+      fed = subst (λ z. HasFed c.open.new.self c.args.connection z c.push_text.new.text.items c.turn.new.self) bytes (subst (λ z. HasFed c.open.new.self c.args.connection (take at c.args.piece.now ++ take taken rest) z c.turn.new.self) (sym (was_pushed c.push_text.result c.is_err.result _ c.push_text.ensures.text c.is_err.ensures.value c.if-is_err.false)) fed);
     }
 
 pub returns-in_err-taken-clause-err : goal.returns-in_err-taken-clause-err
@@ -67,6 +68,31 @@ returns-clause-answers g c opening history stands =
     let whole : take c.loop-at.at c.args.piece.now ≡ c.args.piece.now = take_all c.loop-at.at c.args.piece.now (omega (arith, c.loop-at-test.false)) in
     opened_answers opening c.args.self.now c.open.new.self c.loop-at.self c.args.connection history c.in_ok-open.ensures.ok stands c.args.piece.now c.loop-at.text.items
     (subst (λ z. HasFed c.open.new.self c.args.connection z c.loop-at.text.items c.loop-at.self) whole c.loop-at.invariant.fed)
+
+-- ---- a closed connection wants no memory
+
+was_wanting : {T E : Type 0} (r : Result T E) (b : Bool) (P : Type 0) → OnErr r P → b ≡ is_err r → b ≡ true → P
+was_wanting (Ok x) b P p e f = let no : false ≡ true = sym e ∙ f in absurd cc
+was_wanting (Err d) b P p e f = p
+
+some_text : (o : Option AnswerValue) → IsSome o → IsSome (option_map text_of o)
+some_text None s = s
+some_text (Some answer) s = refl
+
+pub returns-in_err-open-clause-memory : goal.returns-in_err-open-clause-memory
+returns-in_err-open-clause-memory g c = on_err c.from_residual.result (subst IsOpenAt (sym c.in_err-open.ensures.none) tt)
+
+pub returns-in_err-taken-clause-memory : goal.returns-in_err-taken-clause-memory
+returns-in_err-taken-clause-memory g c =
+    on_err c.from_residual-in_err-taken.result (opened_before c.args.self.now c.open.new.self c.args.connection c.in_ok-open.ensures.ok
+    (open_within c.open.new.self c.loop-at.self c.args.connection (take c.loop-at.at c.args.piece.now) c.loop-at.text.items c.loop-at.invariant.fed c.in_err-taken.ensures.memory))
+
+pub returns-then-is_err-clause-memory : goal.returns-then-is_err-clause-memory
+returns-then-is_err-clause-memory g c =
+    let some = was_wanting c.push_text.result c.is_err.result (IsSome c.in_ok-taken.answer) c.push_text.ensures.memory c.is_err.ensures.value c.if-is_err.true in
+    opened_before c.args.self.now c.open.new.self c.args.connection c.in_ok-open.ensures.ok
+    (open_within c.open.new.self c.loop-at.self c.args.connection (take c.loop-at.at c.args.piece.now) c.loop-at.text.items c.loop-at.invariant.fed
+    (open_answered c.loop-at.self c.turn.new.self c.args.connection c.split_at.result.1.now c.in_ok-taken.taken (option_map text_of c.in_ok-taken.answer) c.in_ok-taken.ensures.ok (some_text c.in_ok-taken.answer some)))
 
 pub returns-in_err-open-clause-others : goal.returns-in_err-open-clause-others
 returns-in_err-open-clause-others g c = c.in_err-open.ensures.err.kept.others

@@ -1,7 +1,7 @@
 use Rattle.std.proofs.Common.{◌≡◌, length, sym, ◌∙◌, ap, arith}
 use Rattle.std.proofs.lemmas.Bool.{leb-true}
 use Rattle.service.specs.Member.{MemberValue, unsent_of}
-use Rattle.service.proofs.Talking.{whole_sent}
+use Rattle.service.proofs.Sending.{whole_sent}
 use Rattle.service.proofs.member.Member.is_sent.Goals as goal
 
 pub returns-else-self-head : goal.returns-else-self-head

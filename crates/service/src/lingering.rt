@@ -1,0 +1,53 @@
+//! What is left to do after the last answer.
+ghost use Rattle.std.specs.Prelude.{◌≡◌, ◌+◌, ◌<◌, ◌≤◌, min, IfSome, IfNone};
+
+/// The most reads of what still comes.
+const LAST_READS: u32 = 1024;
+
+/// How many milliseconds they last at most, and how long one of them waits.
+const LAST_TIME: u64 = 10_000;
+
+const LAST_WAIT: u64 = 2_000;
+
+/// When the writing side was ended, and how often more was read since.
+#[derive(Clone, Copy)]
+pub(crate) struct Lingering {
+    begun: u64,
+    reads: u32,
+}
+
+impl Lingering {
+    pub(crate) fn begin(now: u64) -> Lingering
+        ensures begun { result.begun ≡ now }
+        ensures reads { result.reads ≡ 0 }
+    {
+        Lingering {
+            begun: now,
+            reads: 0,
+        }
+    }
+
+    /// With one read more, unless it was the last.
+    pub(crate) fn read_again(&self) -> Option<Lingering>
+        ensures more { IfSome result (λ next.
+            (next.begun ≡ self.now.begun) × (next.reads ≡ self.now.reads + 1)) }
+        ensures few { IfSome result (λ next. next.reads ≤ 1024) }
+        ensures last { IfNone result (1024 ≤ self.now.reads) }
+    {
+        if self.reads >= LAST_READS {
+            return None;
+        }
+        Some(Lingering {
+            begun: self.begun,
+            reads: self.reads + 1,
+        })
+    }
+
+    /// When it is over, where a byte was moved last at this time.
+    pub(crate) fn deadline(&self, moved: u64) -> u64
+        ensures { result ≡ min (min (moved + 2000) (self.now.begun + 10000)) u64.MAX }
+    {
+        let silent = moved.saturating_add(LAST_WAIT);
+        silent.min(self.begun.saturating_add(LAST_TIME))
+    }
+}
