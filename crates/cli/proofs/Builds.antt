@@ -22,65 +22,58 @@ use Rattle.builder.specs.declared.telling.Told.{Told}
 use Rattle.builder.specs.declared.telling.Told.TheVariants.{Built, Failed}
 use Rattle.plan.specs.Values.{PlanValue}
 use Rattle.remote.specs.Line.{ConnectionValue}
-use Rattle.worker.specs.Outcomes.{Yields}
+use Rattle.worker.specs.Outcomes.{Yields, YieldsNoMore}
 use Rattle.worker.specs.declared.error.Refusal.TheVariants.{Run}
 use Rattle.worker.specs.declared.runner.RunError.TheVariants.{Device}
-use Rattle.cli.specs.Built.{HoldsRoot, IsReadOf, IsToldBy, IsToldOf, StartsBuild, TellsAsked, any_yields, jobs_asked}
+use Rattle.cli.specs.Built.{Below, HoldsRoot, IsReadOf, IsToldBy, IsToldOf, StartsBuild, TellsAsked, jobs_asked}
 use Rattle.cli.specs.declared.building.Asked.{Asked}
 use Rattle.cli.specs.Refused.{FailsBuild, FailsTelling, ReachesServer, StopsAtProcess, TellsProcess}
 use Rattle.cli.specs.Running.{EndsFor}
 use Rattle.cli.specs.declared.building.Stopped.{Stopped}
 use Rattle.cli.specs.Refused.FailsBuild.{in_memory, in_process, in_server}
 
-module _ (source : Telling → Type 0) (plan : PlanValue) (sources : DigestValue) (most : ℕ) (old new : Seen) (before : ∥ source old.store ∥₁) (after : ∥ source new.store ∥₁) (z : Yields) where
-  told_of : (r : Result (Told Global) (BuildPlanError Global)) → IsBuildTold z most plan sources old new r → IsToldBy source most plan sources r
-  told_of r h = record { before = old.store; before_is = before; after = new.store; after_is = after; is = told_within z any_yields most plan sources old new (λ l c p may. tt) r h }
-
-  pub told_as : (r it : Result (Told Global) (BuildPlanError Global)) → IsBuildTold z most plan sources old new r → r ≡ it → IsToldBy source most plan sources it
-  told_as r it h is = subst (IsToldBy source most plan sources) is (told_of r h)
+module _ (source : Telling → Type 0) (plan : PlanValue) (sources : DigestValue) (most : ℕ) (old new : Seen) (before : ∥ source old.store ∥₁) (after : ∥ source new.store ∥₁)
+    (z yields : Yields) (within : YieldsNoMore z yields) where
+  pub told_as : (r it : Result (Told Global) (BuildPlanError Global)) → IsBuildTold z most plan sources old new r → r ≡ it → IsToldBy source yields most plan sources it
+  told_as r it h is = subst (IsToldBy source yields most plan sources) is
+      (record { before = old.store; before_is = before; after = new.store; after_is = after; is = told_within z yields most plan sources old new within r h })
 
   -- a build ended for a process, and the error tells of it
   pub stops_of : (ended : BuildPlanError Global) (stopped : Stopped) (e : CommandError) (r : Result (Told Global) (BuildPlanError Global)) → IsBuildTold z most plan sources old new r
-      → r ≡ Err ended → EndsFor ended stopped → TellsProcess plan stopped.step (string_bytes stopped.program) stopped.cause e → StopsAtProcess source most plan sources e
+      → r ≡ Err ended → EndsFor ended stopped → TellsProcess plan stopped.step (string_bytes stopped.program) stopped.cause e → StopsAtProcess source yields most plan sources e
   stops_of ended stopped e r h err so told =
       let came : Result (Told Global) (BuildPlanError Global) = Err (Step (record { step = stopped.step; refusal = Run (Device stopped.program stopped.cause) })) in
       record { step = stopped.step; program = stopped.program; cause = stopped.cause; ended = told_as r came h (subst (λ x. r ≡ Err x) so err); told = told }
 
 -- by what another kind of source told
-by_source : {P Q : Telling → Type 0} → ((told : Telling) → P told → Q told) → (most : ℕ) (plan : PlanValue) (sources : DigestValue)
-    → (r : Result (Told Global) (BuildPlanError Global)) → IsToldBy P most plan sources r → IsToldBy Q most plan sources r
-by_source f most plan sources r h = record { before = h.before; before_is = ∥∥₁_map h.before_is (f h.before); after = h.after; after_is = ∥∥₁_map h.after_is (f h.after); is = h.is }
+module _ {P Q : Telling → Type 0} (f : (told : Telling) → P told → Q told) (below : Below) (work path : List ℕ) (at : work ≡ path) (most jobs : ℕ) (is : most ≡ jobs)
+    (plan : PlanValue) (sources : DigestValue) where
+  by_source : (r : Result (Told Global) (BuildPlanError Global)) → IsToldBy P (below work) most plan sources r → IsToldBy Q (below path) jobs plan sources r
+  by_source r h = subst (λ p. IsToldBy Q (below p) jobs plan sources r) at (subst (λ (n : ℕ). IsToldBy Q (below work) n plan sources r) is
+      (record { before = h.before; before_is = ∥∥₁_map h.before_is (f h.before); after = h.after; after_is = ∥∥₁_map h.after_is (f h.after); is = h.is }))
 
-root_by : {P Q : Telling → Type 0} → ((told : Telling) → P told → Q told) → (r : Told Global) → HoldsRoot P r → HoldsRoot Q r
-root_by f (Built line noted directories) h = (h.0, ∥∥₁_map h.1 (f h.0), h.2)
-root_by f (Failed line why) h = h
+  root_by : (r : Told Global) → HoldsRoot P r → HoldsRoot Q r
+  root_by (Built line noted directories) h = (h.0, ∥∥₁_map h.1 (f h.0), h.2)
+  root_by (Failed line why) h = h
 
-pub told_by : {P Q : Telling → Type 0} → ((told : Telling) → P told → Q told) → (most : ℕ) (plan : PlanValue) (sources : DigestValue)
-    → (r : Told Global) → IsToldOf P most plan sources r → IsToldOf Q most plan sources r
-told_by f most plan sources r h = (by_source f most plan sources (Ok r) h.0, root_by f r h.1)
+  pub told_by : (r : Told Global) → IsToldOf P (below work) most plan sources r → IsToldOf Q (below path) jobs plan sources r
+  told_by r h = (by_source (Ok r) h.0, root_by r h.1)
 
-stops_by : {P Q : Telling → Type 0} → ((told : Telling) → P told → Q told) → (most jobs : ℕ) → most ≡ jobs → (plan : PlanValue) (sources : DigestValue)
-    → (e : CommandError) → StopsAtProcess P most plan sources e → StopsAtProcess Q jobs plan sources e
-stops_by {P} {Q} f most jobs is plan sources e h =
-    let came : Result (Told Global) (BuildPlanError Global) = Err (Step (record { step = h.step; refusal = Run (Device h.program h.cause) })) in
-    record {
-      step = h.step;
-      program = h.program;
-      cause = h.cause;
-      ended = subst (λ (n : ℕ). IsToldBy Q n plan sources came) is (by_source f most plan sources came h.ended);
-      told = h.told;
-    }
+  pub stops_by : (e : CommandError) → StopsAtProcess P (below work) most plan sources e → StopsAtProcess Q (below path) jobs plan sources e
+  stops_by e h =
+      let came : Result (Told Global) (BuildPlanError Global) = Err (Step (record { step = h.step; refusal = Run (Device h.program h.cause) })) in
+      record { step = h.step; program = h.program; cause = h.cause; ended = by_source came h.ended; told = h.told }
 
 -- the server was at fault, or memory ran out
-pub over_fails : (start : ConnectionValue) (address : List ℕ) (most : ℕ) (plan : PlanValue) (sources : DigestValue) (e : CommandError)
-    → OrMemory (λ x. ∥ FailsOver start address x ∥₁) e → FailsTelling start address most plan sources e
-over_fails start address most plan sources e (inl memory) = inl memory
-over_fails start address most plan sources e (inr over) = inr (inr over)
+pub over_fails : (start : ConnectionValue) (address : List ℕ) (yields : Yields) (most : ℕ) (plan : PlanValue) (sources : DigestValue) (e : CommandError)
+    → OrMemory (λ x. ∥ FailsOver start address x ∥₁) e → FailsTelling start address yields most plan sources e
+over_fails start address yields most plan sources e (inl memory) = inl memory
+over_fails start address yields most plan sources e (inr over) = inr (inr over)
 
-module _ (sees : Sight) (options : List Row) where
+module _ (sees : Sight) (below : Below) (options : List Row) where
   module _ (asked : Asked) (read : IsReadOf sees options asked) where
     -- the server couldn't be reached
-    pub connect_fails : (e : CommandError) → OrMemory (FailsToConnect sees (string_bytes asked.server.address)) e → FailsBuild sees options e
+    pub connect_fails : (e : CommandError) → OrMemory (FailsToConnect sees (string_bytes asked.server.address)) e → FailsBuild sees below options e
     connect_fails e (inl memory) = in_memory memory
     connect_fails e (inr fails) = in_server asked.plan asked.sources read.asks ∣ inl (subst (λ a. FailsToConnect sees a e) read.server.address fails) ∣₁
 
@@ -96,17 +89,20 @@ module _ (sees : Sight) (options : List Row) where
         by = of_options sees options asked.server start read.server opened
 
         -- what was told is of a build of what was asked for
-        pub tells_of : (told : Told Global) → IsToldOf (IsToldOver start) asked.jobs asked.plan asked.sources told → TellsAsked sees options told
+        pub tells_of : (told : Told Global) → IsToldOf (IsToldOver start) (below (string_bytes asked.work)) asked.jobs asked.plan asked.sources told
+            → TellsAsked sees below options told
         tells_of told is = record {
           plan = asked.plan;
           sources = asked.sources;
           starts = starts;
-          tells = subst (λ (n : ℕ). IsToldOf (IsOfOptions sees options) n asked.plan asked.sources told) read.jobs (told_by by asked.jobs asked.plan asked.sources told is);
+          tells = told_by by below (string_bytes asked.work) (option_text options (codes "work")) read.work asked.jobs (jobs_asked options) read.jobs asked.plan asked.sources told is;
         }
 
         -- or while the build was told there was a fault
-        pub telling_fails : (e : CommandError) → FailsTelling start (string_bytes asked.server.address) asked.jobs asked.plan asked.sources e → FailsBuild sees options e
+        pub telling_fails : (e : CommandError)
+            → FailsTelling start (string_bytes asked.server.address) (below (string_bytes asked.work)) asked.jobs asked.plan asked.sources e → FailsBuild sees below options e
         telling_fails e (inl memory) = in_memory memory
-        telling_fails e (inr (inl process)) = in_process asked.plan asked.sources starts (stops_by by asked.jobs (jobs_asked options) read.jobs asked.plan asked.sources e process)
+        telling_fails e (inr (inl process)) = in_process asked.plan asked.sources starts
+            (stops_by by below (string_bytes asked.work) (option_text options (codes "work")) read.work asked.jobs (jobs_asked options) read.jobs asked.plan asked.sources e process)
         telling_fails e (inr (inr over)) = in_server asked.plan asked.sources read.asks
             (∥∥₁_map over (λ fails. inr (start, opened_to sees options asked.server start read.server opened, subst (λ a. FailsOver start a e) read.server.address fails)))

@@ -6,7 +6,7 @@ use Rattle.std.proofs.lemmas.Bool.{iff_false}
 use Rattle.clap.specs.Words.{Row, Text}
 use Rattle.verifier.specs.Verdict.{IsYes}
 use Rattle.command_lines.specs.CommandLine.{CallsCommand, options_of}
-use Rattle.cli.specs.Built.{BeginsBuild, PrintsBuild}
+use Rattle.cli.specs.Built.{BeginsBuild, Below, PrintsBuild}
 use Rattle.cli.specs.Refused.{FailsBuild}
 use Rattle.cli.specs.Ended.{BeginsAsked, EndsNo, Fails, IsDone}
 use Rattle.cli.specs.Ended.BeginsAsked.{built as build_begun, got as get_begun, put as put_begun, served as serve_begun, verified as verify_begun}
@@ -49,50 +49,51 @@ none_called (Some p) called name is none_found named = cc
 abbrev pub IsAnswer : Sight → List Row → Option (List ℕ) → Option (List ℕ) → Ended → Type 0
 IsAnswer sees rows old new ended = (prints : PrintsVerdict sees rows old new) × (IsTrue (is_done ended) ↔ IsYes prints.verdict)
 
-module _ {sees : Sight} (words : List Text) {rows : List Row} (is : rows ≡ options_of words) where
+module _ {sees : Sight} (below : Below) (words : List Text) {rows : List Row} (is : rows ≡ options_of words) where
   pub verify_ends : {old new : Option (List ℕ)} (ended : Ended) → CallsCommand words (codes "verify") → IsAnswer sees rows old new ended
-      → NotesStore sees rows ended → Ends sees words old new ended
+      → NotesStore sees rows ended → Ends sees below words old new ended
   verify_ends {old} {new} Done called h noted = let said = subst (λ (o : List Row). IsAnswer sees o old new Done) is h in yes called said.0 (said.1.0 refl)
   verify_ends {old} {new} (No note) called h noted =
       let said = subst (λ (o : List Row). IsAnswer sees o old new (No note)) is h in
       no called said.0 (iff_false said.1 refl) (subst (λ (o : List Row). NotesStore sees o (No note)) is noted)
 
-  pub get_ends : {old new : Option (List ℕ)} (ended : Ended) → CallsCommand words (codes "get") → GetsAsked sees rows old new ended → Ends sees words old new ended
+  pub get_ends : {old new : Option (List ℕ)} (ended : Ended) → CallsCommand words (codes "get") → GetsAsked sees rows old new ended → Ends sees below words old new ended
   get_ends {old} {new} Done called h = got called (subst (λ (o : List Row). GetsAsked sees o old new Done) is h)
   get_ends {old} {new} (No note) called h = none called (subst (λ (o : List Row). GetsAsked sees o old new (No note)) is h)
 
-  pub build_ends : {old new : Option (List ℕ)} (ended : Ended) → CallsCommand words (codes "build") → PrintsBuild sees rows old new ended → Ends sees words old new ended
-  build_ends {old} {new} Done called h = built called (subst (λ (o : List Row). PrintsBuild sees o old new Done) is h)
-  build_ends {old} {new} (No note) called h = failed called (subst (λ (o : List Row). PrintsBuild sees o old new (No note)) is h)
+module _ {sees : Sight} {below : Below} (words : List Text) {rows : List Row} (is : rows ≡ options_of words) where
+  pub build_ends : {old new : Option (List ℕ)} (ended : Ended) → CallsCommand words (codes "build") → PrintsBuild sees below rows old new ended → Ends sees below words old new ended
+  build_ends {old} {new} Done called h = built called (subst (λ (o : List Row). PrintsBuild sees below o old new Done) is h)
+  build_ends {old} {new} (No note) called h = failed called (subst (λ (o : List Row). PrintsBuild sees below o old new (No note)) is h)
 
-  pub verify_begins : {old new : Option (List ℕ)} → CallsCommand words (codes "verify") → BeginsVerdict sees rows old new → PrintsNoLine old new → BeginsAsked sees words old new
+  pub verify_begins : {old new : Option (List ℕ)} → CallsCommand words (codes "verify") → BeginsVerdict sees rows old new → PrintsNoLine old new → BeginsAsked sees below words old new
   verify_begins {old} {new} called h unended = verify_begun called (subst (λ (o : List Row). BeginsVerdict sees o old new) is h) unended
 
-  pub get_begins : {old new : Option (List ℕ)} → CallsCommand words (codes "get") → GetsPart sees rows old new → BeginsAsked sees words old new
+  pub get_begins : {old new : Option (List ℕ)} → CallsCommand words (codes "get") → GetsPart sees rows old new → BeginsAsked sees below words old new
   get_begins {old} {new} called h = get_begun called (subst (λ (o : List Row). GetsPart sees o old new) is h)
 
-  pub put_begins : {old new : Option (List ℕ)} → CallsCommand words (codes "put") → BeginsDigest sees rows old new → BeginsAsked sees words old new
+  pub put_begins : {old new : Option (List ℕ)} → CallsCommand words (codes "put") → BeginsDigest sees rows old new → BeginsAsked sees below words old new
   put_begins {old} {new} called h = put_begun called (subst (λ (o : List Row). BeginsDigest sees o old new) is h)
 
-  pub serve_begins : {old new : Option (List ℕ)} → CallsCommand words (codes "serve") → BeginsListening sees rows old new → BeginsAsked sees words old new
+  pub serve_begins : {old new : Option (List ℕ)} → CallsCommand words (codes "serve") → BeginsListening sees rows old new → BeginsAsked sees below words old new
   serve_begins {old} {new} called h = serve_begun called (subst (λ (o : List Row). BeginsListening sees o old new) is h)
 
-  pub build_begins : {old new : Option (List ℕ)} → CallsCommand words (codes "build") → BeginsBuild sees rows old new → BeginsAsked sees words old new
-  build_begins {old} {new} called h = build_begun called (subst (λ (o : List Row). BeginsBuild sees o old new) is h)
+  pub build_begins : {old new : Option (List ℕ)} → CallsCommand words (codes "build") → BeginsBuild sees below rows old new → BeginsAsked sees below words old new
+  build_begins {old} {new} called h = build_begun called (subst (λ (o : List Row). BeginsBuild sees below o old new) is h)
 
-  pub verify_fails : (e : CommandError) → CallsCommand words (codes "verify") → FailsVerify sees rows e → Fails sees words e
+  pub verify_fails : (e : CommandError) → CallsCommand words (codes "verify") → FailsVerify sees rows e → Fails sees below words e
   verify_fails e called h = in_verify called (subst (λ (o : List Row). FailsVerify sees o e) is h)
 
-  pub build_fails : (e : CommandError) → CallsCommand words (codes "build") → FailsBuild sees rows e → Fails sees words e
-  build_fails e called h = in_build called (subst (λ (o : List Row). FailsBuild sees o e) is h)
+  pub build_fails : (e : CommandError) → CallsCommand words (codes "build") → FailsBuild sees below rows e → Fails sees below words e
+  build_fails e called h = in_build called (subst (λ (o : List Row). FailsBuild sees below o e) is h)
 
-  pub put_fails : (e : CommandError) → CallsCommand words (codes "put") → FailsPut sees rows e → Fails sees words e
+  pub put_fails : (e : CommandError) → CallsCommand words (codes "put") → FailsPut sees rows e → Fails sees below words e
   put_fails e called h = in_put called (subst (λ (o : List Row). FailsPut sees o e) is h)
 
-  pub get_fails : (e : CommandError) → CallsCommand words (codes "get") → FailsGet sees rows e → Fails sees words e
+  pub get_fails : (e : CommandError) → CallsCommand words (codes "get") → FailsGet sees rows e → Fails sees below words e
   get_fails e called h = in_get called (subst (λ (o : List Row). FailsGet sees o e) is h)
 
-  pub serve_fails : (e : CommandError) → CallsCommand words (codes "serve") → FailsServe sees rows e → Fails sees words e
+  pub serve_fails : (e : CommandError) → CallsCommand words (codes "serve") → FailsServe sees rows e → Fails sees below words e
   serve_fails e called h = in_serve called (subst (λ (o : List Row). FailsServe sees o e) is h)
 
 not_less : (k : ℕ) → 2 + k < 2 → ⊥
@@ -152,12 +153,12 @@ module _ (status : ℕ) (old new : Option (List ℕ)) where
   ends_quiet Done h zero = h.1
   ends_quiet (No _) h zero = absurd (zero_or_one status zero h.0)
 
-  pub ends_done : (sees : Sight) (words : List Text) (a b : Option (List ℕ)) (ended : Ended) → Ends sees words a b ended → TellsEnd ended status old new
-      → status ≡ 0 → IsDone sees words a b
-  ends_done sees words a b Done ends h zero = ends
-  ends_done sees words a b (No _) ends h zero = absurd (zero_or_one status zero h.0)
+  pub ends_done : (sees : Sight) (below : Below) (words : List Text) (a b : Option (List ℕ)) (ended : Ended) → Ends sees below words a b ended → TellsEnd ended status old new
+      → status ≡ 0 → IsDone sees below words a b
+  ends_done sees below words a b Done ends h zero = ends
+  ends_done sees below words a b (No _) ends h zero = absurd (zero_or_one status zero h.0)
 
-  pub ends_no : (sees : Sight) (words : List Text) (a b : Option (List ℕ)) (ended : Ended) → Ends sees words a b ended → TellsEnd ended status old new
-      → status ≡ 1 → EndsNo sees words a b old new
-  ends_no sees words a b Done ends h one = absurd (zero_or_one status h.0 one)
-  ends_no sees words a b (No note) ends h one = record { note = note; no = ends; told = h.1 }
+  pub ends_no : (sees : Sight) (below : Below) (words : List Text) (a b : Option (List ℕ)) (ended : Ended) → Ends sees below words a b ended → TellsEnd ended status old new
+      → status ≡ 1 → EndsNo sees below words a b old new
+  ends_no sees below words a b Done ends h one = absurd (zero_or_one status h.0 one)
+  ends_no sees below words a b (No note) ends h one = record { note = note; no = ends; told = h.1 }

@@ -27,9 +27,9 @@ use Rattle.text_verifier.specs.Texts.{IsDigestText}
 use Rattle.worker.specs.Outcomes.{HasAllRight, Yields}
 use Rattle.worker.specs.Values.{blobs_of}
 
--- a runner that may yield anything: what its processes come to isn't said here
-abbrev pub any_yields : Yields
-any_yields l c p = Unit {0}
+-- what may come of a step whose process runs below a folder
+abbrev pub Below : Type 1
+Below = List ℕ → Yields
 
 -- such a source told each Directory that was made for the root of a build that came to it
 abbrev pub HoldsRoot : (Telling → Type 0) → Told Global → Type 0
@@ -37,20 +37,22 @@ HoldsRoot source (Built line noted directories) = (told : Telling) × (∥ sourc
     × HasAllRight told.blobs (blobs_of directories.items)
 HoldsRoot source (Failed line why) = Unit {0}
 
--- By what such a source told before and after, this is told of a build of the plan, at most so many
--- jobs running after each call: of the root, which is answered yes, or of the refusal that stands.
-pub record IsToldBy (source : Telling → Type 0) (most : ℕ) (plan : PlanValue)
+-- By what such a source told before and after, and such steps, this is told of a build of the plan,
+-- at most so many jobs running after each call: of the root, which is answered yes, or of the
+-- refusal that stands.
+pub record IsToldBy (source : Telling → Type 0) (yields : Yields) (most : ℕ) (plan : PlanValue)
     (sources : DigestValue) (told : Result (Told Global) (BuildPlanError Global)) : Type 0 where
   pub before : Telling
   pub before_is : ∥ source before ∥₁
   pub after : Telling
   pub after_is : ∥ source after ∥₁
-  pub is : IsBuildTold any_yields most plan sources (store_alone before) (store_alone after) told
+  pub is : IsBuildTold yields most plan sources (store_alone before) (store_alone after) told
 
 -- and the Directories of the root are there
-abbrev pub IsToldOf : (Telling → Type 0) → ℕ → PlanValue → DigestValue → Told Global → Type 0
-IsToldOf source most plan sources told =
-    IsToldBy source most plan sources (Ok told) × HoldsRoot source told
+abbrev pub IsToldOf : (Telling → Type 0) → Yields → ℕ → PlanValue → DigestValue → Told Global
+    → Type 0
+IsToldOf source yields most plan sources told =
+    IsToldBy source yields most plan sources (Ok told) × HoldsRoot source told
 
 -- done where it came to its root; else no, with why as its note
 abbrev pub ended_of : Told Global → Ended
@@ -102,24 +104,26 @@ pub record StartsBuild (sees : Sight) (options : List Row) (plan : PlanValue)
   pub record_fits : sees.takes (option_text options (codes "record"))
 
 -- What was told is of a build of that, with as many jobs at once as the options say, by what their
--- server told.
-pub record TellsAsked (sees : Sight) (options : List Row) (told : Told Global) : Type 0 where
+-- server told, and by steps that ran below their folder.
+pub record TellsAsked (sees : Sight) (below : Below) (options : List Row) (told : Told Global)
+    : Type 0 where
   pub plan : PlanValue
   pub sources : DigestValue
   pub starts : StartsBuild sees options plan sources
-  pub tells : IsToldOf (IsOfOptions sees options) (jobs_asked options) plan sources told
+  pub tells : IsToldOf (IsOfOptions sees options) (below (option_text options (codes "work")))
+      (jobs_asked options) plan sources told
 
 -- Its line was printed, and where it came to its root its record written.
-pub record PrintsBuild (sees : Sight) (options : List Row) (old new : Option (List ℕ))
-    (ended : Ended) : Type 0 where
+pub record PrintsBuild (sees : Sight) (below : Below) (options : List Row)
+    (old new : Option (List ℕ)) (ended : Ended) : Type 0 where
   pub told : Told Global
-  pub tells : TellsAsked sees options told
+  pub tells : TellsAsked sees below options told
   pub noted : IsNoted sees options told
   pub is : ended ≡ ended_of told
   pub printed : Appends old new (told_line told)
 
 -- Nothing was printed, or a beginning of the line of what was told, whose record was written.
-abbrev pub BeginsBuild : Sight → List Row → Option (List ℕ) → Option (List ℕ) → Type 0
-BeginsBuild sees options old new = (new ≡ old)
-    ⊎ ((told : Told Global) × TellsAsked sees options told × IsNoted sees options told
+abbrev pub BeginsBuild : Sight → Below → List Row → Option (List ℕ) → Option (List ℕ) → Type 0
+BeginsBuild sees below options old new = (new ≡ old)
+    ⊎ ((told : Told Global) × TellsAsked sees below options told × IsNoted sees options told
     × AppendsBeginning old new (told_line told))

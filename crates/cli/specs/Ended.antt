@@ -6,7 +6,7 @@ use Rattle.clap.specs.declared.error.kind.ErrorKind.{ErrorKind}
 use Rattle.clap.specs.declared.error.kind.ErrorKind.TheVariants.{DisplayHelp, DisplayVersion}
 use Rattle.command_lines.specs.CommandLine.{CallsCommand, options_of, program_line}
 use Rattle.verifier.specs.Verdict.{IsYes}
-use Rattle.cli.specs.Built.{BeginsBuild, PrintsBuild}
+use Rattle.cli.specs.Built.{BeginsBuild, Below, PrintsBuild}
 use Rattle.cli.specs.Help.{help_asked, version_line}
 use Rattle.cli.specs.Refused.{FailsBuild}
 use Rattle.commands.specs.Printed.{BeginsDigest, BeginsListening, BeginsVerdict, GetsAsked}
@@ -43,54 +43,57 @@ pub data BeginsShown (words : List Text) (old new : Option (List ℕ)) : Type 0 
 
 -- The line of a yes was printed, or a blob, or the line of the digest of what was put, or that of
 -- the address where connections were served, or that of a build's root, or the help or the version.
-pub data IsDone (sees : Sight) (words : List Text) (old new : Option (List ℕ)) : Type 0 where
+pub data IsDone (sees : Sight) (below : Below) (words : List Text) (old new : Option (List ℕ))
+    : Type 0 where
   yes : CallsCommand words (codes "verify")
       → (prints : PrintsVerdict sees (options_of words) old new) → IsYes prints.verdict
-      → IsDone sees words old new
+      → IsDone sees below words old new
   got : CallsCommand words (codes "get") → GetsAsked sees (options_of words) old new Done
-      → IsDone sees words old new
+      → IsDone sees below words old new
   put : CallsCommand words (codes "put") → PrintsDigest sees (options_of words) old new
-      → IsDone sees words old new
+      → IsDone sees below words old new
   served : CallsCommand words (codes "serve") → ServesAsked sees (options_of words) old new
-      → IsDone sees words old new
-  built : CallsCommand words (codes "build") → PrintsBuild sees (options_of words) old new Done
-      → IsDone sees words old new
-  shown : ShowsAsked words old new → IsDone sees words old new
+      → IsDone sees below words old new
+  built : CallsCommand words (codes "build")
+      → PrintsBuild sees below (options_of words) old new Done → IsDone sees below words old new
+  shown : ShowsAsked words old new → IsDone sees below words old new
 
 -- The line of a no was printed, or nothing since there is no such blob, or the line of a build's
 -- refusal. The note is of a store folder that isn't there, that there is no such blob, or why.
-pub data IsNo (sees : Sight) (words : List Text) (note : Option Note) (old new : Option (List ℕ))
-    : Type 0 where
+pub data IsNo (sees : Sight) (below : Below) (words : List Text) (note : Option Note)
+    (old new : Option (List ℕ)) : Type 0 where
   no : CallsCommand words (codes "verify")
       → (prints : PrintsVerdict sees (options_of words) old new) → ¬ IsYes prints.verdict
-      → NotesStore sees (options_of words) (No note) → IsNo sees words note old new
+      → NotesStore sees (options_of words) (No note) → IsNo sees below words note old new
   none : CallsCommand words (codes "get") → GetsAsked sees (options_of words) old new (No note)
-      → IsNo sees words note old new
+      → IsNo sees below words note old new
   failed : CallsCommand words (codes "build")
-      → PrintsBuild sees (options_of words) old new (No note) → IsNo sees words note old new
+      → PrintsBuild sees below (options_of words) old new (No note)
+      → IsNo sees below words note old new
 
 -- with its note on standard error
-pub record EndsNo (sees : Sight) (words : List Text) (old new old_err new_err : Option (List ℕ))
-    : Type 0 where
+pub record EndsNo (sees : Sight) (below : Below) (words : List Text)
+    (old new old_err new_err : Option (List ℕ)) : Type 0 where
   pub note : Option Note
-  pub no : IsNo sees words note old new
+  pub no : IsNo sees below words note old new
   pub told : TellsNoteOf note old_err new_err
 
 -- ---- why they come to neither
 
 -- That was begun, or what the called command answers: of `verify` no line is whole.
-pub data BeginsAsked (sees : Sight) (words : List Text) (old new : Option (List ℕ)) : Type 0 where
-  shown : BeginsShown words old new → BeginsAsked sees words old new
+pub data BeginsAsked (sees : Sight) (below : Below) (words : List Text)
+    (old new : Option (List ℕ)) : Type 0 where
+  shown : BeginsShown words old new → BeginsAsked sees below words old new
   verified : CallsCommand words (codes "verify") → BeginsVerdict sees (options_of words) old new
-      → PrintsNoLine old new → BeginsAsked sees words old new
+      → PrintsNoLine old new → BeginsAsked sees below words old new
   got : CallsCommand words (codes "get") → GetsPart sees (options_of words) old new
-      → BeginsAsked sees words old new
+      → BeginsAsked sees below words old new
   put : CallsCommand words (codes "put") → BeginsDigest sees (options_of words) old new
-      → BeginsAsked sees words old new
+      → BeginsAsked sees below words old new
   served : CallsCommand words (codes "serve") → BeginsListening sees (options_of words) old new
-      → BeginsAsked sees words old new
-  built : CallsCommand words (codes "build") → BeginsBuild sees (options_of words) old new
-      → BeginsAsked sees words old new
+      → BeginsAsked sees below words old new
+  built : CallsCommand words (codes "build") → BeginsBuild sees below (options_of words) old new
+      → BeginsAsked sees below words old new
 
 -- the words are at fault, with more than to ask for help or the version
 pub record HasFault (words : List Text) : Type 0 where
@@ -118,23 +121,23 @@ pub data FailsInWords (words : List Text) (e : CommandError) : Type 0 where
   in_version : WantsVersion words → IsPrintFault e → FailsInWords words e
 
 -- The words are at fault, or else the command that they call has this as its first fault.
-pub data Fails (sees : Sight) (words : List Text) (e : CommandError) : Type 0 where
-  in_words : FailsInWords words e → Fails sees words e
+pub data Fails (sees : Sight) (below : Below) (words : List Text) (e : CommandError) : Type 0 where
+  in_words : FailsInWords words e → Fails sees below words e
   in_verify : CallsCommand words (codes "verify") → FailsVerify sees (options_of words) e
-      → Fails sees words e
-  in_build : CallsCommand words (codes "build") → FailsBuild sees (options_of words) e
-      → Fails sees words e
+      → Fails sees below words e
+  in_build : CallsCommand words (codes "build") → FailsBuild sees below (options_of words) e
+      → Fails sees below words e
   in_put : CallsCommand words (codes "put") → FailsPut sees (options_of words) e
-      → Fails sees words e
+      → Fails sees below words e
   in_get : CallsCommand words (codes "get") → FailsGet sees (options_of words) e
-      → Fails sees words e
+      → Fails sees below words e
   in_serve : CallsCommand words (codes "serve") → FailsServe sees (options_of words) e
-      → Fails sees words e
+      → Fails sees below words e
 
 -- an error with this status is why, and its line was told
-pub record EndsRefused (sees : Sight) (words : List Text) (status : ℕ)
+pub record EndsRefused (sees : Sight) (below : Below) (words : List Text) (status : ℕ)
     (old new : Option (List ℕ)) : Type 0 where
   pub error : CommandError
-  pub why : Fails sees words error
+  pub why : Fails sees below words error
   pub status_is : exit_status error ≡ status
   pub told : TellsOf error old new

@@ -30,12 +30,13 @@ use Rattle.plan.specs.Values.{PlanValue}
 use Rattle.remote.specs.Line.{ConnectionValue}
 use Rattle.remote.specs.declared.files.FileError.{FileError}
 use Rattle.text_verifier.specs.Refused.{IsSpelled}
+use Rattle.worker.specs.Outcomes.{Yields}
 use Rattle.worker.specs.declared.error.Refusal.TheVariants.{Run}
 use Rattle.worker.specs.declared.failure.Cause.{Cause}
 use Rattle.worker.specs.declared.failure.Cause.TheVariants as causes
 use Rattle.worker.specs.declared.runner.RunError.TheVariants.{Device}
-use Rattle.cli.specs.Built.{AsksBuild, IsNoted, IsToldBy, StartsBuild, TellsAsked, build_words}
-use Rattle.cli.specs.Built.{ended_of, jobs_asked}
+use Rattle.cli.specs.Built.{AsksBuild, Below, IsNoted, IsToldBy, StartsBuild, TellsAsked}
+use Rattle.cli.specs.Built.{build_words, ended_of, jobs_asked}
 
 -- the folder at this path has something in it
 pub record HasEntries (sees : Sight) (path : List ℕ) (e : CommandError) : Type 0 where
@@ -69,23 +70,23 @@ TellsProcess plan step program cause (Process fault) =
     × (string_bytes fault.program ≡ program) × (fault.cause ≡ process_cause cause)
 TellsProcess plan step program cause _ = ⊥
 
--- By what such a source told, a build of the plan ended at a step, of which a process of this
--- program came to nothing for this cause. The error tells all three.
-pub record StopsAtProcess (source : Telling → Type 0) (most : ℕ) (plan : PlanValue)
-    (sources : DigestValue) (e : CommandError) : Type 0 where
+-- By what such a source told, and such steps, a build of the plan ended at a step, of which a
+-- process of this program came to nothing for this cause. The error tells all three.
+pub record StopsAtProcess (source : Telling → Type 0) (yields : Yields) (most : ℕ)
+    (plan : PlanValue) (sources : DigestValue) (e : CommandError) : Type 0 where
   pub step : ℕ
   pub program : String Global
   pub cause : Cause
-  pub ended : IsToldBy source most plan sources
+  pub ended : IsToldBy source yields most plan sources
       (Err (errors.Step (record { step = step; refusal = Run (Device program cause) })))
   pub told : TellsProcess plan step (string_bytes program) cause e
 
 -- memory ran out, or a process was at fault, or the server at the address, over the connection that
 -- stood so at first
-abbrev pub FailsTelling : ConnectionValue → List ℕ → ℕ → PlanValue → DigestValue → CommandError
-    → Type 0
-FailsTelling start address most plan sources =
-    OrMemory (λ e. StopsAtProcess (IsToldOver start) most plan sources e
+abbrev pub FailsTelling : ConnectionValue → List ℕ → Yields → ℕ → PlanValue → DigestValue
+    → CommandError → Type 0
+FailsTelling start address yields most plan sources =
+    OrMemory (λ e. StopsAtProcess (IsToldOver start) yields most plan sources e
     ⊎ ∥ FailsOver start address e ∥₁)
 
 -- what is asked for can be built, and a connection to the server was opened
@@ -98,25 +99,27 @@ pub record ReachesServer (sees : Sight) (options : List Row) : Type 0 where
 
 -- The first fault: what comes before it has none. That memory is wanting may come anywhere, and is
 -- told as that.
-pub data FailsBuild (sees : Sight) (options : List Row) (e : CommandError) : Type 0 where
-  in_memory : e ≡ Memory → FailsBuild sees options e
-  in_words : FailsFirst (build_words options) e → FailsBuild sees options e
+pub data FailsBuild (sees : Sight) (below : Below) (options : List Row) (e : CommandError)
+    : Type 0 where
+  in_memory : e ≡ Memory → FailsBuild sees below options e
+  in_words : FailsFirst (build_words options) e → FailsBuild sees below options e
   in_digest : AllValid (build_words options)
       → IsDigestFault (codes "sources") (option_text options (codes "sources")) e
-      → FailsBuild sees options e
+      → FailsBuild sees below options e
   in_plan : AllValid (build_words options) → IsSpelled (option_text options (codes "sources"))
-      → FailsPlan sees options e → FailsBuild sees options e
+      → FailsPlan sees options e → FailsBuild sees below options e
   in_server : (plan : PlanValue) (sources : DigestValue) → AsksBuild sees options plan sources
       → ∥ FailsServer sees (option_text options (codes "server"))
-      (option_text options (codes "prefix")) e ∥₁ → FailsBuild sees options e
+      (option_text options (codes "prefix")) e ∥₁ → FailsBuild sees below options e
   in_folder : ReachesServer sees options → FailsFolder sees (option_text options (codes "work")) e
-      → FailsBuild sees options e
+      → FailsBuild sees below options e
   in_place : ReachesServer sees options → sees.lists (option_text options (codes "work")) []
-      → FailsAtPath sees (option_text options (codes "record")) e → FailsBuild sees options e
+      → FailsAtPath sees (option_text options (codes "record")) e → FailsBuild sees below options e
   in_process : (plan : PlanValue) (sources : DigestValue) → StartsBuild sees options plan sources
-      → StopsAtProcess (IsOfOptions sees options) (jobs_asked options) plan sources e
-      → FailsBuild sees options e
-  in_record : (told : Told Global) → TellsAsked sees options told → ended_of told ≡ Done
-      → FailsToWrite sees (option_text options (codes "record")) e → FailsBuild sees options e
-  in_output : (told : Told Global) → TellsAsked sees options told → IsNoted sees options told
-      → IsPrintFault e → FailsBuild sees options e
+      → StopsAtProcess (IsOfOptions sees options) (below (option_text options (codes "work")))
+      (jobs_asked options) plan sources e
+      → FailsBuild sees below options e
+  in_record : (told : Told Global) → TellsAsked sees below options told → ended_of told ≡ Done
+      → FailsToWrite sees (option_text options (codes "record")) e → FailsBuild sees below options e
+  in_output : (told : Told Global) → TellsAsked sees below options told → IsNoted sees options told
+      → IsPrintFault e → FailsBuild sees below options e

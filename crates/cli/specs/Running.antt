@@ -5,6 +5,7 @@ use Rattle.std.specs.declared.alloc.Global.{Global}
 use Rattle.builder.specs.declared.error.BuildPlanError.{BuildPlanError}
 use Rattle.builder.specs.declared.error.BuildPlanError.TheVariants.{Step}
 use Rattle.clap.specs.Words.{Text}
+use Rattle.cli.specs.Built.{Below}
 use Rattle.cli.specs.Ended.{IsDone, IsNo}
 use Rattle.commands.specs.Told.{TellsNoteOf}
 use Rattle.commands.specs.World.{Sight}
@@ -15,9 +16,9 @@ use Rattle.worker.specs.declared.runner.RunError.TheVariants.{Device}
 use Rattle.cli.specs.declared.building.Stopped.{Stopped}
 
 -- what was printed, by what it came to
-abbrev pub Ends : Sight → List Text → Option (List ℕ) → Option (List ℕ) → Ended → Type 0
-Ends sees words old new Done = IsDone sees words old new
-Ends sees words old new (No note) = IsNo sees words note old new
+abbrev pub Ends : Sight → Below → List Text → Option (List ℕ) → Option (List ℕ) → Ended → Type 0
+Ends sees below words old new Done = IsDone sees below words old new
+Ends sees below words old new (No note) = IsNo sees below words note old new
 
 -- the status of what it came to, and what standard error was told of it
 abbrev pub TellsEnd : Ended → ℕ → Option (List ℕ) → Option (List ℕ) → Type 0

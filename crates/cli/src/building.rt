@@ -14,10 +14,11 @@ ghost use Rattle.commands.specs.Status.{exit_status};
 ghost use Rattle.commands.specs.Told.{AppendsBeginning};
 ghost use Rattle.commands.specs.Words.{IsCheckedBy};
 ghost use Rattle.command_lines.specs.CommandLine.{IsSet, option_text};
-ghost use Rattle.processes.specs.Running.{work_of};
 ghost use Rattle.remote.specs.Remote.{connection_of};
+ghost use Rattle.worker.specs.Outcomes.{YieldsNoMore};
 
 use crate::build_progress::BuildProgress;
+use crate::workplace::Workplace;
 use blob_digest::Digest;
 use builder::{BuildPlanError, Fault, Place, Told, fault_of, place_text, tell_build};
 use clap::ArgMatches;
@@ -27,13 +28,12 @@ use commands::{
     number_in, open, plan_in_file, print_all, read_digest, read_server, unlike,
 };
 use plan::Plan;
-use processes::{ChildErrors, Disk, ProcessRunner};
+use processes::ChildErrors;
 use remote::{Remote, Stream};
 use std::alloc::{AllocError, Global};
 use std::io;
 use std::io::{ErrorKind, Write};
 use std::marker::Brand;
-use std::rt::{Files, Processes};
 use tree::FetchError;
 use worker::{BuildError, Cause, Refusal, RunError, put_all};
 
@@ -65,13 +65,13 @@ fn read_jobs(alloc: Global, matches: &ArgMatches<'_>) -> Result<usize, CommandEr
 
 /// Reads what the words ask for: the number of jobs, the server, the digest, and then the plan; and
 /// copies the path of the folder of the jobs.
-fn read_asked<W: World>(
+fn read_asked<W: Workplace>(
     alloc: Global,
     world: &W,
     matches: &ArgMatches<'_>,
 ) -> Result<Asked, CommandError>
     ensures read { IfOk result (IsReadOf W.sees (rows_of (found_of matches.now))) }
-    ensures refused { IfErr result (FailsBuild W.sees (rows_of (found_of matches.now))) }
+    ensures refused { IfErr result (FailsBuild W.sees W.below (rows_of (found_of matches.now))) }
 {
     let jobs = read_jobs(alloc, matches)?;
     let server = read_server(alloc, matches)?;
@@ -178,26 +178,27 @@ fn process_error(
 }
 
 /// What a build tells over the marked connection, whose processes run in the folder of the jobs.
-fn build_in_folder<R, S: Stream + Drop, K: Origin, T: Write + Drop>(
+fn build_in_folder<W: Workplace, K: Origin, T: Write + Drop>(
     alloc: Global,
     asked: &Asked,
-    remote: Remote<S, Global>,
-    runner: ProcessRunner<Disk<'_, R>, Global>,
+    remote: Remote<W::Link, Global>,
+    runner: W::Steps,
     progress: &mut BuildProgress<'_, T>,
 ) -> Result<Told<Global>, CommandError>
-where
-    R: AllocGlobal + Files + Processes + Clone + Drop,
     requires some { 0 < asked.now.jobs }
-    requires folder { work_of runner ≡ string_bytes asked.now.work }
-    requires start { K.start ≡ connection_of S.flow remote }
+    requires folder { YieldsNoMore (W.Steps.yields runner)
+        (W.below (string_bytes asked.now.work)) }
+    requires start { K.start ≡ connection_of W.Link.flow remote }
     requires fresh { IsFresh remote }
-    ensures told { IfOk result
-        (IsToldOf (IsToldOver K.start) asked.now.jobs asked.now.plan asked.now.sources) }
+    ensures told { IfOk result (IsToldOf (IsToldOver K.start)
+        (W.below (string_bytes asked.now.work)) asked.now.jobs asked.now.plan
+        asked.now.sources) }
     ensures fault { IfErr result (FailsTelling K.start (string_bytes asked.now.server.address)
-        asked.now.jobs asked.now.plan asked.now.sources) }
+        (W.below (string_bytes asked.now.work)) asked.now.jobs asked.now.plan
+        asked.now.sources) }
     ensures status { IfErr result (λ e. exit_status e ≡ 3) }
 {
-    let mut client: Client<S, K> = Client::new(remote);
+    let mut client: Client<W::Link, K> = Client::new(remote);
     let mut runner = runner;
     match tell_build(
         alloc,
@@ -268,28 +269,25 @@ fn write_record<W: World>(
 }
 
 /// Builds what the words ask for. On a terminal it tells how far the build is, until that ends.
-fn build_asked<R, W: World, T: Write + Drop>(
-    rt: &R,
+fn build_asked<W: Workplace, T: Write + Drop>(
+    alloc: Global,
     world: &W,
     matches: &ArgMatches<'_>,
     asked: &Asked,
     terminal: Option<T>,
 ) -> Result<Told<Global>, CommandError>
-where
-    R: AllocGlobal + Files + Processes + Clone + Drop,
     requires read { IsReadOf W.sees (rows_of (found_of matches.now)) asked.now }
-    ensures tells { IfOk result (TellsAsked W.sees (rows_of (found_of matches.now))) }
-    ensures refused { IfErr result (FailsBuild W.sees (rows_of (found_of matches.now))) }
+    ensures tells { IfOk result (TellsAsked W.sees W.below (rows_of (found_of matches.now))) }
+    ensures refused { IfErr result (FailsBuild W.sees W.below (rows_of (found_of matches.now))) }
     ensures status { IfErr result (λ e. exit_status e ≡ 3) }
 {
-    let alloc = rt.alloc();
     let remote = open(alloc, world, &asked.server)?;
     check_work(alloc, world, asked.work.as_str())?;
     world.check_writable(alloc, text_of(matches, "record"))?;
     let work = String::from_str(alloc, asked.work.as_str())?;
-    let runner = ProcessRunner::new(Disk::new(rt, errors_of(matches, &terminal)), work);
+    let runner = world.steps(work, errors_of(matches, &terminal));
     let mut progress = BuildProgress::new(alloc, &asked.plan, terminal);
-    let told = build_in_folder::<R, W::Link, Brand, T>(alloc, asked, remote, runner, &mut progress);
+    let told = build_in_folder::<W, Brand, T>(alloc, asked, remote, runner, &mut progress);
     progress.clear();
     told
 }
@@ -321,28 +319,25 @@ fn ended_of(told: Told<Global>) -> Ended
 
 /// Builds the plan that the words name, and prints the line of what it came to. Where it came to
 /// its root, the record is written first.
-pub(crate) fn run_build<R, W: World, O: Write, T: Write + Drop>(
-    rt: &R,
+pub(crate) fn run_build<W: Workplace, O: Write, T: Write + Drop>(
+    alloc: Global,
     world: &W,
     matches: &ArgMatches<'_>,
     out: &mut O,
     terminal: Option<T>,
 ) -> Result<Ended, CommandError>
-where
-    R: AllocGlobal + Files + Processes + Clone + Drop,
-    ensures printed { IfOk result (PrintsBuild W.sees (rows_of (found_of matches.now))
+    ensures printed { IfOk result (PrintsBuild W.sees W.below (rows_of (found_of matches.now))
         (O.contents out.old) (O.contents out.new)) }
     // A refusal leaves no byte that isn't of the line of such a build.
-    ensures begun { OnErr result (BeginsBuild W.sees (rows_of (found_of matches.now))
+    ensures begun { OnErr result (BeginsBuild W.sees W.below (rows_of (found_of matches.now))
         (O.contents out.old) (O.contents out.new)) }
     // It is for the first fault: what comes before it has none.
-    ensures refused { IfErr result (FailsBuild W.sees (rows_of (found_of matches.now))) }
+    ensures refused { IfErr result (FailsBuild W.sees W.below (rows_of (found_of matches.now))) }
     ensures unprinted { IfErr result
         (λ fault. exit_status fault ≡ 2 → O.contents out.new ≡ O.contents out.old) }
 {
-    let alloc = rt.alloc();
     let asked = read_asked(alloc, world, matches)?;
-    let told = build_asked(rt, world, matches, &asked, terminal)?;
+    let told = build_asked(alloc, world, matches, &asked, terminal)?;
     write_record(alloc, world, matches, &told)?;
     print_told(&told, out)?;
     Ok(ended_of(told))

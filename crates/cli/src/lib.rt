@@ -7,5 +7,7 @@ mod building;
 mod help;
 mod running;
 mod showing;
+mod workplace;
 
 pub use running::run_words;
+pub use workplace::Workplace;

@@ -5,21 +5,19 @@ ghost use Rattle.commands.specs.Status.{exit_status};
 
 use crate::building::run_build;
 use crate::showing::show;
+use crate::workplace::Workplace;
 use command_lines::parse;
-use commands::{
-    CommandError, Ended, World, run_get, run_put, run_serve, run_verify, tell, tell_note,
-};
+use commands::{CommandError, Ended, run_get, run_put, run_serve, run_verify, tell, tell_note};
 use std::alloc::Global;
 use std::io::Write;
 use std::random::RandomSource;
-use std::rt::{Files, Processes};
 use std::time::Clock;
 
 /// Runs the program on these words. Its answers go to `out`. To `err` goes one line: for statuses 2
 /// and 3 it begins `error: `, and for 1, where there is one, `note: `. The status: 0 done or yes, 1
 /// no, 2 where the words or the texts that they name are at fault, 3 where a file, the output or
 /// memory is. On a terminal, where there is one, `put` and `build` tell how far they are.
-pub fn run_words<R, W: World, O: Write, E: Write, T: Write + Drop>(
+pub fn run_words<R, W: Workplace, O: Write, E: Write, T: Write + Drop>(
     rt: &R,
     world: &W,
     words: &[String],
@@ -28,19 +26,20 @@ pub fn run_words<R, W: World, O: Write, E: Write, T: Write + Drop>(
     terminal: Option<T>,
 ) -> u8
 where
-    R: AllocGlobal + Clock + Files + Processes + RandomSource + Clone + Drop,
+    R: AllocGlobal + Clock + RandomSource + Clone + Drop,
     ensures status { result < 4 }
     // With status 0 what the words ask for is done, and nothing else went to standard output.
     ensures done { result ≡ 0
-        → IsDone W.sees (map string_bytes words.now) (O.contents out.old) (O.contents out.new) }
+        → IsDone W.sees W.below (map string_bytes words.now)
+        (O.contents out.old) (O.contents out.new) }
     // With status 1, the line of their no, or of a build's refusal; or the blob that they name
     // isn't there. Standard error grew at most by the line of the note that belongs to it.
     ensures no { result ≡ 1
-        → EndsNo W.sees (map string_bytes words.now) (O.contents out.old) (O.contents out.new)
-        (E.contents err.old) (E.contents err.new) }
+        → EndsNo W.sees W.below (map string_bytes words.now)
+        (O.contents out.old) (O.contents out.new) (E.contents err.old) (E.contents err.new) }
     // With another status the first fault was told: standard error grew by one line that begins
     // `error: `, or by a beginning of it.
-    ensures refused { 2 ≤ result → EndsRefused W.sees (map string_bytes words.now) result
+    ensures refused { 2 ≤ result → EndsRefused W.sees W.below (map string_bytes words.now) result
         (E.contents err.old) (E.contents err.new) }
     // With status 0 standard error stays as it was.
     ensures quiet { result ≡ 0 → E.contents err.new ≡ E.contents err.old }
@@ -49,7 +48,7 @@ where
     ensures silent { AreFaulty (map string_bytes words.now)
         → O.contents out.new ≡ O.contents out.old }
     // With another status than 0 and 1 what was printed is a beginning of what the words ask for.
-    ensures begun { 2 ≤ result → BeginsAsked W.sees (map string_bytes words.now)
+    ensures begun { 2 ≤ result → BeginsAsked W.sees W.below (map string_bytes words.now)
         (O.contents out.old) (O.contents out.new) }
 {
     match run(rt, world, words, out, terminal) {
@@ -75,7 +74,7 @@ fn tell_ended<E: Write>(alloc: Global, ended: &Ended, err: &mut E) -> u8
     }
 }
 
-fn run<R, W: World, O: Write, T: Write + Drop>(
+fn run<R, W: Workplace, O: Write, T: Write + Drop>(
     rt: &R,
     world: &W,
     words: &[String],
@@ -83,15 +82,16 @@ fn run<R, W: World, O: Write, T: Write + Drop>(
     terminal: Option<T>,
 ) -> Result<Ended, CommandError>
 where
-    R: AllocGlobal + Clock + Files + Processes + RandomSource + Clone + Drop,
+    R: AllocGlobal + Clock + RandomSource + Clone + Drop,
     ensures ended { IfOk result
-        (Ends W.sees (map string_bytes words.now) (O.contents out.old) (O.contents out.new)) }
-    ensures refused { IfErr result (Fails W.sees (map string_bytes words.now)) }
+        (Ends W.sees W.below (map string_bytes words.now)
+        (O.contents out.old) (O.contents out.new)) }
+    ensures refused { IfErr result (Fails W.sees W.below (map string_bytes words.now)) }
     ensures unprinted { IfErr result
         (λ fault. exit_status fault ≡ 2 → O.contents out.new ≡ O.contents out.old) }
     ensures silent { AreFaulty (map string_bytes words.now)
         → O.contents out.new ≡ O.contents out.old }
-    ensures begun { OnErr result (BeginsAsked W.sees (map string_bytes words.now)
+    ensures begun { OnErr result (BeginsAsked W.sees W.below (map string_bytes words.now)
         (O.contents out.old) (O.contents out.new)) }
 {
     let matches = match parse(rt.alloc(), words) {
@@ -116,7 +116,7 @@ where
             run_serve(rt, world, inner, out)?;
             Ok(Ended::Done)
         }
-        "build" => Ok(run_build(rt, world, inner, out, terminal)?),
+        "build" => Ok(run_build(rt.alloc(), world, inner, out, terminal)?),
         _ => unreachable!(),
     }
 }

@@ -12,16 +12,16 @@ pub returns-in_err-remote-clause-refused : goal.returns-in_err-remote-clause-ref
 returns-in_err-remote-clause-refused g c =
     let sees = g.W.World.sees in
     let options = rows_of (found_of c.args.matches.now) in
-    exit_by (FailsBuild sees options) _ c.from_residual.ensures.1
-    (connect_fails sees options c.args.asked.now c.requires.read _ c.in_err-remote.ensures.fault)
+    exit_by (FailsBuild sees g.W.Workplace.below options) _ c.from_residual.ensures.1
+    (connect_fails sees g.W.Workplace.below options c.args.asked.now c.requires.read _ c.in_err-remote.ensures.fault)
 
 pub returns-in_err-check_work-clause-refused : goal.returns-in_err-check_work-clause-refused
 returns-in_err-check_work-clause-refused g c =
     let sees = g.W.World.sees in
     let options = rows_of (found_of c.args.matches.now) in
     let start = connection_of g.W.Link.Stream.flow c.in_ok-remote.remote in
-    exit_by (FailsBuild sees options) _ c.from_residual-in_err-check_work.ensures.1
-    (in_folder (reaches sees options c.args.asked.now c.requires.read start c.in_ok-remote.ensures.opened)
+    exit_by (FailsBuild sees g.W.Workplace.below options) _ c.from_residual-in_err-check_work.ensures.1
+    (in_folder (reaches sees g.W.Workplace.below options c.args.asked.now c.requires.read start c.in_ok-remote.ensures.opened)
     (subst (λ p. FailsFolder sees p c.in_err-check_work.field-0.0) (c.as_str.ensures.value ∙ c.requires.read.work) c.in_err-check_work.ensures.fault))
 
 pub returns-clause-tells : goal.returns-clause-tells
@@ -30,7 +30,7 @@ returns-clause-tells g c =
     let options = rows_of (found_of c.args.matches.now) in
     let start = connection_of g.W.Link.Stream.flow c.in_ok-remote.remote in
     IfOk-weaker c.build_in_folder-told.result _ _
-    (tells_of sees options c.args.asked.now c.requires.read start c.in_ok-remote.ensures.opened (subst (λ p. sees.lists p []) (c.as_str.ensures.value ∙ c.requires.read.work) c.in_ok-check_work.ensures.empty) (subst sees.takes c.text_of.ensures c.in_ok-check_writable.ensures.takes))
+    (tells_of sees g.W.Workplace.below options c.args.asked.now c.requires.read start c.in_ok-remote.ensures.opened (subst (λ p. sees.lists p []) (c.as_str.ensures.value ∙ c.requires.read.work) c.in_ok-check_work.ensures.empty) (subst sees.takes c.text_of.ensures c.in_ok-check_writable.ensures.takes))
     c.build_in_folder-told.ensures.told
 
 pub returns-clause-refused : goal.returns-clause-refused
@@ -39,5 +39,5 @@ returns-clause-refused g c =
     let options = rows_of (found_of c.args.matches.now) in
     let start = connection_of g.W.Link.Stream.flow c.in_ok-remote.remote in
     err_weaker c.build_in_folder-told.result _ _
-    (telling_fails sees options c.args.asked.now c.requires.read start c.in_ok-remote.ensures.opened (subst (λ p. sees.lists p []) (c.as_str.ensures.value ∙ c.requires.read.work) c.in_ok-check_work.ensures.empty) (subst sees.takes c.text_of.ensures c.in_ok-check_writable.ensures.takes))
+    (telling_fails sees g.W.Workplace.below options c.args.asked.now c.requires.read start c.in_ok-remote.ensures.opened (subst (λ p. sees.lists p []) (c.as_str.ensures.value ∙ c.requires.read.work) c.in_ok-check_work.ensures.empty) (subst sees.takes c.text_of.ensures c.in_ok-check_writable.ensures.takes))
     c.build_in_folder-told.ensures.fault

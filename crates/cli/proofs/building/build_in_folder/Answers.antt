@@ -11,8 +11,8 @@ pub returns-in-Ok-clause-told : goal.returns-in-Ok-clause-told
 returns-in-Ok-clause-told g c =
     let remote = c.tell_build.new.sink.remote in (
       told_as (IsToldOver g.K.Origin.start) c.args.asked.now.plan c.args.asked.now.sources _ _ _
-          (∥∥₁_map c.new-client.result.over (λ over. (connection_of g.S.Stream.flow c.new-client.result.remote, over)))
-          (∥∥₁_map c.tell_build.new.sink.over (λ over. (connection_of g.S.Stream.flow remote, over))) _ c.tell_build.result _ c.tell_build.ensures.told c.in-Ok.is,
+          (∥∥₁_map c.new-client.result.over (λ over. (connection_of g.W.Link.Stream.flow c.new-client.result.remote, over)))
+          (∥∥₁_map c.tell_build.new.sink.over (λ over. (connection_of g.W.Link.Stream.flow remote, over))) _ _ c.requires.folder c.tell_build.result _ c.tell_build.ensures.told c.in-Ok.is,
       c.in_ok-put_root-in-Ok.ensures.held,
     )
 
@@ -20,18 +20,19 @@ pub returns-in_err-put_root-in-Ok-clause-fault : goal.returns-in_err-put_root-in
 returns-in_err-put_root-in-Ok-clause-fault g c =
     let asked = c.args.asked.now in
     let address = string_bytes asked.server.address in
-    exit_by (FailsTelling g.K.Origin.start address asked.jobs asked.plan asked.sources) _ c.from_residual.ensures.1
-    (over_fails g.K.Origin.start address asked.jobs asked.plan asked.sources _ c.in_err-put_root-in-Ok.ensures.fault)
+    let yields = g.W.Workplace.below (string_bytes asked.work) in
+    exit_by (FailsTelling g.K.Origin.start address yields asked.jobs asked.plan asked.sources) _ c.from_residual.ensures.1
+    (over_fails g.K.Origin.start address yields asked.jobs asked.plan asked.sources _ c.in_err-put_root-in-Ok.ensures.fault)
 
 pub returns-in-Fetch-clause-fault : goal.returns-in-Fetch-clause-fault
 returns-in-Fetch-clause-fault g c =
     let asked = c.args.asked.now in
-    over_fails g.K.Origin.start (string_bytes asked.server.address) asked.jobs asked.plan asked.sources _ c.in_ok-error-in-Fetch.ensures.over
+    over_fails g.K.Origin.start (string_bytes asked.server.address) (g.W.Workplace.below (string_bytes asked.work)) asked.jobs asked.plan asked.sources _ c.in_ok-error-in-Fetch.ensures.over
 
 pub returns-in-Some-clause-fault : goal.returns-in-Some-clause-fault
 returns-in-Some-clause-fault g c =
     let remote = c.tell_build.new.sink.remote in
     inr (inl (stops_of (IsToldOver g.K.Origin.start) c.args.asked.now.plan c.args.asked.now.sources c.args.asked.now.jobs _ _
-    (∥∥₁_map c.new-client.result.over (λ over. (connection_of g.S.Stream.flow c.new-client.result.remote, over)))
-    (∥∥₁_map c.tell_build.new.sink.over (λ over. (connection_of g.S.Stream.flow remote, over)))
-    _ c.in-Err.error c.in-Some.stopped _ c.tell_build.result c.tell_build.ensures.told c.in-Err.is c.in-Some.ensures c.in_ok-process_error-in-Some.ensures))
+    (∥∥₁_map c.new-client.result.over (λ over. (connection_of g.W.Link.Stream.flow c.new-client.result.remote, over)))
+    (∥∥₁_map c.tell_build.new.sink.over (λ over. (connection_of g.W.Link.Stream.flow remote, over)))
+    _ _ c.requires.folder c.in-Err.error c.in-Some.stopped _ c.tell_build.result c.tell_build.ensures.told c.in-Err.is c.in-Some.ensures c.in_ok-process_error-in-Some.ensures))

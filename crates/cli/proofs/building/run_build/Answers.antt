@@ -8,12 +8,12 @@ use Rattle.cli.proofs.building.run_build.Goals as goal
 
 pub returns-in_err-write_record-clause-refused : goal.returns-in_err-write_record-clause-refused
 returns-in_err-write_record-clause-refused g c =
-    exit_by (FailsBuild g.W.World.sees (rows_of (found_of c.args.matches.now))) _ c.from_residual-in_err-write_record.ensures.1
+    exit_by (FailsBuild g.W.World.sees g.W.Workplace.below (rows_of (found_of c.args.matches.now))) _ c.from_residual-in_err-write_record.ensures.1
     (in_record c.in_ok-told.told c.in_ok-told.ensures.tells c.in_err-write_record.ensures.whole c.in_err-write_record.ensures.fault)
 
 pub returns-in_err-print_told-clause-refused : goal.returns-in_err-print_told-clause-refused
 returns-in_err-print_told-clause-refused g c =
-    exit_by (FailsBuild g.W.World.sees (rows_of (found_of c.args.matches.now))) _ c.from_residual-in_err-print_told.ensures.1
+    exit_by (FailsBuild g.W.World.sees g.W.Workplace.below (rows_of (found_of c.args.matches.now))) _ c.from_residual-in_err-print_told.ensures.1
     (in_output c.in_ok-told.told c.in_ok-told.ensures.tells c.in_ok-write_record.ensures.noted c.in_err-print_told.ensures.fault)
 
 pub returns-in_err-print_told-clause-begun : goal.returns-in_err-print_told-clause-begun

@@ -17,7 +17,7 @@ returns-in-Err-clause-ended g c = shown c.in_ok-show-in-Err.ensures.shown
 
 pub returns-in_err-show-in-Err-clause-refused : goal.returns-in_err-show-in-Err-clause-refused
 returns-in_err-show-in-Err-clause-refused g c =
-    exit_by (Fails g.W.World.sees (map string_bytes c.args.words.now)) _ c.from_residual.ensures.1 (in_words c.in_err-show-in-Err.ensures.fault)
+    exit_by (Fails g.W.World.sees g.W.Workplace.below (map string_bytes c.args.words.now)) _ c.from_residual.ensures.1 (in_words c.in_err-show-in-Err.ensures.fault)
 
 pub returns-in_err-show-in-Err-clause-begun : goal.returns-in_err-show-in-Err-clause-begun
 returns-in_err-show-in-Err-clause-begun g c = where_err c.from_residual.result (show_begun c.in_err-show-in-Err.ensures.begun)
@@ -33,14 +33,14 @@ returns-in_ok-run_verify-in-verify-clause-ended g c =
     let words = map string_bytes c.args.words.now in
     let called : CallsCommand words (codes "verify") = record { faultless = c.in-Ok.ensures.fails; command_is = search rules } in
     let rows = options_found (subcommand_rows_of c.in-Ok.matches) (subcommand_of program_line words) _ c.in-Ok.ensures.called c.in-Some.ensures.rows in
-    verify_ends words rows _ called c.in_ok-run_verify-in-verify.ensures.printed c.in_ok-run_verify-in-verify.ensures.noted
+    verify_ends g.W.Workplace.below words rows _ called c.in_ok-run_verify-in-verify.ensures.printed c.in_ok-run_verify-in-verify.ensures.noted
 
 pub returns-in_ok-run_get-in-get-clause-ended : goal.returns-in_ok-run_get-in-get-clause-ended
 returns-in_ok-run_get-in-get-clause-ended g c =
     let words = map string_bytes c.args.words.now in
     let called : CallsCommand words (codes "get") = record { faultless = c.in-Ok.ensures.fails; command_is = search rules } in
     let rows = options_found (subcommand_rows_of c.in-Ok.matches) (subcommand_of program_line words) _ c.in-Ok.ensures.called c.in-Some.ensures.rows in
-    get_ends words rows _ called c.in_ok-run_get-in-get.ensures.answered
+    get_ends g.W.Workplace.below words rows _ called c.in_ok-run_get-in-get.ensures.answered
 
 pub returns-in_ok-run_build-in-build-clause-ended : goal.returns-in_ok-run_build-in-build-clause-ended
 returns-in_ok-run_build-in-build-clause-ended g c =
@@ -54,7 +54,7 @@ returns-in_err-run_verify-in-verify-clause-refused g c =
     let words = map string_bytes c.args.words.now in
     let called : CallsCommand words (codes "verify") = record { faultless = c.in-Ok.ensures.fails; command_is = search rules } in
     let rows = options_found (subcommand_rows_of c.in-Ok.matches) (subcommand_of program_line words) _ c.in-Ok.ensures.called c.in-Some.ensures.rows in
-    exit_by (Fails g.W.World.sees words) _ c.from_residual-in_err-run_verify-in-verify.ensures.1
+    exit_by (Fails g.W.World.sees g.W.Workplace.below words) _ c.from_residual-in_err-run_verify-in-verify.ensures.1
     (verify_fails words rows _ called c.in_err-run_verify-in-verify.ensures.refused)
 
 pub returns-in_err-run_build-in-build-clause-refused : goal.returns-in_err-run_build-in-build-clause-refused
@@ -62,7 +62,7 @@ returns-in_err-run_build-in-build-clause-refused g c =
     let words = map string_bytes c.args.words.now in
     let called : CallsCommand words (codes "build") = record { faultless = c.in-Ok.ensures.fails; command_is = search rules } in
     let rows = options_found (subcommand_rows_of c.in-Ok.matches) (subcommand_of program_line words) _ c.in-Ok.ensures.called c.in-Some.ensures.rows in
-    exit_by (Fails g.W.World.sees words) _ c.from_residual-in_err-run_build-in-build.ensures.1
+    exit_by (Fails g.W.World.sees g.W.Workplace.below words) _ c.from_residual-in_err-run_build-in-build.ensures.1
     (build_fails words rows _ called c.in_err-run_build-in-build.ensures.refused)
 
 pub returns-in_err-run_put-in-put-clause-refused : goal.returns-in_err-run_put-in-put-clause-refused
@@ -70,7 +70,7 @@ returns-in_err-run_put-in-put-clause-refused g c =
     let words = map string_bytes c.args.words.now in
     let called : CallsCommand words (codes "put") = record { faultless = c.in-Ok.ensures.fails; command_is = search rules } in
     let rows = options_found (subcommand_rows_of c.in-Ok.matches) (subcommand_of program_line words) _ c.in-Ok.ensures.called c.in-Some.ensures.rows in
-    exit_by (Fails g.W.World.sees words) _ c.from_residual-in_err-run_put-in-put.ensures.1
+    exit_by (Fails g.W.World.sees g.W.Workplace.below words) _ c.from_residual-in_err-run_put-in-put.ensures.1
     (put_fails words rows _ called c.in_err-run_put-in-put.ensures.refused)
 
 pub returns-in_err-run_get-in-get-clause-refused : goal.returns-in_err-run_get-in-get-clause-refused
@@ -78,7 +78,7 @@ returns-in_err-run_get-in-get-clause-refused g c =
     let words = map string_bytes c.args.words.now in
     let called : CallsCommand words (codes "get") = record { faultless = c.in-Ok.ensures.fails; command_is = search rules } in
     let rows = options_found (subcommand_rows_of c.in-Ok.matches) (subcommand_of program_line words) _ c.in-Ok.ensures.called c.in-Some.ensures.rows in
-    exit_by (Fails g.W.World.sees words) _ c.from_residual-in_err-run_get-in-get.ensures.1
+    exit_by (Fails g.W.World.sees g.W.Workplace.below words) _ c.from_residual-in_err-run_get-in-get.ensures.1
     (get_fails words rows _ called c.in_err-run_get-in-get.ensures.refused)
 
 pub returns-in_err-run_serve-in-serve-clause-refused : goal.returns-in_err-run_serve-in-serve-clause-refused
@@ -86,7 +86,7 @@ returns-in_err-run_serve-in-serve-clause-refused g c =
     let words = map string_bytes c.args.words.now in
     let called : CallsCommand words (codes "serve") = record { faultless = c.in-Ok.ensures.fails; command_is = search rules } in
     let rows = options_found (subcommand_rows_of c.in-Ok.matches) (subcommand_of program_line words) _ c.in-Ok.ensures.called c.in-Some.ensures.rows in
-    exit_by (Fails g.W.World.sees words) _ c.from_residual-in_err-run_serve-in-serve.ensures.1
+    exit_by (Fails g.W.World.sees g.W.Workplace.below words) _ c.from_residual-in_err-run_serve-in-serve.ensures.1
     (serve_fails words rows _ called c.in_err-run_serve-in-serve.ensures.refused)
 
 pub returns-in_err-run_get-in-get-clause-unprinted : goal.returns-in_err-run_get-in-get-clause-unprinted

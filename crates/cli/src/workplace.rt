@@ -1,0 +1,44 @@
+ghost use Rattle.std.specs.Prelude.{◌≡◌, string_bytes};
+ghost use Rattle.processes.specs.Running.{work_of};
+ghost use Rattle.worker.specs.Outcomes.{YieldsNoMore};
+
+use commands::{System, World};
+use log::Log;
+use processes::{ChildErrors, Disk, ProcessRunner};
+use service::ErrorTerminal;
+use std::alloc::Global;
+use std::net::{Net, TcpListener, TcpStream};
+use std::rt::{Files, Processes};
+use std::time::Clock;
+use worker::Runner;
+
+/// What a command reaches outside, and the processes of a build's steps.
+pub trait Workplace: World {
+    /// What runs the steps of a build.
+    type Steps: Runner<Global> + Drop;
+
+    ghost use Rattle.cli.specs.Built.{Below};
+
+    /// What may come of a step below a folder.
+    ghost below: { Below };
+
+    /// What runs steps below a folder.
+    fn steps(&self, work: String, errors: ChildErrors) -> Self::Steps
+        ensures { YieldsNoMore (Self.Steps.yields result) (below (string_bytes work)) };
+}
+
+impl<'r, R> Workplace for System<'r, R>
+where
+    R: AllocGlobal + Clock + Clone + Drop + ErrorTerminal + Files + Log + Processes,
+    R: Net<Listener = TcpListener, Stream = TcpStream>,
+{
+    type Steps = ProcessRunner<Disk<'r, R>, Global>;
+
+    ghost below = { λ _ _ _ _. Unit {0} };
+
+    fn steps(&self, work: String, errors: ChildErrors) -> ProcessRunner<Disk<'r, R>, Global>
+        ensures work { work_of result ≡ string_bytes work }
+    {
+        ProcessRunner::new(Disk::new(self.0, errors), work)
+    }
+}
