@@ -6,7 +6,7 @@ use Rattle.std.specs.List.{find, AllByRecursion, IsDistinct}
 use Rattle.blob_digest.specs.DigestValue.{DigestValue}
 use Rattle.blob_store.specs.Blobs.{all_held}
 use Rattle.action_cache.specs.References.{Reference, Reader, is_held, files_of, fault_of, fault_in_tree, first_given, refers, is_complete, outputs_of, first_fault}
-use Rattle.action_cache.specs.Machine.{CacheState, Answer, Marked, given, nothing, opened, under, found, result_used, got_blob, get_blob, got_result, get_result}
+use Rattle.action_cache.specs.Machine.{CacheState, Answer, Marked, given, nothing, empty_cache, under, found, result_used, got_blob, get_blob, got_result, get_result}
 use Rattle.action_cache.specs.Asking.{CacheAsk, Unpin, after_ask, after, IsWhole, AreWhole, StaysPinned}
 use Rattle.action_cache.proofs.Once.{none_missing}
 use Rattle.action_cache.proofs.Keeping.{both_true, all_under, same_complete, same_refers_to, wanted_under}
@@ -56,7 +56,7 @@ module _ (reader : Reader) where
 
   -- ---- lists of asks
 
-  pub sound_opened : (limit result_limit : ℕ) → IsSound reader (opened limit result_limit)
+  pub sound_opened : (limit result_limit : ℕ) → IsSound reader (empty_cache limit result_limit)
   unfolding IsDistinct
   sound_opened limit result_limit = record {
     distinct = tt;

@@ -10,7 +10,7 @@ use Rattle.std.proofs.lemmas.Map.Lookups.{exact_bytes, exact_pairs, exact_unsign
 use Rattle.blob_digest.specs.Digest.{DigestValue, digest_cmp}
 use Rattle.action_cache.specs.References.{Reference, files_of, digests_by, references_by, references, fault_by, first_given, first_fault_by, first_fault, fault_in_tree, is_held}
 use Rattle.action_cache.specs.Reading.{by_messages}
-use Rattle.action_cache.specs.Survey.{listed, is_read, known, AreRight, AreKnown}
+use Rattle.action_cache.specs.Survey.{files_listed, is_read, known, AreRight, AreKnown}
 
 same_is : (d e : DigestValue) → is_eq (digest_cmp d e) ≡ true → d ≡ e
 same_is d e h = by (digest_cmp d e) refl h
@@ -24,10 +24,10 @@ module _ {A : Type 0} (found : List ℕ → Option (List ℕ)) where
   -- what is right stays so where one that is right is put in
   pub learned : (old new : BTreeMap DigestValue (Option (Vec DigestValue A))) (d : DigestValue) (files : Option (Vec DigestValue A))
       → ((q : DigestValue) → get digest_cmp new q ≡ cond (is_eq (digest_cmp d q)) (Some files) (get digest_cmp old q))
-      → listed files ≡ files_of found by_messages d → AreRight old found → AreRight new found
-  learned old new d files put right all = λ q. subst (λ o. IfSome o (λ fs. listed fs ≡ files_of found by_messages q)) (sym (put q)) (by q (is_eq (digest_cmp d q)) refl)
+      → files_listed files ≡ files_of found by_messages d → AreRight old found → AreRight new found
+  learned old new d files put right all = λ q. subst (λ o. IfSome o (λ fs. files_listed fs ≡ files_of found by_messages q)) (sym (put q)) (by q (is_eq (digest_cmp d q)) refl)
     where
-      by : (q : DigestValue) (b : Bool) → is_eq (digest_cmp d q) ≡ b → IfSome (cond b (Some files) (get digest_cmp old q)) (λ fs. listed fs ≡ files_of found by_messages q)
+      by : (q : DigestValue) (b : Bool) → is_eq (digest_cmp d q) ≡ b → IfSome (cond b (Some files) (get digest_cmp old q)) (λ fs. files_listed fs ≡ files_of found by_messages q)
       by q true t = right ∙ ap (files_of found by_messages) (same_is d q t)
       by q false t = all q
 

@@ -25,8 +25,8 @@ pub record CacheState : Type 0 where
   pub result_limit : ℕ
 
 -- a cache that holds nothing
-abbrev pub opened : ℕ → ℕ → CacheState
-opened limit result_limit = record {
+abbrev pub empty_cache : ℕ → ℕ → CacheState
+empty_cache limit result_limit = record {
   blobs = [];
   results = [];
   limit = limit;

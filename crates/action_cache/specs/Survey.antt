@@ -51,8 +51,8 @@ IsSurveyUnder blobs results h (Some s) =
 -- ---- Trees that were read
 
 -- the digests of a Tree's files, as a list
-abbrev pub listed : {A : Type 0} → Option (Vec DigestValue A) → Option (List DigestValue)
-listed files = option_map (λ v. v.items) files
+abbrev pub files_listed : {A : Type 0} → Option (Vec DigestValue A) → Option (List DigestValue)
+files_listed files = option_map (λ v. v.items) files
 
 module _ {A : Type 0} (trees : BTreeMap DigestValue (Option (Vec DigestValue A))) where
   -- the Tree with the digest was read
@@ -61,12 +61,12 @@ module _ {A : Type 0} (trees : BTreeMap DigestValue (Option (Vec DigestValue A))
 
   -- what was read under a digest
   abbrev pub known : DigestValue → Option (List DigestValue)
-  known d = option_and_then listed (get digest_cmp trees d)
+  known d = option_and_then files_listed (get digest_cmp trees d)
 
   -- what was read is what is found
   abbrev pub AreRight : (List ℕ → Option (List ℕ)) → Type 0
   AreRight found = (d : DigestValue) →
-      IfSome (get digest_cmp trees d) (λ files. listed files ≡ files_of found by_messages d)
+      IfSome (get digest_cmp trees d) (λ files. files_listed files ≡ files_of found by_messages d)
 
   -- each Tree of the references was read
   abbrev pub AreKnown : (List ℕ → Option (List ℕ)) → List Reference → Type 0

@@ -11,7 +11,7 @@ ghost use Rattle.action_messages.specs.Refused.{IsRefusedResult as IsRefusedAs};
 ghost use Rattle.action_cache.specs.State.{touched_each, answer_of, bytes_given};
 ghost use Rattle.action_cache.specs.Reading.{by_messages, references_in};
 ghost use Rattle.action_cache.specs.Survey.{IsSurveyUnder};
-ghost use Rattle.action_cache.specs.Machine.{CacheState, opened, done, nothing, under};
+ghost use Rattle.action_cache.specs.Machine.{CacheState, empty_cache, done, nothing, under};
 ghost use Rattle.action_cache.specs.Machine.{differs_pinned};
 ghost use Rattle.action_cache.specs.Machine.{put_blob as blob_put};
 ghost use Rattle.action_cache.specs.Machine.{get_blob as blob_got, unpin as take_off};
@@ -98,7 +98,7 @@ impl<A: Allocator + Copy> ActionCache<A> {
     ) -> Result<Self, AllocError>
         requires blobs { limit < 2 ^ 63 }
         requires results { result_limit < 2 ^ 63 }
-        ensures { IfOk result (λ c. c ≡ opened limit result_limit) }
+        ensures { IfOk result (λ c. c ≡ empty_cache limit result_limit) }
     {
         let blobs = BlobStore::new(alloc, state, limit)?;
         let results = Bounded::new(alloc, state, result_limit, 64)?;

@@ -10,7 +10,7 @@ ghost use Rattle.action_messages.specs.Reads.{Reads};
 ghost use Rattle.action_messages.specs.Refused.{IsRefusedResult};
 ghost use Rattle.action_cache.specs.References.{Reader, Reference};
 ghost use Rattle.action_cache.specs.Reading.{referred_to, references_in, files_in, files_in_tree};
-ghost use Rattle.action_cache.specs.Machine.{Marked, given, opened, under, get_blob};
+ghost use Rattle.action_cache.specs.Machine.{Marked, given, empty_cache, under, get_blob};
 ghost use Rattle.action_cache.specs.Machine.{get_result};
 ghost use Rattle.action_cache.specs.Asking.{CacheAsk, PutResult, GetResult, Pin, Unpin, after};
 ghost use Rattle.action_cache.specs.Asking.{AreWhole, StaysPinned, IsWithin};
@@ -47,32 +47,32 @@ pub fn caches_keep_what_is_pinned()
     // A pinned result stays, and all to which it refers, until it is unpinned itself.
     ensures pinned { (reader : Reader) (limit result_limit : ℕ) (before later : List CacheAsk)
         (h : List ℕ) (r : Marked)
-        → under h (after reader (opened limit result_limit) before).results ≡ Some r
+        → under h (after reader (empty_cache limit result_limit) before).results ≡ Some r
         → r.pinned ≡ true
         → AllByRecursion (λ ask. ask ≡ Unpin h → ⊥) later
-        → StaysPinned reader (after reader (opened limit result_limit) before)
-        (after reader (opened limit result_limit) (before ++ later)) h r }
+        → StaysPinned reader (after reader (empty_cache limit result_limit) before)
+        (after reader (empty_cache limit result_limit) (before ++ later)) h r }
     // All to which an answered result refers is held when it is answered.
     ensures whole { (reader : Reader) (limit result_limit : ℕ) (asks : List CacheAsk)
         (h bytes : List ℕ)
-        → (get_result reader (after reader (opened limit result_limit) asks) h).0 ≡ given bytes
-        → AreWhole reader (get_result reader (after reader (opened limit result_limit) asks) h).1
+        → (get_result reader (after reader (empty_cache limit result_limit) asks) h).0 ≡ given bytes
+        → AreWhole reader (get_result reader (after reader (empty_cache limit result_limit) asks) h).1
         bytes }
     // A blob that is answered has the hash that was asked for.
     ensures hash { (reader : Reader) (limit result_limit : ℕ) (asks : List CacheAsk)
         (h bytes : List ℕ)
-        → (get_blob reader (after reader (opened limit result_limit) asks) h).0 ≡ given bytes
+        → (get_blob reader (after reader (empty_cache limit result_limit) asks) h).0 ≡ given bytes
         → sha256 bytes ≡ h }
     // Costs stay within the limits.
     ensures within { (reader : Reader) (limit result_limit : ℕ) (asks : List CacheAsk)
-        → IsWithin (after reader (opened limit result_limit) asks) }
+        → IsWithin (after reader (empty_cache limit result_limit) asks) }
 {}
 
 /// Asks that meet the premises of `caches_keep_what_is_pinned`: a result that refers to nothing is
 /// put and pinned, and then looked up. An example: it does nothing.
 pub fn a_pinned_result_meets_the_premises()
     ensures { let reader : Reader = record { outputs = λ _. Some []; files = λ _. None } in
-        let s = after reader (opened 0 64) (PutResult [] [] ∷ Pin [] ∷ []) in
+        let s = after reader (empty_cache 0 64) (PutResult [] [] ∷ Pin [] ∷ []) in
         (under [] s.results ≡ Some (record { bytes = []; pinned = true }))
         × AllByRecursion (λ ask. ask ≡ Unpin [] → ⊥) (GetResult [] ∷ [])
         × ((get_result reader s []).0 ≡ given []) }

@@ -4,7 +4,7 @@ ghost use Rattle.blob_store.specs.Blobs.{found_in};
 ghost use Rattle.action_cache.specs.References.{blob_of, is_held, files_of};
 ghost use Rattle.action_cache.specs.Reading.{by_messages, digests_of_files, files_below};
 ghost use Rattle.action_cache.specs.Reading.{files_in_tree};
-ghost use Rattle.action_cache.specs.Survey.{listed, is_read, known, AreRight, AreKnown};
+ghost use Rattle.action_cache.specs.Survey.{files_listed, is_read, known, AreRight, AreKnown};
 
 use crate::reference::Reference;
 use blob_digest::Digest;
@@ -82,7 +82,7 @@ fn read_files<A: Allocator + Copy>(
     blobs: &BlobStore<A>,
     digest: &Digest,
 ) -> Result<Option<Vec<Digest, A>>, AllocError>
-    ensures { IfOk result (λ files. listed files
+    ensures { IfOk result (λ files. files_listed files
         ≡ files_of (found_in blobs.now.entries) by_messages digest.now) }
 {
     let bytes = match blob_of(blobs, digest) {

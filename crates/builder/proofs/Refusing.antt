@@ -8,7 +8,7 @@ use Rattle.blob_digest.specs.Digest.{DigestValue}
 use Rattle.blob_source.specs.Source.{AsksSome, Telling}
 use Rattle.plan.specs.Record.{RecordValue, names_of}
 use Rattle.plan.specs.Values.{PlanValue}
-use Rattle.runs.specs.Calls.{HaveAllFinished, IsOpened, kept_digests, record_of}
+use Rattle.runs.specs.Calls.{HaveAllFinished, IsOpened, kept_digests, recorded_build}
 use Rattle.runs.specs.Engine.{FinishedValue, EngineValue}
 use Rattle.worker.specs.Calls.{running, IsBuiltWith}
 use Rattle.worker.specs.Outcomes.{Yields}
@@ -62,7 +62,7 @@ kept_all [] all = ([], refl)
 kept_all (None ∷ fs) all = absurd (let none = all.0 in cc)
 kept_all (Some f ∷ fs) all = let rest = kept_all fs all.1 in (f.action ∷ rest.0, ap (option_map (λ ds. f.action ∷ ds)) rest.1)
 
-pub none_recorded : (e : EngineValue) → HaveAllFinished e → None ≡ record_of e → ⊥
+pub none_recorded : (e : EngineValue) → HaveAllFinished e → None ≡ recorded_build e → ⊥
 none_recorded e all none =
     let kept = kept_all e.finished all in
     let there = none ∙ ap (option_map {U = RecordValue} (λ ds. record { names = names_of e.plan; digests = ds })) kept.1 in

@@ -5,7 +5,7 @@ use Rattle.blob_digest.specs.Digest.{DigestValue, NoClash}
 use Rattle.blob_source.specs.Source.{AsksSome, Blobs, Telling}
 use Rattle.plan.specs.Record.{RecordValue}
 use Rattle.plan.specs.Values.{PlanValue}
-use Rattle.runs.specs.Calls.{HaveAllFinished, IsOpened, IsOpenFault, IsRootFault, record_of}
+use Rattle.runs.specs.Calls.{HaveAllFinished, IsOpened, IsOpenFault, IsRootFault, recorded_build}
 use Rattle.runs.specs.Engine.{EngineValue}
 use Rattle.runs.specs.Looking.{together_in}
 use Rattle.runs.specs.Mirrors.{IsMirrored}
@@ -49,7 +49,7 @@ pub record IsEnd (A : Type 0) (last : EngineValue) (told : Telling) (b : BuiltVa
     : Type 0 where
   pub complete : HaveAllFinished last
   pub root : AreRootOf told.blobs last b
-  pub noted : record_of last ≡ Some b.noted
+  pub noted : recorded_build last ≡ Some b.noted
   pub served : IsServedYes A told.blobs last b.root
 
 -- By what the store told, the verdict on the record is yes: whatever the sources are, whatever the

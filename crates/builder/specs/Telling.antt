@@ -1,10 +1,10 @@
 -- What a build tells.
 use Rattle.std.specs.Prelude.{◌≡◌, ◌⊎◌, ℕ, List, length, Result, Ok, Err, string_bytes}
 use Rattle.blob_digest.specs.Digest.{DigestValue}
-use Rattle.plan.specs.Record.{record_text}
+use Rattle.plan.specs.Record.{build_record_text}
 use Rattle.plan.specs.Values.{PlanValue}
 use Rattle.worker.specs.Outcomes.{Yields}
-use Rattle.worker.specs.Values.{blobs_of}
+use Rattle.worker.specs.Values.{items_of}
 use Rattle.runs.specs.declared.error.RunsError.TheVariants as runs
 use Rattle.builder.specs.declared.error.BuildPlanError.{BuildPlanError}
 use Rattle.builder.specs.declared.error.BuildPlanError.TheVariants.{Root}
@@ -21,7 +21,7 @@ use Rattle.builder.specs.Why.{why_text}
 pub record TellsBuilt (plan : PlanValue) (b : BuiltValue) (line noted : List ℕ)
     (directories : List (List ℕ)) : Type 0 where
   pub line_is : line ≡ built_text b.root (length plan.steps)
-  pub noted_is : noted ≡ record_text b.noted
+  pub noted_is : noted ≡ build_record_text b.noted
   pub directories_are : directories ≡ b.directories
 
 -- the line of the refusal that ended a build, and why, in words
@@ -49,7 +49,7 @@ pub record HasNoLine {A : Type 0} (came : Result BuiltValue (BuildPlanError A))
 abbrev pub Tells : {A : Type 0} → PlanValue → Result (Told A) (BuildPlanError A)
     → Result BuiltValue (BuildPlanError A) → Type 0
 Tells plan (Ok (Built line noted directories)) (Ok b) =
-    TellsBuilt plan b (string_bytes line) noted.items (blobs_of directories.items)
+    TellsBuilt plan b (string_bytes line) noted.items (items_of directories.items)
 Tells plan (Ok (Failed line why)) (Err error) =
     TellsFailed plan error (string_bytes line) (string_bytes why)
 Tells plan (Err error) came = HasNoLine came error

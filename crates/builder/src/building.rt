@@ -29,13 +29,13 @@ pub struct Built<A: Allocator> {
 
 impl<A: Allocator> Model for Built<A> {
     ghost use Rattle.builder.specs.Built.{BuiltValue};
-    ghost use Rattle.worker.specs.Values.{blobs_of};
+    ghost use Rattle.worker.specs.Values.{items_of};
 
     ghost Value = { BuiltValue };
 
     ghost view = { λ b. record {
       root = b.root;
-      directories = blobs_of b.directories.items;
+      directories = items_of b.directories.items;
       noted = b.noted;
     } };
 }

@@ -6,7 +6,7 @@ use Rattle.http_core.specs.declared.event.Area.TheVariants.{Ac, Cas, Pin, Unpin}
 use Rattle.http_core.specs.Event.{AskValue, Get, Put, EventValue, Asked, Refused}
 use Rattle.http_core.specs.Reply.{ReplyValue}
 use Rattle.action_cache.specs.Asking as asking
-use Rattle.action_cache.specs.Machine.{CacheState, Answer, given, opened, found, got_blob, get_blob}
+use Rattle.action_cache.specs.Machine.{CacheState, Answer, given, empty_cache, found, got_blob, get_blob}
 use Rattle.action_cache.specs.Reading.{by_messages}
 use Rattle.action_cache.proofs.Leading.{IsSound, leads_ask}
 use Rattle.action_cache.proofs.Asked.{sound_opened, hash_answered}
@@ -41,10 +41,10 @@ sound_all old [] k = k
 sound_all old (event ∷ events) k = sound_all (answered old event).1 events (sound_one old event k)
 
 sound_after : (prefix : List ℕ) (limit result_limit : ℕ) (history : List HistoryEntry) (cache : CacheValue)
-    → CacheAfter prefix (record { state = opened limit result_limit; counts = no_counts }) history cache → IsSound by_messages cache.state
+    → CacheAfter prefix (record { state = empty_cache limit result_limit; counts = no_counts }) history cache → IsSound by_messages cache.state
 unfolding CacheAfter
 sound_after prefix limit result_limit history cache (events, text, brings, serves) =
-    let opening : CacheValue = record { state = opened limit result_limit; counts = no_counts } in
+    let opening : CacheValue = record { state = empty_cache limit result_limit; counts = no_counts } in
     subst (λ (z : CacheValue). IsSound by_messages z.state) (cache_is (answered_all opening events) (text, cache) serves) (sound_all opening events (sound_opened by_messages limit result_limit))
 
 replied_hash : (s : CacheState) → IsSound by_messages s → (h : List ℕ) (reply : ReplyValue) → reply_to (get_blob by_messages s h).0 ≡ reply → reply.status ≡ 200 → sha256 reply.body ≡ h

@@ -25,7 +25,7 @@ use Rattle.commands.specs.declared.ended.Note.TheVariants.{Refused}
 use Rattle.plan.specs.Values.{PlanValue}
 use Rattle.text_verifier.specs.Texts.{IsDigestText}
 use Rattle.worker.specs.Outcomes.{HasAllRight, Yields}
-use Rattle.worker.specs.Values.{blobs_of}
+use Rattle.worker.specs.Values.{items_of}
 
 -- what may come of a step whose process runs below a folder
 abbrev pub Below : Type 1
@@ -34,7 +34,7 @@ Below = List ℕ → Yields
 -- such a source told each Directory that was made for the root of a build that came to it
 abbrev pub HoldsRoot : (Telling → Type 0) → Told Global → Type 0
 HoldsRoot source (Built line noted directories) = (told : Telling) × (∥ source told ∥₁)
-    × HasAllRight told.blobs (blobs_of directories.items)
+    × HasAllRight told.blobs (items_of directories.items)
 HoldsRoot source (Failed line why) = Unit {0}
 
 -- By what such a source told before and after, and such steps, this is told of a build of the plan,

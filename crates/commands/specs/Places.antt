@@ -8,7 +8,7 @@ use Rattle.blob_source.specs.declared.source.FetchError.{FetchError}
 use Rattle.blob_source.specs.declared.source.FetchError.TheVariants.{Failed}
 use Rattle.http_core.specs.declared.event.Area.{Area}
 use Rattle.http_core.specs.declared.event.Area.TheVariants.{Ac, Cas}
-use Rattle.remote.specs.Flow.{unknown}
+use Rattle.remote.specs.Flow.{unknown_flow}
 use Rattle.remote.specs.Folder.{IsNothingAt, entry_path}
 use Rattle.remote.specs.Folder as folders
 use Rattle.remote.specs.Line.{ConnectionValue, Gets, Puts, RefusesRequest, Request, get, put}
@@ -210,7 +210,7 @@ pub record LacksAtServer (sees : Sight) (address prefix : List ℕ) (lack : Lack
 -- for a marker that names no connection
 abbrev pub no_connection : ConnectionValue
 no_connection = record {
-  flow = unknown;
+  flow = unknown_flow;
   host = [];
   prefix = [];
   broken = false;

@@ -209,9 +209,9 @@ impl<'r, R: Net<Stream = TcpStream>> Connection<'r, R> {
 }
 
 impl<R: Net<Stream = TcpStream>> Stream for Connection<'_, R> {
-    ghost use Rattle.remote.specs.Flow.{IsOpenedAnew, StaysClosed, unknown};
+    ghost use Rattle.remote.specs.Flow.{IsOpenedAnew, StaysClosed, unknown_flow};
 
-    ghost flow = { λ _. unknown };
+    ghost flow = { λ _. unknown_flow };
 
     fn receive(&mut self, buf: &mut [u8]) -> io::Result<usize> {
         read_again(&mut self.reader, buf)
@@ -233,8 +233,8 @@ impl<R: Net<Stream = TcpStream>> Stream for Connection<'_, R> {
     }
 
     fn renew(&mut self) -> io::Result<()>
-        ensures opened { OnOk result (IsOpenedAnew unknown unknown) }
-        ensures err { OnErr result (StaysClosed unknown unknown) }
+        ensures opened { OnOk result (IsOpenedAnew unknown_flow unknown_flow) }
+        ensures err { OnErr result (StaysClosed unknown_flow unknown_flow) }
         ensures empty { OnOk result (reader_buffer self.new.reader ≡ []) }
     {
         let stream = connect(self.rt, self.address.as_str(), self.timeout)?;

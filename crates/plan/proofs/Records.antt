@@ -12,7 +12,7 @@ use Rattle.plan.specs.Faults.{BeginsWithLine}
 use Rattle.plan.specs.Line.{line_text, Begins, step_words}
 use Rattle.plan.specs.Lines.{WrittenLine, step_line}
 use Rattle.plan.specs.Reading.{FaultyUnlessMemory, GivesUnlessMemory}
-use Rattle.plan.specs.Record.{RecordValue, IsRecord, record_header, entries_text, record_text, IsNextEntryFault, IsEntryFault, IsRecordFault}
+use Rattle.plan.specs.Record.{RecordValue, IsRecord, record_header, entries_text, build_record_text, IsNextEntryFault, IsEntryFault, IsRecordFault}
 use Rattle.plan.proofs.Entries.{record_with}
 use Rattle.plan.proofs.Written.{first_one, no_line_left}
 
@@ -171,14 +171,14 @@ no_end_fault faults.LaterStep h = h
 no_end_fault faults.Overlap h = h
 no_end_fault faults.TooMany h = h
 
-whole_cut : (r : RecordValue) → record_text r ≡ record_header ++ (entries_text r.names r.digests ++ [])
+whole_cut : (r : RecordValue) → build_record_text r ≡ record_header ++ (entries_text r.names r.digests ++ [])
 whole_cut r = ap (λ (t : List ℕ). record_header ++ t) (sym (append-nil (entries_text r.names r.digests)))
 
-pub no_record_fault : (r : RecordValue) (e : PlanError) → IsRecord r → ¬ IsRecordFault r.names (record_text r) e
+pub no_record_fault : (r : RecordValue) (e : PlanError) → IsRecord r → ¬ IsRecordFault r.names (build_record_text r) e
 no_record_fault r e is (inl x) = x.1 (entries_text r.names r.digests, refl)
 no_record_fault r e is (inr x) =
     elim (same_entries x.done x.digests r.names r.digests x.left [] x.rest [] x.valid is (sym x.split ∙ sym (append-nil r.names))
-    (append_cancel_left record_header (entries_text x.done x.digests ++ x.rest) (entries_text r.names r.digests ++ []) (sym (cut_header (record_text r) (entries_text x.done x.digests) x.rest x.cut) ∙ whole_cut r))) [
+    (append_cancel_left record_header (entries_text x.done x.digests ++ x.rest) (entries_text r.names r.digests ++ []) (sym (cut_header (build_record_text r) (entries_text x.done x.digests) x.rest x.cut) ∙ whole_cut r))) [
       | inl same ↦ no_end_fault e.fault (subst (λ (t : List ℕ). IsNextEntryFault [] t e.fault) same.rest (subst (λ (l : List (List ℕ)). IsNextEntryFault l x.rest e.fault) same.left_same x.fault))
       | inr other ↦ elim other [
         | inl on ↦ no_goes_on x.left x.rest e.fault on x.fault
@@ -186,7 +186,7 @@ no_record_fault r e is (inr x) =
       ]
     ]
 
-pub record_one : (r s : RecordValue) → IsRecord r → IsRecord s → r.names ≡ s.names → record_text r ≡ record_text s → r ≡ s
+pub record_one : (r s : RecordValue) → IsRecord r → IsRecord s → r.names ≡ s.names → build_record_text r ≡ build_record_text s → r ≡ s
 record_one r s is was names e =
     elim (same_entries r.names r.digests s.names s.digests [] [] [] [] is was (ap (λ (l : List (List ℕ)). l ++ []) names)
     (append_cancel_left record_header (entries_text r.names r.digests ++ []) (entries_text s.names s.digests ++ []) (sym (whole_cut r) ∙ e ∙ whole_cut s))) [
@@ -199,14 +199,14 @@ record_one r s is was names e =
 
 -- ---- what reading answers
 
-pub only_record : (names : List (List ℕ)) (text : List ℕ) (result : Result RecordValue ReadError) (r : RecordValue) → IsRecord r → r.names ≡ names → text ≡ record_text r
-    → IfOk result (λ s. IsRecord s × (s.names ≡ names) × (text ≡ record_text s)) → IfErr result (FaultyUnlessMemory (IsRecordFault names text)) → GivesUnlessMemory result r
+pub only_record : (names : List (List ℕ)) (text : List ℕ) (result : Result RecordValue ReadError) (r : RecordValue) → IsRecord r → r.names ≡ names → text ≡ build_record_text r
+    → IfOk result (λ s. IsRecord s × (s.names ≡ names) × (text ≡ build_record_text s)) → IfErr result (FaultyUnlessMemory (IsRecordFault names text)) → GivesUnlessMemory result r
 only_record names text (Ok s) r is fits e found fault = record_one s r found.0 is (found.1 ∙ sym fits) (sym found.2 ∙ e)
 only_record names text (Err Memory) r is fits e found fault = tt
 only_record names text (Err (Faulty x)) r is fits e found fault =
-    no_record_fault r x is (subst (λ (l : List (List ℕ)). IsRecordFault l (record_text r) x) (sym fits) (subst (λ (t : List ℕ). IsRecordFault names t x) e fault))
+    no_record_fault r x is (subst (λ (l : List (List ℕ)). IsRecordFault l (build_record_text r) x) (sym fits) (subst (λ (t : List ℕ). IsRecordFault names t x) e fault))
 
-pub only_handed_record : (names : List (List ℕ)) (text : List ℕ) (result : Result RecordValue ReadError) (r : RecordValue) → IsErr result → IsRecord r → r.names ≡ names → text ≡ record_text r
+pub only_handed_record : (names : List (List ℕ)) (text : List ℕ) (result : Result RecordValue ReadError) (r : RecordValue) → IsErr result → IsRecord r → r.names ≡ names → text ≡ build_record_text r
     → IfErr result (FaultyUnlessMemory (IsRecordFault names text)) → GivesUnlessMemory result r
 only_handed_record names text (Ok s) r err is fits e fault = absurd (cc err)
 only_handed_record names text (Err x) r err is fits e fault = only_record names text (Err x) r is fits e tt fault

@@ -40,8 +40,8 @@ entries_text (name ∷ names) [] = []
 entries_text (name ∷ names) (digest ∷ digests) =
     line_text (step_words name digest) ++ entries_text names digests
 
-abbrev pub record_text : RecordValue → List ℕ
-record_text record_of = record_header ++ entries_text record_of.names record_of.digests
+abbrev pub build_record_text : RecordValue → List ℕ
+build_record_text record_of = record_header ++ entries_text record_of.names record_of.digests
 
 -- ---- faults
 
@@ -65,7 +65,7 @@ pub record IsEntryFault (names : List (List ℕ)) (text : List ℕ) (e : PlanErr
   pub rest : List ℕ
   pub split : names ≡ done ++ left
   pub valid : IsRecord (record { names = done; digests = digests })
-  pub cut : text ≡ record_text (record { names = done; digests = digests }) ++ rest
+  pub cut : text ≡ build_record_text (record { names = done; digests = digests }) ++ rest
   pub number : e.line ≡ length done + 2
   pub fault : IsNextEntryFault left rest e.fault
 

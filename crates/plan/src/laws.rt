@@ -2,7 +2,7 @@ ghost use Rattle.std.specs.Prelude.{◌≡◌, List, ℕ};
 ghost use Rattle.plan.specs.declared.error.PlanError.{PlanError};
 ghost use Rattle.plan.specs.Faults.{IsPlanFault};
 ghost use Rattle.plan.specs.Plan.{IsPlan, plan_text};
-ghost use Rattle.plan.specs.Record.{RecordValue, IsRecord, record_text, IsRecordFault};
+ghost use Rattle.plan.specs.Record.{RecordValue, IsRecord, build_record_text, IsRecordFault};
 ghost use Rattle.plan.specs.Values.{PlanValue};
 
 /// No text is that of two plans. (That no plan has two is said by the text's being a function.) It
@@ -22,7 +22,7 @@ pub fn faults_are_single_valued()
 /// No text is that of two records of one plan. It does nothing.
 pub fn spells_one_record()
     ensures { (r s : RecordValue) → IsRecord r → IsRecord s → r.names ≡ s.names
-        → record_text r ≡ record_text s
+        → build_record_text r ≡ build_record_text s
         → r ≡ s }
 {}
 
@@ -34,5 +34,5 @@ pub fn record_faults_are_single_valued()
         → IsRecordFault names text f
         → e ≡ f }
     ensures none { (r : RecordValue) (e : PlanError) → IsRecord r
-        → ¬ IsRecordFault r.names (record_text r) e }
+        → ¬ IsRecordFault r.names (build_record_text r) e }
 {}

@@ -4,7 +4,7 @@ ghost use Rattle.std.specs.List.{AllByRecursion};
 ghost use Rattle.blob_digest.specs.Digest.{IsDigest};
 ghost use Rattle.plan.specs.Line.{Begins, IsStepName, line_text, step_words};
 ghost use Rattle.plan.specs.Record.{RecordValue, IsRecord, IsNextEntryFault, IsEntryFault};
-ghost use Rattle.plan.specs.Record.{names_of, Fits, entries_text, record_header, record_text};
+ghost use Rattle.plan.specs.Record.{names_of, Fits, entries_text, record_header, build_record_text};
 ghost use Rattle.plan.specs.Record.{IsRecordFault};
 ghost use Rattle.plan.specs.Reading.{FaultyUnlessMemory, GivesUnlessMemory, bad_header};
 
@@ -134,9 +134,9 @@ impl<A: Allocator + Copy> Record<A> {
     pub fn read(alloc: A, text: &[u8], plan: &Plan<A>) -> Result<Record<A>, ReadError>
         // The text is that of the record, which is of the plan.
         ensures found { IfOk result
-            (λ r. IsRecord r × Fits r plan.now × (text.now ≡ record_text r)) }
+            (λ r. IsRecord r × Fits r plan.now × (text.now ≡ build_record_text r)) }
         // The record whose text it is is answered.
-        ensures only { (r : RecordValue) → IsRecord r → Fits r plan.now → text.now ≡ record_text r
+        ensures only { (r : RecordValue) → IsRecord r → Fits r plan.now → text.now ≡ build_record_text r
             → GivesUnlessMemory result r }
         // Which line is at fault, and how.
         ensures fault { IfErr result
@@ -153,7 +153,7 @@ impl<A: Allocator + Copy> Record<A> {
 
     /// The text of the record.
     pub fn write(&self, alloc: A) -> Result<Vec<u8, A>, AllocError>
-        ensures { IfOk result (λ text. text.items ≡ record_text self.now) }
+        ensures { IfOk result (λ text. text.items ≡ build_record_text self.now) }
     {
         let mut text = Vec::new(alloc);
         text.extend_from_slice(HEADER)?;

@@ -8,7 +8,7 @@ use Rattle.messages.specs.Path.{path_text}
 use Rattle.action_messages.specs.Command.{CommandValue}
 use Rattle.worker.specs.Values.{LayoutValue, contents_of}
 use Rattle.processes.specs.Workshop.{Works, RoomValue, Becomes, StartsIn, with_folders, with_files}
-use Rattle.processes.specs.Laying.{place_in, start_of, folders_below, files_below, working_folders, above_in, folders_above, room_of_layout, room_of_job}
+use Rattle.processes.specs.Laying.{place_in, start_of, folders_below, files_placed, working_folders, above_in, folders_above, room_of_layout, room_of_job}
 use Rattle.processes.proofs.Lists.{map_taken}
 
 above_append : (start : List ℕ) (ps qs : List (List (List ℕ))) → folders_above start (ps ++ qs) ≡ folders_above start ps ++ folders_above start qs
@@ -44,16 +44,16 @@ module _ {R C E : Type 0} (works : Works R C E) where
 
   pub file_more : {A : Type 0} (old mid new : R) (folder : List ℕ) (files : List (List (List ℕ) × Vec ℕ A)) (i : ℕ) (f : List (List ℕ) × Vec ℕ A) (place bytes : List ℕ)
       → i < length files → f ≡ get_or files i f → place ≡ place_in folder (path_text f.0) → bytes ≡ f.1.items
-      → Becomes works old mid (with_files (files_below folder (contents_of (take i files)))) → Becomes works mid new (with_files ((place, bytes) ∷ []))
-      → Becomes works old new (with_files (files_below folder (contents_of (take (i + 1) files))))
+      → Becomes works old mid (with_files (files_placed folder (contents_of (take i files)))) → Becomes works mid new (with_files ((place, bytes) ∷ []))
+      → Becomes works old new (with_files (files_placed folder (contents_of (take (i + 1) files))))
   file_more {A} old mid new folder files i f place bytes lt is at content first then =
       let value : List (List ℕ) × Vec ℕ A → List (List ℕ) × List ℕ = λ e. (e.0, e.1.items) in
       let placed : List (List ℕ) × List ℕ → List ℕ × List ℕ = λ e. (place_in folder (path_text e.0), e.1) in
-      let some : List (List ℕ × List ℕ) = files_below folder (contents_of (take i files)) in
-      let more : files_below folder (contents_of (take (i + 1) files)) ≡ some ++ placed (value f) ∷ [] =
+      let some : List (List ℕ × List ℕ) = files_placed folder (contents_of (take i files)) in
+      let more : files_placed folder (contents_of (take (i + 1) files)) ≡ some ++ placed (value f) ∷ [] =
       ap (map placed) (map_taken value files i f lt is) ∙ map-append placed (contents_of (take i files)) (value f ∷ []) in
       let same : placed (value f) ≡ (place, bytes) = cc in
-      files_then old mid new some ((place, bytes) ∷ []) (files_below folder (contents_of (take (i + 1) files))) (more ∙ ap (λ x. some ++ x ∷ []) same) first then
+      files_then old mid new some ((place, bytes) ∷ []) (files_placed folder (contents_of (take (i + 1) files))) (more ∙ ap (λ x. some ++ x ∷ []) same) first then
 
   pub above_more : (old mid new : R) (start : List ℕ) (paths : List (List (List ℕ))) (i : ℕ) (p : List (List ℕ)) → i < length paths → p ≡ get_or paths i p
       → Becomes works old mid (with_folders (folders_above start (take i paths))) → Becomes works mid new (with_folders (above_in start (path_parent (path_text p))))

@@ -28,7 +28,7 @@ use Rattle.tree.proofs.DirectoryBytes.{directory_bytes_injective}
 use Rattle.tree.proofs.OwnDirectories.{no_refusal}
 use Rattle.tree.proofs.TreeDigests.{valid_digests}
 use Rattle.worker.specs.Outcomes.{directories_of}
-use Rattle.worker.specs.Values.{blobs_of}
+use Rattle.worker.specs.Values.{items_of}
 use Rattle.processes.specs.declared.trouble.Trouble.{Trouble}
 use Rattle.processes.specs.declared.trouble.Trouble.TheVariants as troubles
 use Rattle.processes.specs.Collected.{IsListedTwice, IsUnread, IsUnreadFolder, MakesNoTree}
@@ -69,17 +69,17 @@ module _ {R C E : Type 0} (works : Works R C E) (ended : E) where
 
 -- ---- encodings of no Directories
 
-one_directory : {A : Type 0} (ds : List DirectoryValue) (bs : List (Vec ℕ A)) (i : ℕ) (x : Vec ℕ A) → i < length bs → x ≡ get_or bs i x → AllByRecursion IsDirectory ds → map directory_bytes ds ≡ blobs_of bs
+one_directory : {A : Type 0} (ds : List DirectoryValue) (bs : List (Vec ℕ A)) (i : ℕ) (x : Vec ℕ A) → i < length bs → x ≡ get_or bs i x → AllByRecursion IsDirectory ds → map directory_bytes ds ≡ items_of bs
     → (d : DirectoryValue) × IsDirectory d × (x.items ≡ directory_bytes d)
 one_directory ds [] i x lt is valid same = absurd (omega (arith, lt))
 one_directory [] (b ∷ bs) i x lt is valid same = absurd (let e = same in cc)
 one_directory (d ∷ ds) (b ∷ bs) zero x lt is valid same =
     let head : directory_bytes d ≡ b.items = (let e = same in cc) in (d, valid.0, ap (λ v. v.items) is ∙ sym head)
 one_directory (d ∷ ds) (b ∷ bs) (suc i) x lt is valid same =
-    let rest : map directory_bytes ds ≡ blobs_of bs = (let e = same in cc) in one_directory ds bs i x (omega (arith, lt)) is valid.1 rest
+    let rest : map directory_bytes ds ≡ items_of bs = (let e = same in cc) in one_directory ds bs i x (omega (arith, lt)) is valid.1 rest
 
 pub none_decoded : {A : Type 0} (bs : List (Vec ℕ A)) (i : ℕ) (x : Vec ℕ A) (e : MessageError) (t : Trouble) → i < length bs → x ≡ get_or bs i x → IsOfMessage e t
-    → ((d : DirectoryValue) → IsDirectory d → x.items ≡ directory_bytes d → FailsUnlessMemory e (Ok d)) → (t ≡ troubles.Memory) ⊎ AreOfNone (blobs_of bs)
+    → ((d : DirectoryValue) → IsDirectory d → x.items ≡ directory_bytes d → FailsUnlessMemory e (Ok d)) → (t ≡ troubles.Memory) ⊎ AreOfNone (items_of bs)
 none_decoded bs i x e t lt is (inl memory) only = inl memory.1
 none_decoded bs i x e t lt is (inr other) only = inr (λ ds valid same. let one = one_directory ds bs i x lt is valid same in no_refusal e one.0 other.0 (only one.0 one.1 one.2))
 

@@ -26,8 +26,8 @@ start_of folder (Some path) = place_in folder (path_text path)
 abbrev pub folders_below : List ℕ → List (List (List ℕ)) → List (List ℕ)
 folders_below folder paths = map (λ p. place_in folder (path_text p)) paths
 
-abbrev pub files_below : List ℕ → List (List (List ℕ) × List ℕ) → List (List ℕ × List ℕ)
-files_below folder files = map (λ f. (place_in folder (path_text f.0), f.1)) files
+abbrev pub files_placed : List ℕ → List (List (List ℕ) × List ℕ) → List (List ℕ × List ℕ)
+files_placed folder files = map (λ f. (place_in folder (path_text f.0), f.1)) files
 
 -- the working directory below a job's folder, if the command has one
 abbrev pub working_folders : List ℕ → Option (List (List ℕ)) → List (List ℕ)
@@ -50,7 +50,7 @@ abbrev pub room_of_layout : List ℕ → LayoutValue → RoomValue
 room_of_layout folder l = record {
   folder = folder;
   folders = folders_below folder l.folders;
-  files = files_below folder l.files;
+  files = files_placed folder l.files;
 }
 
 -- All that a job's folder has when its process is started: the layout, the folder that the command

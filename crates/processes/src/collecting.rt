@@ -2,7 +2,7 @@ ghost use Rattle.std.specs.Prelude.{◌≡◌, ℕ, List, Err, IfErr, IfOk, IsEr
 ghost use Rattle.std.specs.Prelude.{string_bytes};
 ghost use Rattle.std.specs.declared.io.Error.{Error};
 ghost use Rattle.worker.specs.Counted.{TellsRunFailure};
-ghost use Rattle.worker.specs.Values.{blobs_of, failed};
+ghost use Rattle.worker.specs.Values.{items_of, failed};
 ghost use Rattle.worker.specs.declared.failure.Cause.TheVariants.{Unread};
 ghost use Rattle.processes.specs.Collected.{AreCollected, HasNoOutput, IsFirstBad, IsMore, IsUnread};
 ghost use Rattle.processes.specs.Walking.{IsUnreadOutput, TellsTrouble};
@@ -27,7 +27,7 @@ fn take_output<A: Allocator + Copy, W: Workshop>(
     blobs: &mut Vec<Vec<u8, A>, A>,
 ) -> Result<(), Trouble>
     ensures more { OnOk result (IsMore W.works ended.now place.now path.now outcome.old
-        (blobs_of blobs.old.items) outcome.new (blobs_of blobs.new.items)) }
+        (items_of blobs.old.items) outcome.new (items_of blobs.new.items)) }
     ensures bad { IsErrOf result Trouble.NoOutput → HasNoOutput W.works ended.now place.now }
     ensures failed { IfErr result
         (TellsTrouble (IsUnreadOutput W.works ended.now outcome.old path.now)) }

@@ -1,7 +1,7 @@
 ghost use Rattle.std.specs.Prelude.{◌≡◌, IfErr, IfOk, OnOk, string_bytes};
 ghost use Rattle.worker.specs.Values.{contents_of};
 ghost use Rattle.processes.specs.Workshop.{Becomes, with_files, with_folders};
-ghost use Rattle.processes.specs.Laying.{above_in, files_below, folders_above, folders_below};
+ghost use Rattle.processes.specs.Laying.{above_in, files_placed, folders_above, folders_below};
 ghost use Rattle.processes.specs.Laying.{IsUnstarted, place_in, room_of_layout, start_of};
 ghost use Rattle.processes.specs.Laying.{working_folders};
 ghost use Rattle.std.specs.Path.{path_parent};
@@ -53,7 +53,7 @@ fn write_files<A: Allocator + Copy, W: Workshop>(
     files: &[(Path<A>, Vec<u8, A>)],
 ) -> io::Result<()>
     ensures written { OnOk result (Becomes W.works room.old room.new
-        (with_files (files_below folder.now (contents_of files.now)))) }
+        (with_files (files_placed folder.now (contents_of files.now)))) }
     ensures failed { IfErr result (IsUnstarted W.works) }
 {
     for file in files {

@@ -10,7 +10,7 @@ ghost use Rattle.messages.specs.DirectoryRules.{IsDirectory};
 ghost use Rattle.messages.specs.Name.{IsName};
 ghost use Rattle.tree.specs.Lookup.{names_in};
 ghost use Rattle.worker.specs.Outcomes.{directories_of};
-ghost use Rattle.worker.specs.Values.{blobs_of};
+ghost use Rattle.worker.specs.Values.{items_of};
 ghost use Rattle.processes.specs.Collected.{IsBadFolder, IsTreeAt, IsUnreadFolder};
 ghost use Rattle.processes.specs.Walking.{AreOfNone, AreOfNoTree, IsBare, IsWalked, TellsTrouble};
 
@@ -36,7 +36,7 @@ pub(crate) fn keep_file<A: Allocator + Copy, W: Workshop>(
     blobs: &mut Vec<Vec<u8, A>, A>,
 ) -> Result<Digest, Trouble>
     ensures kept { IfOk result (λ d. (b : List ℕ) × W.works.holds ended.now place.now (Some b)
-        × (d ≡ digest_of b) × (blobs_of blobs.new.items ≡ blobs_of blobs.old.items ++ b ∷ [])) }
+        × (d ≡ digest_of b) × (items_of blobs.new.items ≡ items_of blobs.old.items ++ b ∷ [])) }
     ensures bad { IsErrOf result Trouble.NoOutput → W.works.holds ended.now place.now None }
     ensures failed { IfErr result (TellsTrouble (W.works.unread ended.now)) }
 {
@@ -100,7 +100,7 @@ fn walk<A: Allocator + Copy, W: Workshop>(
     requires bare { IsBare tree.old (names_in above.now) }
     requires most { length (names_in above.now) + most ≡ 64 }
     ensures walked { OnOk result (IsWalked W.works ended.now place.now (names_in above.now)
-        tree.old tree.new (blobs_of blobs.old.items) (blobs_of blobs.new.items)) }
+        tree.old tree.new (items_of blobs.old.items) (items_of blobs.new.items)) }
     ensures bad { IsErrOf result Trouble.NoOutput
         → IsBadFolder W.works ended.now most place.now }
     ensures failed { IfErr result (TellsTrouble (IsUnreadFolder W.works ended.now)) }
@@ -144,10 +144,10 @@ fn read_directories<A: Allocator + Copy>(
     alloc: A,
     encodings: &[Vec<u8, A>],
 ) -> Result<Vec<Directory<A>, A>, Trouble>
-    ensures bytes { IfOk result (λ ds. map directory_bytes ds.items ≡ blobs_of encodings.now) }
+    ensures bytes { IfOk result (λ ds. map directory_bytes ds.items ≡ items_of encodings.now) }
     ensures valid { IfOk result (λ ds. AllByRecursion IsDirectory ds.items) }
     ensures none { IfErr result
-        (λ t. (t ≡ Trouble.Memory) ⊎ AreOfNone (blobs_of encodings.now)) }
+        (λ t. (t ≡ Trouble.Memory) ⊎ AreOfNone (items_of encodings.now)) }
 {
     let mut directories = Vec::new(alloc);
     for encoding in encodings {
@@ -158,9 +158,9 @@ fn read_directories<A: Allocator + Copy>(
 
 /// The Tree of Directories, of which the first is its root.
 fn tree_of<A: Allocator + Copy>(alloc: A, encodings: &[Vec<u8, A>]) -> Result<Tree<A>, Trouble>
-    ensures directories { IfOk result (λ t. directories_of t ≡ blobs_of encodings.now) }
+    ensures directories { IfOk result (λ t. directories_of t ≡ items_of encodings.now) }
     ensures none { IfErr result
-        (λ t. (t ≡ Trouble.Memory) ⊎ AreOfNoTree (blobs_of encodings.now)) }
+        (λ t. (t ≡ Trouble.Memory) ⊎ AreOfNoTree (items_of encodings.now)) }
 {
     let mut directories = read_directories(alloc, encodings)?;
     if directories.is_empty() {
@@ -194,7 +194,7 @@ pub(crate) fn keep_folder<A: Allocator + Copy, W: Workshop>(
 ) -> Result<Tree<A>, Trouble>
     ensures tree { IfOk result (λ t. (own : List (List ℕ))
         × IsTreeAt W.works ended.now place.now t own
-        × (blobs_of blobs.new.items ≡ blobs_of blobs.old.items ++ own)) }
+        × (items_of blobs.new.items ≡ items_of blobs.old.items ++ own)) }
     ensures bad { IsErrOf result Trouble.NoOutput → IsBadFolder W.works ended.now 64 place.now }
     ensures failed { IfErr result (TellsTrouble (IsUnreadFolder W.works ended.now)) }
 {

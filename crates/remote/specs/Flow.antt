@@ -101,8 +101,8 @@ pub record ReceivesSome (old new : Flow) : Type 0 where
   pub read : Receives old new bytes
 
 -- a stream of which nothing is known
-abbrev pub unknown : Flow
-unknown = record {
+abbrev pub unknown_flow : Flow
+unknown_flow = record {
   coming = None;
   later = None;
   sent = None;

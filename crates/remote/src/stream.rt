@@ -4,7 +4,7 @@ ghost use Rattle.std.specs.Io.{ReadsAtMost, WritesAtMost};
 ghost use Rattle.std.specs.Io.KnownBytes.{ReadConsumes, WriteAppends};
 ghost use Rattle.std.specs.IoError.{error_kind};
 ghost use Rattle.remote.specs.Flow.{Flow, IsOpenedAnew, IsSameStream, StaysClosed, TellsStop};
-ghost use Rattle.remote.specs.Flow.{unknown};
+ghost use Rattle.remote.specs.Flow.{unknown_flow};
 
 use std::io;
 use std::io::{ErrorKind, Read, Write};
@@ -50,7 +50,7 @@ pub trait Stream {
 
 /// A socket, of whose bytes nothing is known. It isn't opened anew.
 impl Stream for TcpStream {
-    ghost flow = { λ _. record unknown { later = Some []; is_renewable = Some false } };
+    ghost flow = { λ _. record unknown_flow { later = Some []; is_renewable = Some false } };
 
     fn receive(&mut self, buf: &mut [u8]) -> io::Result<usize> {
         self.read(buf)

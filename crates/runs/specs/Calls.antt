@@ -111,8 +111,8 @@ kept_digests (None ∷ fs) = None
 kept_digests (Some f ∷ fs) = option_map (λ ds. f.action ∷ ds) (kept_digests fs)
 
 -- the record of a build in which each step has finished
-abbrev pub record_of : EngineValue → Option RecordValue
-record_of e =
+abbrev pub recorded_build : EngineValue → Option RecordValue
+recorded_build e =
     option_map {U = RecordValue} (λ ds. record { names = names_of e.plan; digests = ds })
     (kept_digests e.finished)
 

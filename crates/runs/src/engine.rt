@@ -7,7 +7,7 @@ ghost use Rattle.verifier.specs.Build.{lose};
 ghost use Rattle.std.specs.Option.{option_copied};
 ghost use Rattle.runs.specs.Engine.{IsEngine, at_number, finished_in, job_in};
 ghost use Rattle.plan.specs.Record.{RecordValue, names_of};
-ghost use Rattle.runs.specs.Calls.{without_job, jobs_of, kept_digests, record_of, IsReady};
+ghost use Rattle.runs.specs.Calls.{without_job, jobs_of, kept_digests, recorded_build, IsReady};
 ghost use Rattle.runs.specs.Looking.{outcomes_in};
 ghost use Rattle.verifier.specs.Together.{AreThere, IsThere};
 ghost use Rattle.runs.specs.Mirrors.{nothing_told};
@@ -132,7 +132,7 @@ impl<'p, A: Allocator + Copy> Engine<'p, A> {
 
     /// The digests of the actions that finished, if each step has.
     pub fn record(&self, alloc: A) -> Result<Option<Record<A>>, AllocError>
-        ensures value { IfOk result (λ noted. noted ≡ record_of self.now) }
+        ensures value { IfOk result (λ noted. noted ≡ recorded_build self.now) }
         ensures state { IfOk result (IsRecordOf self.now) }
     {
         match kept_digests(alloc, &self.finished)? {

@@ -59,9 +59,9 @@ impl Streams {
 }
 
 impl Stream for Streams {
-    ghost use Rattle.remote.specs.Flow.{unknown};
+    ghost use Rattle.remote.specs.Flow.{unknown_flow};
 
-    ghost flow = { λ _. unknown };
+    ghost flow = { λ _. unknown_flow };
 
     fn receive(&mut self, buf: &mut [u8]) -> io::Result<usize> {
         self.now.receive(buf)

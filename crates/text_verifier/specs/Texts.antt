@@ -3,7 +3,7 @@ use Rattle.std.specs.Prelude.{◌≡◌, ℕ, List}
 use Rattle.blob_digest.specs.Digest.{DigestValue, IsDigest}
 use Rattle.blob_digest.specs.Text.{digest_text}
 use Rattle.plan.specs.Plan.{IsPlan, plan_text}
-use Rattle.plan.specs.Record.{RecordValue, IsRecord, Fits, record_text}
+use Rattle.plan.specs.Record.{RecordValue, IsRecord, Fits, build_record_text}
 use Rattle.plan.specs.Values.{PlanValue}
 
 -- the text spells the digest
@@ -32,7 +32,7 @@ pub record HasPlan (text : List ℕ) (plan : PlanValue) : Type 0 where
 pub record HasRecord (plan : PlanValue) (text : List ℕ) (noted : RecordValue) : Type 0 where
   pub valid : IsRecord noted
   pub fits : Fits noted plan
-  pub text_is : text ≡ record_text noted
+  pub text_is : text ≡ build_record_text noted
 
 -- These texts ask the question: its digests are spelled, the plan is the one of its text, and so is
 -- the record, which is of that plan.

@@ -1,7 +1,7 @@
 ghost use Rattle.std.specs.Prelude.{◌≡◌, IfOk, IfErr, Ok};
 ghost use Rattle.blob_digest.specs.Digest.{DigestValue};
 ghost use Rattle.plan.specs.Plan.{IsPlan, plan_text};
-ghost use Rattle.plan.specs.Record.{IsRecord, Fits, RecordValue, names_of, record_text};
+ghost use Rattle.plan.specs.Record.{IsRecord, Fits, RecordValue, names_of, build_record_text};
 ghost use Rattle.plan.specs.Values.{PlanValue};
 ghost use Rattle.text_verifier.specs.Refused.{GivesUnlessMemory, IsDigestRefusal, IsPlanRefusal};
 ghost use Rattle.text_verifier.specs.Refused.{IsRecordRefusal};
@@ -61,10 +61,10 @@ pub(crate) fn read_record<A: Allocator + Copy>(
 ) -> Result<Record<A>, TextError>
     ensures valid { IfOk result IsRecord }
     ensures fits { IfOk result (λ noted. Fits noted plan.now) }
-    ensures found { IfOk result (λ noted. text.now ≡ record_text noted) }
+    ensures found { IfOk result (λ noted. text.now ≡ build_record_text noted) }
     // The record whose text it is is answered.
     ensures only { (noted : RecordValue) → IsRecord noted → Fits noted plan.now
-        → text.now ≡ record_text noted → GivesUnlessMemory result noted }
+        → text.now ≡ build_record_text noted → GivesUnlessMemory result noted }
     ensures fault { IfErr result (IsRecordRefusal (names_of plan.now) text.now) }
 {
     match Record::read(alloc, text, plan) {

@@ -3,7 +3,7 @@ use Rattle.std.proofs.Common.{◌≡◌, ℕ, zero, suc, ◌+◌, ◌≤◌, Lis
 use Rattle.std.specs.Prelude.{◌⊎◌, Option, Some, None, Contains, Result, Ok, Err}
 use Rattle.std.specs.Result.{IsErrAnd}
 use Rattle.blob_source.specs.Source.{Telling, Grows}
-use Rattle.tree.specs.Memo.{Asked, blob, result, Known, IsKnownOf, one_if_none, unknown, Learns, KnowsNothing, WasRefused, IsWithout}
+use Rattle.tree.specs.Memo.{Asked, blob, result, Known, IsKnownOf, one_if_none, count_unknown, Learns, KnowsNothing, WasRefused, IsWithout}
 use Rattle.tree.proofs.Descent.{under_still}
 
 -- ---- lists of what is asked for
@@ -21,16 +21,16 @@ module _ (old new : Known) (kept : (a : Asked) (b : List ℕ) → old a ≡ Some
   fewer_at a None is = at_most_one (new a)
   fewer_at a (Some b) is = subst (λ x. one_if_none x ≤ 0) (sym (kept a b is)) (omega arith)
 
-  pub fewer : (list : List Asked) → unknown new list ≤ unknown old list
+  pub fewer : (list : List Asked) → count_unknown new list ≤ count_unknown old list
   fewer [] = omega arith
   fewer (a ∷ list) = let here = fewer_at a (old a) refl in let rest = fewer list in omega (arith, here, rest)
 
   -- one that becomes known
-  pub one_fewer : (a : Asked) (b : List ℕ) (list : List Asked) → old a ≡ None → new a ≡ Some b → Contains list a → unknown new list + 1 ≤ unknown old list
+  pub one_fewer : (a : Asked) (b : List ℕ) (list : List Asked) → old a ≡ None → new a ≡ Some b → Contains list a → count_unknown new list + 1 ≤ count_unknown old list
   one_fewer a b [] none some (k, lt, e) = absurd (omega (arith, lt))
   one_fewer a b (x ∷ list) none some h = by (one_fewer a b list none some) (contains_cases x a list h)
     where
-      by : (Contains list a → unknown new list + 1 ≤ unknown old list) → (x ≡ a) ⊎ Contains list a → unknown new (x ∷ list) + 1 ≤ unknown old (x ∷ list)
+      by : (Contains list a → count_unknown new list + 1 ≤ count_unknown old list) → (x ≡ a) ⊎ Contains list a → count_unknown new (x ∷ list) + 1 ≤ count_unknown old (x ∷ list)
       by later (inl same) =
           let rest = fewer list in
           let was : one_if_none (old x) ≡ 1 = ap (λ y. one_if_none (old y)) same ∙ ap one_if_none none in
@@ -42,11 +42,11 @@ module _ (old new : Known) (kept : (a : Asked) (b : List ℕ) → old a ≡ Some
           omega (arith, here, rest)
 
 -- one that isn't known
-pub one_unknown : (known : Known) (a : Asked) (list : List Asked) → known a ≡ None → Contains list a → 1 ≤ unknown known list
+pub one_unknown : (known : Known) (a : Asked) (list : List Asked) → known a ≡ None → Contains list a → 1 ≤ count_unknown known list
 one_unknown known a [] none (k, lt, e) = absurd (omega (arith, lt))
 one_unknown known a (x ∷ list) none h = by (one_unknown known a list none) (contains_cases x a list h)
   where
-    by : (Contains list a → 1 ≤ unknown known list) → (x ≡ a) ⊎ Contains list a → 1 ≤ unknown known (x ∷ list)
+    by : (Contains list a → 1 ≤ count_unknown known list) → (x ≡ a) ⊎ Contains list a → 1 ≤ count_unknown known (x ∷ list)
     by later (inl same) = let was : one_if_none (known x) ≡ 1 = ap (λ y. one_if_none (known y)) same ∙ ap one_if_none none in omega (arith, was)
     by later (inr there) = let rest = later there in omega (arith, rest)
 
@@ -123,7 +123,7 @@ known_nothing {known} h = record {
     never : {o : Option (List ℕ)} {b : List ℕ} → o ≡ None → o ≡ Some b → ⊥
     never e f = cc
 
-pub nothing_known : {known : Known} → KnowsNothing known → (list : List Asked) → unknown known list ≡ length list
+pub nothing_known : {known : Known} → KnowsNothing known → (list : List Asked) → count_unknown known list ≡ length list
 nothing_known h [] = refl
 nothing_known {known} h (a ∷ list) =
     let one : one_if_none (known a) ≡ 1 = ap one_if_none (h a) in

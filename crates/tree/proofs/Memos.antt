@@ -12,7 +12,7 @@ use Rattle.blob_source.specs.Source.{Telling, Asks, IsBlobUnder}
 use Rattle.blob_source.proofs.Digests.{other_digests}
 use Rattle.tree.specs.declared.memo.Memo.{Memo}
 use Rattle.tree.specs.declared.memo.Kept.{Kept}
-use Rattle.tree.specs.Memo.{Asked, blob, result, Known, IsKnownOf, IsSame, KnowsToo, Learns, LooksAtBlob, LooksAtResult, kept_bytes, known_by, unknown}
+use Rattle.tree.specs.Memo.{Asked, blob, result, Known, IsKnownOf, IsSame, KnowsToo, Learns, LooksAtBlob, LooksAtResult, kept_bytes, known_by, count_unknown}
 use Rattle.tree.proofs.LookupOnce.{bytes_once}
 use Rattle.tree.proofs.Learning.{fewer, one_fewer, one_unknown, known_still}
 
@@ -124,7 +124,7 @@ module _ {d : DigestValue} {old new : Known} {before after : Telling} (known : I
       }
 
       by_once : (list : List Asked) → (d ≢ empty_digest → Contains list (blob d)) → (d ≡ empty_digest) ⊎ (d ≢ empty_digest) → (old (blob d) ≡ None) ⊎ (after ≡ before)
-          → after.calls + unknown new list ≤ before.calls + unknown old list
+          → after.calls + count_unknown new list ≤ before.calls + count_unknown old list
       by_once list covers empty (inr same) = let calls = ap (λ t. t.calls) same in let rest = fewer old new kept list in omega (arith, calls, rest)
       by_once list covers (inl empty) (inl none) = let calls = ap (λ t. t.calls) (unasked empty) in let rest = fewer old new kept list in omega (arith, calls, rest)
       by_once list covers (inr other) (inl none) =
@@ -151,7 +151,7 @@ module _ {old new : Known} {before after : Telling} (known : IsKnownOf old befor
     learned = λ none list covers. absurd (none is);
   }
     where
-      by : (list : List Asked) → (d ≢ empty_digest → Contains list (blob d)) → (d ≡ empty_digest) ⊎ (d ≢ empty_digest) → (old (blob d) ≡ None) ⊎ (after ≡ before) → after.calls ≤ before.calls + unknown old list
+      by : (list : List Asked) → (d ≢ empty_digest → Contains list (blob d)) → (d ≡ empty_digest) ⊎ (d ≢ empty_digest) → (old (blob d) ≡ None) ⊎ (after ≡ before) → after.calls ≤ before.calls + count_unknown old list
       by list covers empty (inr same) = let calls = ap (λ t. t.calls) same in omega (arith, calls)
       by list covers (inl empty) (inl none) = let calls = ap (λ t. t.calls) (unasked empty) in omega (arith, calls)
       by list covers (inr other) (inl none) = let one = one_unknown old (blob d) list none (covers other) in let most = asks.most_calls in omega (arith, one, most)

@@ -67,9 +67,9 @@ one_if_none None = 1
 one_if_none (Some bytes) = 0
 
 -- how many of a list aren't known
-abbrev pub unknown : Known → List Asked → ℕ
-unknown known [] = 0
-unknown known (a ∷ list) = one_if_none (known a) + unknown known list
+abbrev pub count_unknown : Known → List Asked → ℕ
+count_unknown known [] = 0
+count_unknown known (a ∷ list) = one_if_none (known a) + count_unknown known list
 
 -- all that is looked at stands in a list
 abbrev pub Covers : (Asked → Type 0) → List Asked → Type 0
@@ -85,9 +85,9 @@ pub record Learns (Looks : Asked → Type 0) (refused : Type 0) (old new : Known
   pub kept : (a : Asked) (b : List ℕ) → old a ≡ Some b → new a ≡ Some b
   pub others : (a : Asked) → (Looks a → ⊥) → a ≢ blob empty_digest → new a ≡ old a
   pub once : (list : List Asked) → Covers Looks list
-      → after.calls ≤ before.calls + unknown old list
+      → after.calls ≤ before.calls + count_unknown old list
   pub learned : (refused → ⊥) → (list : List Asked) → Covers Looks list
-      → after.calls + unknown new list ≤ before.calls + unknown old list
+      → after.calls + count_unknown new list ≤ before.calls + count_unknown old list
 
 -- a call was refused
 abbrev pub WasRefused : {T E : Type 0} → Result T E → Type 0

@@ -46,9 +46,9 @@ led n [] = []
 led n (l ∷ ls) = first_under n l.0 l.1 (led n ls)
 
 -- how many names the targets have
-abbrev pub total : {X : Type 0} → List (List Name × X) → ℕ
-total [] = 0
-total (l ∷ ls) = length l.0 + total ls
+abbrev pub count_of_names : {X : Type 0} → List (List Name × X) → ℕ
+count_of_names [] = 0
+count_of_names (l ∷ ls) = length l.0 + count_of_names ls
 
 -- the lines, with what stands at them
 abbrev pub lines_seen : {A T : Type 0} → List (Line A T) → List (List Name × T)

@@ -6,8 +6,8 @@ use Rattle.verifier.specs.declared.fault.Fault.TheVariants as faults
 use Rattle.verifier.specs.declared.verdict.Cause.{Cause}
 
 -- a check whose faults have other names
-abbrev pub named : {E F V : Type 0} → (E → F) → Stage E V → Stage F V
-named {E} name check = record {
+abbrev pub with_faults_named : {E F V : Type 0} → (E → F) → Stage E V → Stage F V
+with_faults_named {E} name check = record {
   passes = check.passes;
   fails = λ why. (e : E) × check.fails e × (why ≡ name e);
 }

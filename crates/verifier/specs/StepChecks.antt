@@ -27,7 +27,7 @@ use Rattle.verifier.specs.declared.verdict.Cause.TheVariants.{ResultMalformed, E
 use Rattle.verifier.specs.declared.verdict.Cause.TheVariants.{OutputUnlisted}
 use Rattle.verifier.specs.Faults.{cause_of_fault, cause_of_lines}
 use Rattle.verifier.specs.Holding.{HoldsResult}
-use Rattle.verifier.specs.Stage.{named}
+use Rattle.verifier.specs.Stage.{with_faults_named}
 use Rattle.verifier.specs.Together.{put_together}
 
 -- ---- what a step must be, one check each
@@ -52,7 +52,7 @@ framed action frame = demands (digest_of (frame_bytes action.frame) ≡ frame) F
 abbrev pub together : {A : Type 0} → Blobs → DigestValue → List OutcomeValue → List LineValue
     → Stage (Cause A) (Tree NodeValue)
 together B sources outcomes lines =
-    named cause_of_lines (put_together B sources (slice_get outcomes) lines)
+    with_faults_named cause_of_lines (put_together B sources (slice_get outcomes) lines)
 
 -- the cause that a difference of the recorded input is
 abbrev pub difference_cause : {A : Type 0} → Differing → Cause A

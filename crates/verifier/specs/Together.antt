@@ -19,7 +19,7 @@ use Rattle.tree.specs.MergeLooks.{looks, MergeLooksAt}
 use Rattle.tree.specs.Stage.{Stage, ◌and_then◌}
 use Rattle.blob_source.specs.Source.{Blobs}
 use Rattle.blob_source.specs.Told.{Fault, missing, wrong, malformed}
-use Rattle.verifier.specs.Stage.{named}
+use Rattle.verifier.specs.Stage.{with_faults_named}
 
 -- ---- origins
 
@@ -112,7 +112,7 @@ resolved blobs sources earlier lines = record {
 abbrev pub put_together : Blobs → DigestValue → Earlier → List LineValue
     → Stage LinesFault (Tree NodeValue)
 put_together blobs sources earlier lines =
-    resolved blobs sources earlier lines and_then λ nodes. named of_merge (merged blobs nodes)
+    resolved blobs sources earlier lines and_then λ nodes. with_faults_named of_merge (merged blobs nodes)
 
 -- Why lines weren't put together: their first fault, unless the source failed or memory ran out.
 abbrev pub ExplainsLines : {A : Type 0} → (LinesFault → Type 0) → TreeError A → Type 0

@@ -123,13 +123,13 @@ meaning = record {
 -- ---- what the steps come to
 
 -- the file that the first step makes, alone in its directory
-abbrev pub made : Tree Leaf
-made = leaf (codes "a") (file (codes "123456789") false) empty
+abbrev pub first_output : Tree Leaf
+first_output = leaf (codes "a") (file (codes "123456789") false) empty
 
 abbrev pub gen : ActionMeaning × Outcome
 gen = (
   record { frame = framing gen_command_digest; command = making (codes "out"); input = empty },
-  record { exit_code = pos 0; outputs = (codes "out" ∷ [], whole made) ∷ [] },
+  record { exit_code = pos 0; outputs = (codes "out" ∷ [], whole first_output) ∷ [] },
 )
 
 abbrev pub data_input : Tree Leaf
@@ -150,7 +150,7 @@ abbrev pub recorded : List DigestValue
 recorded = gen_action_digest ∷ use_action_digest ∷ []
 
 abbrev pub gen_tree : TreeValue
-gen_tree = record { root = directory_of (form made); children = [] }
+gen_tree = record { root = directory_of (form first_output); children = [] }
 
 abbrev pub gen_result : ActionResultValue
 gen_result = record {

@@ -4,7 +4,7 @@ use Rattle.std.specs.Prelude.{◌⊎◌, ◌==◌, map}
 use Rattle.std.proofs.lemmas.Bool.Decides.{eqb_tells}
 use Rattle.std.proofs.lemmas.List.{map-append, take_more}
 use Rattle.std.specs.declared.vec.Vec.{Vec}
-use Rattle.worker.specs.Values.{blobs_of}
+use Rattle.worker.specs.Values.{items_of}
 use Rattle.blob_digest.specs.Digest.{DigestValue, digest_of}
 use Rattle.blob_source.specs.Source.{Blobs, Telling, Grows, AsksResult, Asks, AsksSome}
 use Rattle.blob_source.specs.Sink.{PutsBlob, PutsResult, HasRight, IsPut, KeepsRight}
@@ -96,7 +96,7 @@ all_right_spelled {X} spell B C xs i x lt is keeps held right =
     subst (HasAllRight C) (sym values) (all_right_more C (map spell (take i xs)) (spell x) (all_right_still B C (map spell (take i xs)) keeps held) right)
 
 pub all_right_taken : {A : Type 0} (B C : Blobs) (bs : List (Vec ℕ A)) (i : ℕ) (x : Vec ℕ A) → i < length bs → x ≡ get_or bs i x → KeepsRight B C
-    → HasAllRight B (blobs_of (take i bs)) → HasRight C (digest_of x.items) → HasAllRight C (blobs_of (take (i + 1) bs))
+    → HasAllRight B (items_of (take i bs)) → HasRight C (digest_of x.items) → HasAllRight C (items_of (take (i + 1) bs))
 all_right_taken {A} B C bs i x lt is keeps held right = all_right_spelled (λ (b : Vec ℕ A). b.items) B C bs i x lt is keeps held right
 
 -- ---- which digest

@@ -15,7 +15,7 @@ use Rattle.tree.proofs.MergeCounts.{digest_itself}
 use Rattle.action_messages.proofs.Apart.{weaker}
 use Rattle.worker.specs.declared.remembering.Remembered.{Remembered}
 use Rattle.worker.specs.Storing.{HasPut, HasPutAll, StaysPut, StaysRemembered, WerePut, Remembers, not_put}
-use Rattle.worker.specs.Values.{blobs_of}
+use Rattle.worker.specs.Values.{items_of}
 use Rattle.worker.proofs.Keeping.{right_still}
 use Rattle.worker.proofs.Knowing.{knows_still}
 
@@ -44,17 +44,17 @@ stays_more old new key added d among = by (is_eq (digest_cmp key d)) refl
 pub among_more : (old new : BTreeSet DigestValue) (key : DigestValue) → ((d : DigestValue) → contains digest_cmp new d ≡ cond (is_eq (digest_cmp key d)) true (contains digest_cmp old d)) → HasPut new key
 among_more old new key added = added key ∙ subst (λ c. cond c true (contains digest_cmp old key) ≡ true) (sym (is_eq-digest_cmp key key ∙ digest_itself key)) refl
 
-taken_blobs : {A : Type 0} (bs : List (Vec ℕ A)) (i : ℕ) (x : Vec ℕ A) → i < length bs → x ≡ get_or bs i x → blobs_of (take (i + 1) bs) ≡ blobs_of (take i bs) ++ x.items ∷ []
+taken_blobs : {A : Type 0} (bs : List (Vec ℕ A)) (i : ℕ) (x : Vec ℕ A) → i < length bs → x ≡ get_or bs i x → items_of (take (i + 1) bs) ≡ items_of (take i bs) ++ x.items ∷ []
 taken_blobs {A} bs i x lt is =
     let taken : take (i + 1) bs ≡ take i bs ++ x ∷ [] = take_more bs i x lt ∙ ap (λ y. take i bs ++ y ∷ []) (sym is) in
-    ap blobs_of taken ∙ map-append (λ (b : Vec ℕ A). b.items) (take i bs) (x ∷ [])
+    ap items_of taken ∙ map-append (λ (b : Vec ℕ A). b.items) (take i bs) (x ∷ [])
 
 -- Directories that were put, and one more
-pub put_all_more : {A : Type 0} (old new : BTreeSet DigestValue) (bs : List (Vec ℕ A)) (i : ℕ) (x : Vec ℕ A) → i < length bs → x ≡ get_or bs i x → StaysPut old new → HasPutAll old (blobs_of (take i bs))
-    → HasPut new (digest_of x.items) → HasPutAll new (blobs_of (take (i + 1) bs))
+pub put_all_more : {A : Type 0} (old new : BTreeSet DigestValue) (bs : List (Vec ℕ A)) (i : ℕ) (x : Vec ℕ A) → i < length bs → x ≡ get_or bs i x → StaysPut old new → HasPutAll old (items_of (take i bs))
+    → HasPut new (digest_of x.items) → HasPutAll new (items_of (take (i + 1) bs))
 put_all_more {A} old new bs i x lt is stays all one =
-    let values : blobs_of (take (i + 1) bs) ≡ blobs_of (take i bs) ++ x.items ∷ [] = taken_blobs bs i x lt is in
-    subst (HasPutAll new) (sym values) (all_join (λ b. HasPut new (digest_of b)) (blobs_of (take i bs)) (x.items ∷ []) (weaker (λ b. HasPut old (digest_of b)) (λ b. HasPut new (digest_of b)) (λ b. stays (digest_of b)) (blobs_of (take i bs)) all) (one, tt))
+    let values : items_of (take (i + 1) bs) ≡ items_of (take i bs) ++ x.items ∷ [] = taken_blobs bs i x lt is in
+    subst (HasPutAll new) (sym values) (all_join (λ b. HasPut new (digest_of b)) (items_of (take i bs)) (x.items ∷ []) (weaker (λ b. HasPut old (digest_of b)) (λ b. HasPut new (digest_of b)) (λ b. stays (digest_of b)) (items_of (take i bs)) all) (one, tt))
 
 -- how many weren't put
 not_put_join : (put : BTreeSet DigestValue) (bs cs : List (List ℕ)) → not_put put (bs ++ cs) ≡ not_put put bs + not_put put cs
@@ -73,18 +73,18 @@ fewer_put old new b stays = by (contains digest_cmp old (digest_of b)) refl
         at_most_one false = omega arith
 
 pub once_more : {A : Type 0} (first old : BTreeSet DigestValue) (bs : List (Vec ℕ A)) (i : ℕ) (x : Vec ℕ A) (start before after : ℕ) → i < length bs → x ≡ get_or bs i x → StaysPut first old
-    → before ≤ start + 1 + not_put first (blobs_of (take i bs)) → after ≤ before + not_put old (x.items ∷ []) → after ≤ start + 1 + not_put first (blobs_of (take (i + 1) bs))
+    → before ≤ start + 1 + not_put first (items_of (take i bs)) → after ≤ before + not_put old (x.items ∷ []) → after ≤ start + 1 + not_put first (items_of (take (i + 1) bs))
 once_more {A} first old bs i x start before after lt is stays so_far call =
-    let values : blobs_of (take (i + 1) bs) ≡ blobs_of (take i bs) ++ x.items ∷ [] = taken_blobs bs i x lt is in
-    let joined : not_put first (blobs_of (take (i + 1) bs)) ≡ not_put first (blobs_of (take i bs)) + not_put first (x.items ∷ []) = ap (not_put first) values ∙ not_put_join first (blobs_of (take i bs)) (x.items ∷ []) in
+    let values : items_of (take (i + 1) bs) ≡ items_of (take i bs) ++ x.items ∷ [] = taken_blobs bs i x lt is in
+    let joined : not_put first (items_of (take (i + 1) bs)) ≡ not_put first (items_of (take i bs)) + not_put first (x.items ∷ []) = ap (not_put first) values ∙ not_put_join first (items_of (take i bs)) (x.items ∷ []) in
     let fewer = fewer_put first old x.items stays in
     omega (arith, so_far, call, joined, fewer)
 
 -- of all of them at most as many weren't put as of the first ones
-pub once_first : {A : Type 0} (put : BTreeSet DigestValue) (bs : List (Vec ℕ A)) (i : ℕ) → not_put put (blobs_of (take i bs)) ≤ not_put put (blobs_of bs)
+pub once_first : {A : Type 0} (put : BTreeSet DigestValue) (bs : List (Vec ℕ A)) (i : ℕ) → not_put put (items_of (take i bs)) ≤ not_put put (items_of bs)
 once_first put [] zero = let none : 0 ≤ 0 = omega arith in none
 once_first put [] (suc i) = let none : 0 ≤ 0 = omega arith in none
-once_first put (b ∷ bs) zero = let none : 0 ≤ not_put put (blobs_of (b ∷ bs)) = omega arith in none
+once_first put (b ∷ bs) zero = let none : 0 ≤ not_put put (items_of (b ∷ bs)) = omega arith in none
 once_first put (b ∷ bs) (suc i) = let h = once_first put bs i in omega (arith, h)
 
 -- a call is counted once

@@ -9,7 +9,7 @@ ghost use Rattle.worker.specs.Storing.{HasPut, HasPutAll, HasResultOf, IsKeptBut
 ghost use Rattle.worker.specs.Storing.{StaysPut, WerePut, not_put};
 ghost use Rattle.worker.specs.Outcomes.{HasAllRight, HasTrees, directories_of};
 ghost use Rattle.worker.specs.Counted.{Counts, IsFetch};
-ghost use Rattle.worker.specs.Values.{blobs_of};
+ghost use Rattle.worker.specs.Values.{items_of};
 ghost use Rattle.worker.specs.Stopped.{IsStoreFault};
 ghost use Rattle.worker.specs.Stored.{IsKept};
 
@@ -30,7 +30,7 @@ pub fn put_all<A: Allocator + Copy, S: BlobSink<A>>(
     blobs: &[Vec<u8, A>],
 ) -> Result<(), Refusal<A>>
     ensures kept { IsKept (S.tells sink.old) (S.tells sink.new) }
-    ensures held { OnOk result (HasAllRight (S.tells sink.new).blobs (blobs_of blobs.now)) }
+    ensures held { OnOk result (HasAllRight (S.tells sink.new).blobs (items_of blobs.now)) }
     ensures failed { IfErr result IsStoreFault }
     ensures fetched { Counts (S.tells sink.old).failures (S.tells sink.new).failures
         (IsErrAnd result IsFetch) }
@@ -84,12 +84,12 @@ pub(crate) fn put_input<A: Allocator + Copy, S: BlobSink<A>>(
     ensures held { OnOk result
         (HasRight (S.tells sink.new).blobs (digest_of (action_bytes job.now.action))) }
     ensures input { OnOk result
-        (HasAllRight (S.tells sink.new).blobs (blobs_of job.now.input.directories.items)) }
+        (HasAllRight (S.tells sink.new).blobs (items_of job.now.input.directories.items)) }
     ensures stays { StaysPut put.old put.new }
-    ensures listed { OnOk result (HasPutAll put.new (blobs_of job.now.input.directories.items)) }
+    ensures listed { OnOk result (HasPutAll put.new (items_of job.now.input.directories.items)) }
     // The store is called for the action, and at most once for each Directory that wasn't put.
     ensures once { (S.tells sink.new).calls ≤ (S.tells sink.old).calls + 1
-        + not_put put.old (blobs_of job.now.input.directories.items) }
+        + not_put put.old (items_of job.now.input.directories.items) }
     ensures failed { IfErr result IsStoreFault }
     ensures fetched { Counts (S.tells sink.old).failures (S.tells sink.new).failures
         (IsErrAnd result IsFetch) }

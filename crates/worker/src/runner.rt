@@ -21,11 +21,11 @@ pub struct Produced<A: Allocator> {
 }
 
 impl<A: Allocator> Model for Produced<A> {
-    ghost use Rattle.worker.specs.Values.{ProducedValue, blobs_of};
+    ghost use Rattle.worker.specs.Values.{ProducedValue, items_of};
 
     ghost Value = { ProducedValue };
 
-    ghost view = { λ a. record { outcome = a.outcome; blobs = blobs_of a.blobs.items } };
+    ghost view = { λ a. record { outcome = a.outcome; blobs = items_of a.blobs.items } };
 }
 
 /// Why a child isn't started, or came to nothing.

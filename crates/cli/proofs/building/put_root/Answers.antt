@@ -3,7 +3,7 @@ use Rattle.std.proofs.Math.Logic.{∥∥₁_map}
 use Rattle.remote.specs.Remote.{connection_of, telling_of}
 use Rattle.commands.specs.Places.{IsToldOver}
 use Rattle.worker.specs.Outcomes.{HasAllRight}
-use Rattle.worker.specs.Values.{blobs_of}
+use Rattle.worker.specs.Values.{items_of}
 use Rattle.cli.specs.Built.{HoldsRoot}
 use Rattle.cli.proofs.building.put_root.Goals as goal
 
@@ -13,5 +13,5 @@ returns-in-Ok-clause-held g c =
     subst (λ t. HoldsRoot (IsToldOver g.K.Origin.start) t) (sym c.in-Built.is) (
       telling_of remote,
       ∥∥₁_map c.put_all.new.sink.over (λ over. (connection_of g.S.Stream.flow remote, over)),
-      subst (λ bs. HasAllRight (telling_of remote).blobs (blobs_of bs)) c.deref.ensures.value c.in-Ok.ensures.held,
+      subst (λ bs. HasAllRight (telling_of remote).blobs (items_of bs)) c.deref.ensures.value c.in-Ok.ensures.held,
     )

@@ -1,7 +1,7 @@
 use Rattle.std.proofs.Common.{◌≡◌, ap, ◌∙◌, ◌≤◌, Err, length, take, subst, sym, arith}
 use Rattle.std.specs.List.{AllByRecursion}
 use Rattle.std.proofs.lemmas.List.{take_all}
-use Rattle.worker.specs.Values.{blobs_of}
+use Rattle.worker.specs.Values.{items_of}
 use Rattle.processes.specs.Laying.{place_in}
 use Rattle.messages.specs.Path.{path_text}
 use Rattle.worker.specs.declared.runner.RunError.{RunError}
@@ -17,7 +17,7 @@ use Rattle.processes.proofs.collecting.collect.Goals as goal
 pub loop-path-preserved : goal.loop-path-preserved
 loop-path-preserved g c =
     so_far_taken g.W.Workshop.works c.args.ended.now c.args.folder.now c.args.paths.now c.loop-path.path-index _ c.path-item.result
-    c.loop-path.outcome (blobs_of c.loop-path.blobs.items) c.take_output.new.outcome (blobs_of c.take_output.new.blobs.items) c.as_str-in-loop-path.result.now
+    c.loop-path.outcome (items_of c.loop-path.blobs.items) c.take_output.new.outcome (items_of c.take_output.new.blobs.items) c.as_str-in-loop-path.result.now
     c.loop-path-test.true c.path-item.is c.loop-path.invariant
     (c.as_str-in-loop-path.ensures.value ∙ c.in-Ok.ensures ∙ ap (λ t. place_in c.args.folder.now t) c.as_str.ensures.value)
     c.in-Ok-take_output.ensures.more
@@ -46,7 +46,7 @@ returns-in-Err-clause-bad g c path is =
       before = take c.loop-path.path-index c.args.paths.now;
       after = whole.0;
       whole = whole.1;
-      collected = all_collected works ended folder c.args.paths.now (take c.loop-path.path-index c.args.paths.now) _ c.loop-path.outcome (blobs_of c.loop-path.blobs.items) c.loop-path.invariant;
+      collected = all_collected works ended folder c.args.paths.now (take c.loop-path.path-index c.args.paths.now) _ c.loop-path.outcome (items_of c.loop-path.blobs.items) c.loop-path.invariant;
       bad = subst (HasNoOutput works ended) place bad;
     })
 

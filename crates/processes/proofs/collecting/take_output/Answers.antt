@@ -1,5 +1,5 @@
 use Rattle.std.proofs.Common.{◌≡◌, ℕ, List, [], ◌∷◌, ◌++◌, Some, sym, subst, inl, inr, refl, arith, append-nil}
-use Rattle.worker.specs.Values.{blobs_of}
+use Rattle.worker.specs.Values.{items_of}
 use Rattle.actions.specs.Outcome.{AddsOutput, output_value}
 use Rattle.processes.specs.Collected.{IsOutputAt}
 use Rattle.processes.proofs.Walks.{contains_one}
@@ -11,7 +11,7 @@ use Rattle.processes.proofs.collecting.take_output.Goals.{in-File+in_ok-digest-i
 pub returns-in-Nothing-clause-more : goal.returns-in-Nothing-clause-more
 returns-in-Nothing-clause-more g c = record {
   own = [];
-  blobs = sym (append-nil (blobs_of c.args.blobs.now.items));
+  blobs = sym (append-nil (items_of c.args.blobs.now.items));
   more = inl (subst (λ s. g.W.Workshop.works.stands c.args.ended.now c.args.place.now s) c.in-Nothing.is c.in_ok-look.ensures.told, refl, refl);
 }
 
@@ -20,20 +20,20 @@ returns-clause-more g c =
     let works = g.W.Workshop.works in
     let place = c.args.place.now in
     let ended = c.args.ended.now in
-    let before = blobs_of c.args.blobs.now.items in
+    let before = items_of c.args.blobs.now.items in
     let output = c.match-branch-2.output in
-    let made : (own : List (List ℕ)) × (blobs_of c.match-branch-2.blobs.items ≡ before ++ own) × IsOutputAt works ended place (output_value output) own = elim c.match-branch-2.branch [
+    let made : (own : List (List ℕ)) × (items_of c.match-branch-2.blobs.items ≡ before ++ own) × IsOutputAt works ended place (output_value output) own = elim c.match-branch-2.branch [
       | in-File+in_ok-digest-in-File w ↦ (
           let e = w.in_ok-digest-in-File.ensures.kept in
           let stands = subst (λ s. works.stands ended place s) w.in-File.is c.in_ok-look.ensures.told in
-          subst (λ bs. (own : List (List ℕ)) × (blobs_of bs.items ≡ before ++ own) × IsOutputAt works ended place (output_value output) own) (sym w.blobs-is)
-          (subst (λ o. (own : List (List ℕ)) × (blobs_of w.keep_file.new.blobs.items ≡ before ++ own) × IsOutputAt works ended place (output_value o) own) (sym w.output-is)
+          subst (λ bs. (own : List (List ℕ)) × (items_of bs.items ≡ before ++ own) × IsOutputAt works ended place (output_value output) own) (sym w.blobs-is)
+          (subst (λ o. (own : List (List ℕ)) × (items_of w.keep_file.new.blobs.items ≡ before ++ own) × IsOutputAt works ended place (output_value o) own) (sym w.output-is)
           (e.0 ∷ [], e.3, ((refl, stands, (e.0, e.1, e.2, (0, omega arith, refl))), λ x h. subst (λ y. works.holds ended place (Some y)) (contains_one e.0 x h) e.1))))
       | in-Folder+in_ok-keep_folder-in-Folder w ↦ (
           let e = w.in_ok-keep_folder-in-Folder.ensures.tree in
           let stands = subst (λ s. works.stands ended place s) w.in-Folder.is c.in_ok-look.ensures.told in
-          subst (λ bs. (own : List (List ℕ)) × (blobs_of bs.items ≡ before ++ own) × IsOutputAt works ended place (output_value output) own) (sym w.blobs-is)
-          (subst (λ o. (own : List (List ℕ)) × (blobs_of w.keep_folder.new.blobs.items ≡ before ++ own) × IsOutputAt works ended place (output_value o) own) (sym w.output-is)
+          subst (λ bs. (own : List (List ℕ)) × (items_of bs.items ≡ before ++ own) × IsOutputAt works ended place (output_value output) own) (sym w.blobs-is)
+          (subst (λ o. (own : List (List ℕ)) × (items_of w.keep_folder.new.blobs.items ≡ before ++ own) × IsOutputAt works ended place (output_value o) own) (sym w.output-is)
           (e.0, e.2, (stands, e.1))))
     ] in
     record {

@@ -5,7 +5,7 @@ use Rattle.std.proofs.lemmas.Result.{err_from_is_err_and}
 use Rattle.messages.specs.Name.{IsName}
 use Rattle.tree.specs.Tree.{Name, a_directory}
 use Rattle.tree.specs.Lookup.{names_in}
-use Rattle.worker.specs.Values.{blobs_of}
+use Rattle.worker.specs.Values.{items_of}
 use Rattle.processes.specs.declared.trouble.Trouble.TheVariants.{NoOutput}
 use Rattle.processes.specs.declared.workshop.Standing.TheVariants as standings
 use Rattle.processes.specs.Collected.{IsBadFolder}
@@ -20,7 +20,7 @@ use Rattle.processes.proofs.walking.+walk.Goals.{in-File+in_ok-digest-in-File+in
 pub loop-name-init : goal.loop-name-init
 loop-name-init g t c =
     let bare : IsBare c.args.tree.now (names_in c.args.above.now) = first_of (assumption c.requires, search rules) in
-    none_seen g.W.Workshop.works c.args.ended.now c.args.place.now (names_in c.args.above.now) c.args.tree.now (blobs_of c.args.blobs.now.items) bare
+    none_seen g.W.Workshop.works c.args.ended.now c.args.place.now (names_in c.args.above.now) c.args.tree.now (items_of c.args.blobs.now.items) bare
 
 pub walk-requires : goal.walk-requires
 walk-requires g t c κs within =
@@ -28,7 +28,7 @@ walk-requires g t c κs within =
     let at : c.in_ok-path.path ≡ path ++ string_bytes c.name-item.result ∷ [] = c.in_ok-path.ensures.path ∙ ap (λ x. path ++ x ∷ []) c.as_str.ensures.value in
     let bare : IsBare c.add-in-Folder.new.self (path ++ string_bytes c.name-item.result ∷ []) =
     one_bare g.W.Workshop.works c.args.ended.now c.args.place.now path string_bytes c.deref-name-items.result.now c.loop-name.name-index c.name-item.result c.loop-name-test.true c.name-item.is
-    c.args.tree.now c.loop-name.tree c.add-in-Folder.new.self (blobs_of c.args.blobs.now.items) (blobs_of c.loop-name.blobs.items) c.loop-name.invariant a_directory _
+    c.args.tree.now c.loop-name.tree c.add-in-Folder.new.self (items_of c.args.blobs.now.items) (items_of c.loop-name.blobs.items) c.loop-name.invariant a_directory _
     (c.in_ok-copy_of-in-Folder.ensures ∙ at) c.in_ok-add-in-Folder.ensures.added c.in_ok-add-in-Folder.ensures.room (place_in c.args.place.now (string_bytes c.name-item.result)) refl refl in
     let all : length path + c.args.most ≡ 64 = first_of (assumption c.requires, search rules) in
     let fewer = one_fewer c.args.most c.in-Some.fewer c.in-Some.ensures in
@@ -43,8 +43,8 @@ loop-name-preserved g t c =
     let place = c.args.place.now in
     let path = names_in c.args.above.now in
     let n = string_bytes c.name-item.result in
-    let before = blobs_of c.args.blobs.now.items in
-    let between = blobs_of c.loop-name.blobs.items in
+    let before = items_of c.args.blobs.now.items in
+    let between = items_of c.loop-name.blobs.items in
     let names = c.deref-name-items.result.now in
     let i = c.loop-name.name-index in
     let at : c.in_ok-path.path ≡ path ++ n ∷ [] = c.in_ok-path.ensures.path ∙ ap (λ x. path ++ x ∷ []) c.as_str.ensures.value in
@@ -52,24 +52,24 @@ loop-name-preserved g t c =
     let looked : c.as_str-in-loop-name-2.result.now ≡ place_in place n = c.as_str-in-loop-name-2.ensures.value ∙ spot in
     elim c.match-branch-5.branch [
       | in-File+in_ok-digest-in-File+in_ok-add-in-File w ↦
-          subst (λ t. IsSoFar works ended place path (map string_bytes (take (i + 1) names)) c.args.tree.now t before (blobs_of c.match-branch-5.blobs.items)) (sym w.tree-is)
-          (subst (λ bs. IsSoFar works ended place path (map string_bytes (take (i + 1) names)) c.args.tree.now w.add.new.self before (blobs_of bs.items)) (sym w.blobs-is)
+          subst (λ t. IsSoFar works ended place path (map string_bytes (take (i + 1) names)) c.args.tree.now t before (items_of c.match-branch-5.blobs.items)) (sym w.tree-is)
+          (subst (λ bs. IsSoFar works ended place path (map string_bytes (take (i + 1) names)) c.args.tree.now w.add.new.self before (items_of bs.items)) (sym w.blobs-is)
           (one_file works ended place path string_bytes names i c.name-item.result c.loop-name-test.true c.name-item.is c.args.tree.now c.loop-name.tree w.add.new.self before between c.loop-name.invariant _ _
-          at w.in_ok-add-in-File.ensures.added w.in_ok-add-in-File.ensures.room _ looked (blobs_of w.keep_file.new.blobs.items) w.in_ok-digest-in-File.ensures.kept.0 w.in_ok-digest-in-File.digest refl
+          at w.in_ok-add-in-File.ensures.added w.in_ok-add-in-File.ensures.room _ looked (items_of w.keep_file.new.blobs.items) w.in_ok-digest-in-File.ensures.kept.0 w.in_ok-digest-in-File.digest refl
           (subst (λ s. works.stands ended c.as_str-in-loop-name-2.result.now s) w.in-File.is c.in_ok-look.ensures.told) w.as_str-in-File.result.now (w.as_str-in-File.ensures.value ∙ spot)
           w.in_ok-digest-in-File.ensures.kept.1 w.in_ok-digest-in-File.ensures.kept.2 w.in_ok-digest-in-File.ensures.kept.3))
       | in-Folder+in_ok-copy_of-in-Folder+in_ok-add-in-Folder+in_ok-walk-in-Folder+in-None-1 w ↦
-          subst (λ t. IsSoFar works ended place path (map string_bytes (take (i + 1) names)) c.args.tree.now t before (blobs_of c.match-branch-5.blobs.items)) (sym w.tree-is)
-          (subst (λ bs. IsSoFar works ended place path (map string_bytes (take (i + 1) names)) c.args.tree.now w.walk.new.tree before (blobs_of bs.items)) (sym w.blobs-is)
+          subst (λ t. IsSoFar works ended place path (map string_bytes (take (i + 1) names)) c.args.tree.now t before (items_of c.match-branch-5.blobs.items)) (sym w.tree-is)
+          (subst (λ bs. IsSoFar works ended place path (map string_bytes (take (i + 1) names)) c.args.tree.now w.walk.new.tree before (items_of bs.items)) (sym w.blobs-is)
           (one_folder works ended place path string_bytes names i c.name-item.result c.loop-name-test.true c.name-item.is c.args.tree.now c.loop-name.tree w.add-in-Folder.new.self before between c.loop-name.invariant a_directory _
-          (w.in_ok-copy_of-in-Folder.ensures ∙ at) w.in_ok-add-in-Folder.ensures.added w.in_ok-add-in-Folder.ensures.room _ looked w.walk.new.tree (blobs_of w.walk.new.blobs.items) refl
+          (w.in_ok-copy_of-in-Folder.ensures ∙ at) w.in_ok-add-in-Folder.ensures.added w.in_ok-add-in-Folder.ensures.room _ looked w.walk.new.tree (items_of w.walk.new.blobs.items) refl
           (subst (λ s. works.stands ended c.as_str-in-loop-name-2.result.now s) w.in-Folder.is c.in_ok-look.ensures.told) w.as_str-in-Folder.result.now (w.as_str-in-Folder.ensures.value ∙ spot)
           c.in_ok-path.path at w.in_ok-walk-in-Folder.ensures.walked))
       | in-Folder+in_ok-copy_of-in-Folder+in_ok-add-in-Folder+in_ok-walk-in-Folder+in-Some-1 w ↦
-          subst (λ t. IsSoFar works ended place path (map string_bytes (take (i + 1) names)) c.args.tree.now t before (blobs_of c.match-branch-5.blobs.items)) (sym w.tree-is)
-          (subst (λ bs. IsSoFar works ended place path (map string_bytes (take (i + 1) names)) c.args.tree.now w.walk.new.tree before (blobs_of bs.items)) (sym w.blobs-is)
+          subst (λ t. IsSoFar works ended place path (map string_bytes (take (i + 1) names)) c.args.tree.now t before (items_of c.match-branch-5.blobs.items)) (sym w.tree-is)
+          (subst (λ bs. IsSoFar works ended place path (map string_bytes (take (i + 1) names)) c.args.tree.now w.walk.new.tree before (items_of bs.items)) (sym w.blobs-is)
           (one_folder works ended place path string_bytes names i c.name-item.result c.loop-name-test.true c.name-item.is c.args.tree.now c.loop-name.tree w.add-in-Folder.new.self before between c.loop-name.invariant a_directory _
-          (w.in_ok-copy_of-in-Folder.ensures ∙ at) w.in_ok-add-in-Folder.ensures.added w.in_ok-add-in-Folder.ensures.room _ looked w.walk.new.tree (blobs_of w.walk.new.blobs.items) refl
+          (w.in_ok-copy_of-in-Folder.ensures ∙ at) w.in_ok-add-in-Folder.ensures.added w.in_ok-add-in-Folder.ensures.room _ looked w.walk.new.tree (items_of w.walk.new.blobs.items) refl
           (subst (λ s. works.stands ended c.as_str-in-loop-name-2.result.now s) w.in-Folder.is c.in_ok-look.ensures.told) w.as_str-in-Folder.result.now (w.as_str-in-Folder.ensures.value ∙ spot)
           c.in_ok-path.path at w.in_ok-walk-in-Folder.ensures.walked))
     ]
@@ -84,7 +84,7 @@ returns-clause-walked g t c =
     ap (map string_bytes) (take_all i names end ∙ c.deref-name-items.ensures.value) in
     let listed = c.in_ok-names.ensures.listed in
     all_seen works c.args.ended.now c.args.place.now (names_in c.args.above.now) (map string_bytes (take i names)) c.args.tree.now c.loop-name.tree
-    (blobs_of c.args.blobs.now.items) (blobs_of c.loop-name.blobs.items) (subst (λ xs. works.lists c.args.ended.now c.args.place.now (Some xs)) (sym all) listed) c.loop-name.invariant
+    (items_of c.args.blobs.now.items) (items_of c.loop-name.blobs.items) (subst (λ xs. works.lists c.args.ended.now c.args.place.now (Some xs)) (sym all) listed) c.loop-name.invariant
 
 pub returns-in_err-path-clause-bad : goal.returns-in_err-path-clause-bad
 returns-in_err-path-clause-bad g t c told =
@@ -162,7 +162,7 @@ returns-in_err-add-in-File-clause-failed g t c =
     let listed = subst (λ ns. works.lists ended place (Some (map string_bytes ns))) (sym c.deref-name-items.ensures.value) c.in_ok-names.ensures.listed in
     rw p.1 (add_unread works ended c.in_err-add-in-File.field-0.0 p.0 _ (IsTaken c.loop-name.tree _) p.2 c.in_err-add-in-File.ensures.refused (λ taken.
     listed_twice works ended string_bytes place path c.deref-name-items.result.now c.loop-name.name-index c.name-item.result c.loop-name-test.true c.name-item.is listed
-    c.args.tree.now c.loop-name.tree (blobs_of c.args.blobs.now.items) (blobs_of c.loop-name.blobs.items) c.loop-name.invariant (subst (IsTaken c.loop-name.tree) (at) taken)))
+    c.args.tree.now c.loop-name.tree (items_of c.args.blobs.now.items) (items_of c.loop-name.blobs.items) c.loop-name.invariant (subst (IsTaken c.loop-name.tree) (at) taken)))
 
 pub returns-in_err-add-in-Folder-clause-failed : goal.returns-in_err-add-in-Folder-clause-failed
 returns-in_err-add-in-Folder-clause-failed g t c =
@@ -176,4 +176,4 @@ returns-in_err-add-in-Folder-clause-failed g t c =
     let listed = subst (λ ns. works.lists ended place (Some (map string_bytes ns))) (sym c.deref-name-items.ensures.value) c.in_ok-names.ensures.listed in
     rw p.1 (add_unread works ended c.in_err-add-in-Folder.field-0.0 p.0 _ (IsTaken c.loop-name.tree _) p.2 c.in_err-add-in-Folder.ensures.refused (λ taken.
     listed_twice works ended string_bytes place path c.deref-name-items.result.now c.loop-name.name-index c.name-item.result c.loop-name-test.true c.name-item.is listed
-    c.args.tree.now c.loop-name.tree (blobs_of c.args.blobs.now.items) (blobs_of c.loop-name.blobs.items) c.loop-name.invariant (subst (IsTaken c.loop-name.tree) (c.in_ok-copy_of-in-Folder.ensures ∙ at) taken)))
+    c.args.tree.now c.loop-name.tree (items_of c.args.blobs.now.items) (items_of c.loop-name.blobs.items) c.loop-name.invariant (subst (IsTaken c.loop-name.tree) (c.in_ok-copy_of-in-Folder.ensures ∙ at) taken)))

@@ -1,5 +1,5 @@
 use Rattle.std.proofs.Common.{◌∙◌, ap, sym}
-use Rattle.worker.specs.Values.{blobs_of}
+use Rattle.worker.specs.Values.{items_of}
 use Rattle.processes.proofs.Unread.{tree_unread}
 use Rattle.processes.proofs.Walks.{folder_tree, walked_folder}
 use Rattle.processes.proofs.walking.keep_folder.Goals as goal
@@ -7,8 +7,8 @@ use Rattle.processes.proofs.walking.keep_folder.Goals as goal
 pub returns-in-Ok-clause-tree : goal.returns-in-Ok-clause-tree
 returns-in-Ok-clause-tree g c =
     let fold = c.in_ok-folded.ensures in
-    folder_tree g.W.Workshop.works c.args.ended.now c.args.place.now c.walk.new.tree fold.tree fold.list c.in-Ok.tree (c.in-Ok.ensures.directories ∙ ap blobs_of c.deref.ensures.value ∙ fold.fold.directories)
-    c.new-tree.result (blobs_of c.args.blobs.now.items) (blobs_of c.walk.new.blobs.items) c.in_ok-walk.ensures.walked
+    folder_tree g.W.Workshop.works c.args.ended.now c.args.place.now c.walk.new.tree fold.tree fold.list c.in-Ok.tree (c.in-Ok.ensures.directories ∙ ap items_of c.deref.ensures.value ∙ fold.fold.directories)
+    c.new-tree.result (items_of c.args.blobs.now.items) (items_of c.walk.new.blobs.items) c.in_ok-walk.ensures.walked
 
 pub returns-clause-failed : goal.returns-clause-failed
 returns-clause-failed g c =
@@ -22,6 +22,6 @@ returns-clause-failed g c =
       blobs = own.more;
       tree = fold.tree;
       ordered = fold.list.ordered;
-      folder = walked_folder works ended place c.walk.new.tree fold.tree fold.list c.new-tree.result (blobs_of c.args.blobs.now.items) (blobs_of c.walk.new.blobs.items) own;
-      none = λ m tree same. none m tree (same ∙ sym (ap blobs_of c.deref.ensures.value ∙ fold.fold.directories));
+      folder = walked_folder works ended place c.walk.new.tree fold.tree fold.list c.new-tree.result (items_of c.args.blobs.now.items) (items_of c.walk.new.blobs.items) own;
+      none = λ m tree same. none m tree (same ∙ sym (ap items_of c.deref.ensures.value ∙ fold.fold.directories));
     })

@@ -2,7 +2,7 @@ use Rattle.std.proofs.Common.{◌≡◌, ℕ, [], ◌∷◌, ◌++◌, map, take
 use Rattle.std.proofs.lemmas.List.{map-append}
 use Rattle.std.specs.declared.vec.Vec.{Vec}
 use Rattle.messages.specs.Directory.{directory_bytes}
-use Rattle.worker.specs.Values.{blobs_of}
+use Rattle.worker.specs.Values.{items_of}
 use Rattle.std.specs.List.{AllByRecursion}
 use Rattle.std.proofs.lemmas.Result.{err_from_is_err_and}
 use Rattle.messages.specs.DirectoryRules.{IsDirectory}
@@ -17,7 +17,7 @@ loop-encoding-preserved g c =
     let all = c.args.encodings.now in
     let bytes : directory_bytes d ≡ c.encoding-item.result.items = sym c.in_ok-decode.ensures.found.1 ∙ c.deref.ensures.value in (
       ap (map directory_bytes) c.in_ok-push.ensures.items ∙ map-append directory_bytes c.loop-encoding.directories.items (d ∷ [])
-          ∙ ap (λ bs. bs ++ directory_bytes d ∷ []) c.loop-encoding.invariant.0 ∙ ap (λ b. blobs_of (take i all) ++ b ∷ []) bytes
+          ∙ ap (λ bs. bs ++ directory_bytes d ∷ []) c.loop-encoding.invariant.0 ∙ ap (λ b. items_of (take i all) ++ b ∷ []) bytes
           ∙ sym (map_taken (λ (b : Vec ℕ g.row.A.Denot). b.items) all i c.encoding-item.result c.loop-encoding-test.true c.encoding-item.is),
       subst (AllByRecursion IsDirectory) (sym c.in_ok-push.ensures.items) (all_more IsDirectory c.loop-encoding.directories.items d c.loop-encoding.invariant.1 c.in_ok-decode.ensures.found.0),
     )

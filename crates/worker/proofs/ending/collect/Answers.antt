@@ -1,7 +1,7 @@
 use Rattle.std.proofs.Common.{ap, subst}
 use Rattle.std.proofs.lemmas.Result.{err_from_is_err_and}
 use Rattle.worker.proofs.Stopping.{end_comes}
-use Rattle.worker.specs.Values.{ProducedValue, blobs_of}
+use Rattle.worker.specs.Values.{ProducedValue, items_of}
 use Rattle.worker.specs.Outcomes.{HasAllRight}
 use Rattle.worker.proofs.Keeping.{kept_trans, all_right_still}
 use Rattle.std.proofs.Common.{◌∙◌}
@@ -19,8 +19,8 @@ pub returns-clause-gave : goal.returns-clause-gave
 returns-clause-gave g c =
     let put = (g.S.BlobSource.tells c.put_all.new.sink).blobs in
     let end = (g.S.BlobSource.tells c.put_trees.new.sink).blobs in
-    let bs = blobs_of c.outcome.inside.blobs.items in
-    let held : HasAllRight put bs = subst (λ vs. HasAllRight put (blobs_of vs)) c.deref.ensures.value c.in_ok-put_all.ensures.held in (
+    let bs = items_of c.outcome.inside.blobs.items in
+    let held : HasAllRight put bs = subst (λ vs. HasAllRight put (items_of vs)) c.deref.ensures.value c.in_ok-put_all.ensures.held in (
       c.in_ok-outcome.field-0,
       c.in_ok-outcome.ensures.gave,
       ap (λ (p : ProducedValue). p.outcome) c.outcome.view_is,

@@ -1,7 +1,7 @@
 use Rattle.std.proofs.Common.{◌≡◌, take}
 use Rattle.worker.specs.Stored.{IsKept}
 use Rattle.worker.specs.Outcomes.{HasAllRight}
-use Rattle.worker.specs.Values.{blobs_of}
+use Rattle.worker.specs.Values.{items_of}
 use Rattle.worker.proofs.putting.put_all.Given as goal
 
 abbrev pub invariant-loop-blob : goal.invariant-loop-blob
@@ -10,5 +10,5 @@ invariant-loop-blob g l =
     record {
       kept : IsKept (tells l.fn.sink) (tells l.sink);
       fetched : (tells l.sink).failures ≡ (tells l.fn.sink).failures;
-      held : HasAllRight (tells l.sink).blobs (blobs_of (take l.blob-index l.blobs));
+      held : HasAllRight (tells l.sink).blobs (items_of (take l.blob-index l.blobs));
     }

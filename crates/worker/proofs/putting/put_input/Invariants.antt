@@ -5,7 +5,7 @@ use Rattle.blob_source.specs.Sink.{HasRight}
 use Rattle.worker.specs.Stored.{IsKept}
 use Rattle.worker.specs.Storing.{HasPutAll, StaysPut, WerePut, not_put}
 use Rattle.worker.specs.Outcomes.{HasAllRight}
-use Rattle.worker.specs.Values.{blobs_of}
+use Rattle.worker.specs.Values.{items_of}
 use Rattle.worker.proofs.putting.put_input.Given as goal
 
 abbrev pub invariant-loop-directory : goal.invariant-loop-directory
@@ -17,7 +17,7 @@ invariant-loop-directory g l =
       fetched : (tells l.sink).failures ≡ (tells l.fn.sink).failures;
       held : HasRight (tells l.sink).blobs (digest_of (action_bytes l.job.action));
       stays : StaysPut l.fn.put l.put;
-      listed : HasPutAll l.put (blobs_of (take l.directory-index l.job.input.directories.items));
-      once : (tells l.sink).calls ≤ (tells l.fn.sink).calls + 1 + not_put l.fn.put (blobs_of (take l.directory-index l.job.input.directories.items));
-      input : HasAllRight (tells l.sink).blobs (blobs_of (take l.directory-index l.job.input.directories.items));
+      listed : HasPutAll l.put (items_of (take l.directory-index l.job.input.directories.items));
+      once : (tells l.sink).calls ≤ (tells l.fn.sink).calls + 1 + not_put l.fn.put (items_of (take l.directory-index l.job.input.directories.items));
+      input : HasAllRight (tells l.sink).blobs (items_of (take l.directory-index l.job.input.directories.items));
     }
