@@ -1,9 +1,7 @@
 ghost use Rattle.std.specs.Prelude.{◌≡◌, ℕ, ◌<◌, ◌≤◌, ◌^◌, ◌++◌, List, length, take, drop, Ok};
 ghost use Rattle.std.specs.Prelude.{IfOk, IfErr, OnOk, OnErr};
 ghost use Rattle.wire.specs.Steps.{Gives};
-ghost use Rattle.wire.specs.Varint.{varint, varint_at, any_varint_at, varint_by, IsShortest};
-ghost use Rattle.wire.specs.Varint.{HasVarintFault};
-ghost use Rattle.wire.specs.AnySpelling.{IsVarint, HasAnyVarintFault};
+ghost use Rattle.wire.specs.Varint.{varint, varint_at, varint_by, IsShortest, HasVarintFault};
 
 use crate::error::WireError;
 use std::alloc::{AllocError, Allocator};
@@ -24,22 +22,6 @@ pub fn read_varint(bytes: &[u8]) -> Result<(u64, usize), WireError>
     ensures fault { IfErr result (λ e. HasVarintFault e bytes.now) }
 {
     scan_varint(bytes, true)
-}
-
-/// The number at the front, and how many bytes it takes: groups of seven bits that may be more than
-/// it needs.
-pub fn read_varint_any(bytes: &[u8]) -> Result<(u64, usize), WireError>
-    ensures exact { Gives (λ found. (found.0, drop found.1 bytes.now)) result
-        (any_varint_at bytes.now) }
-    ensures length { IfOk result (λ found. found.1 ≤ length bytes.now) }
-
-    // What is read is a spelling of the number, and each spelling of a number is read.
-    ensures found { IfOk result (λ found. IsVarint found.0 (take found.1 bytes.now)) }
-    ensures only { (n : ℕ) (text rest : List ℕ) → IsVarint n text → bytes.now ≡ text ++ rest
-        → result ≡ Ok (n, length text) }
-    ensures fault { IfErr result (λ e. HasAnyVarintFault e bytes.now) }
-{
-    scan_varint(bytes, false)
 }
 
 pub(crate) fn scan_varint(bytes: &[u8], shortest: bool) -> Result<(u64, usize), WireError>
