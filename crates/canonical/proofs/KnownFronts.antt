@@ -1,5 +1,5 @@
 -- Behind known records of several texts, the first record that can't be read or breaks a rule decides.
-use Rattle.std.proofs.Common.{◌≡◌, ℕ, ◌<◌, false, length, List, [], ◌∷◌, ◌++◌, Result, Ok, Err, refl, sym, ap, subst, ◌∙◌, append_assoc}
+use Rattle.std.proofs.Common.{◌≡◌, ℕ, ◌<◌, false, length, List, [], ◌∷◌, ◌++◌, Ok, Err, refl, sym, ap, subst, ◌∙◌, append_assoc}
 use Rattle.std.specs.List.{AllByRecursion, flat_map}
 use Rattle.std.proofs.lemmas.List.{append-nil}
 use Rattle.std.proofs.lemmas.List.Concat.{flat_map-cons}
@@ -7,7 +7,6 @@ use Rattle.wire.specs.declared.error.WireError.{WireError}
 use Rattle.wire.specs.Bytes.{IsBytes}
 use Rattle.wire.specs.Reading.{any_record_at, any_fields_of}
 use Rattle.wire.specs.Record.{Record}
-use Rattle.wire.specs.Steps.{◌>>=◌}
 use Rattle.wire.proofs.AnyLists.{fields_front, fields_spelled}
 use Rattle.wire.proofs.AnyRecords.{bytes_front}
 use Rattle.wire.proofs.Lists.{fields_step, fields_fault}
