@@ -1,5 +1,5 @@
 ghost use Rattle.std.specs.Prelude.{◌≡◌, ◌≤◌, ◌++◌, List, ℕ, Result, IfOk, OnOk, OnErr, option_map};
-ghost use Rattle.std.specs.Prelude.{map, take, length, None};
+ghost use Rattle.std.specs.Prelude.{map, take, length, None, IsOk, []};
 ghost use Rattle.wire.specs.Spelling.{spelling};
 ghost use Rattle.canonical.specs.Fields.{element_fields, elements_at};
 ghost use Rattle.wire.specs.Bytes.{AreBytes};
@@ -57,7 +57,9 @@ fn read_all<A: Allocator + Copy, M: Message<A>>(
     alloc: A,
     elements: &[&[u8]],
 ) -> Result<Vec<M, A>, MessageError>
-    ensures { GivesUnlessMemory (λ v. v.items) result (each M.reads (slices elements.now)) }
+    ensures exact { GivesUnlessMemory (λ v. v.items) result
+        (each M.reads (slices elements.now)) }
+    ensures none { slices elements.now ≡ [] → IsOk result }
 {
     let mut messages = Vec::new(alloc);
     for bytes in elements {
@@ -72,8 +74,10 @@ pub fn read_each<A: Allocator + Copy, M: Message<A>>(
     fields: &[Field<'_>],
     number: u32,
 ) -> Result<Vec<M, A>, MessageError>
-    ensures { GivesUnlessMemory (λ v. v.items) result
+    ensures exact { GivesUnlessMemory (λ v. v.items) result
         (each M.reads (elements_at number (records_of fields.now))) }
+    // Without an element it takes no memory.
+    ensures none { elements_at number (records_of fields.now) ≡ [] → IsOk result }
 {
     read_all(alloc, &read_elements(alloc, fields, number)?)
 }

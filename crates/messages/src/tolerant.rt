@@ -1,4 +1,4 @@
-ghost use Rattle.std.specs.Prelude.{List, ℕ, Result};
+ghost use Rattle.std.specs.Prelude.{◌≡◌, List, [], ℕ, None, Result, IsOk, Ok};
 ghost use Rattle.wire.specs.Record.{records_of};
 ghost use Rattle.canonical.specs.Fields.{elements_at};
 ghost use Rattle.canonical.specs.Told.{each};
@@ -38,7 +38,9 @@ fn read_any_all<A: Allocator + Copy, M: Tolerant<A>>(
     alloc: A,
     elements: &[&[u8]],
 ) -> Result<Vec<M, A>, MessageError>
-    ensures { GivesUnlessMemory (λ v. v.items) result (each (alone M.says) (slices elements.now)) }
+    ensures exact { GivesUnlessMemory (λ v. v.items) result
+        (each (alone M.says) (slices elements.now)) }
+    ensures none { slices elements.now ≡ [] → IsOk result }
 {
     let mut messages = Vec::new(alloc);
     for bytes in elements {
@@ -53,8 +55,10 @@ pub fn read_any_each<A: Allocator + Copy, M: Tolerant<A>>(
     fields: &[Field<'_>],
     number: u32,
 ) -> Result<Vec<M, A>, MessageError>
-    ensures { GivesUnlessMemory (λ v. v.items) result
+    ensures exact { GivesUnlessMemory (λ v. v.items) result
         (each (alone M.says) (elements_at number (records_of fields.now))) }
+    // Without an element it takes no memory.
+    ensures none { elements_at number (records_of fields.now) ≡ [] → IsOk result }
 {
     read_any_all(alloc, &read_elements(alloc, fields, number)?)
 }
@@ -65,8 +69,9 @@ pub fn read_any_optional<A: Allocator + Copy, M: Tolerant<A>>(
     fields: &[Field<'_>],
     number: u32,
 ) -> Result<Option<M>, MessageError>
-    ensures { GivesUnlessMemory (λ m. m) result
+    ensures exact { GivesUnlessMemory (λ m. m) result
         (in_occurrences M.says (elements_at number (records_of fields.now))) }
+    ensures absent { elements_at number (records_of fields.now) ≡ [] → result ≡ Ok None }
 {
     let texts = read_elements(alloc, fields, number)?;
     if texts.is_empty() {
