@@ -1,10 +1,11 @@
 -- Names in order, and names that two lists share.
-use Rattle.std.proofs.Common.{◌≡◌, ◌≢◌, ℕ, Bool, true, false, ◌||◌, List, [], ◌∷◌, Some, None, Ok, refl, sym, ap, subst, ◌∙◌}
+use Rattle.std.proofs.Common.{◌≡◌, ◌≢◌, ℕ, ◌+◌, ◌<◌, Bool, true, false, ◌||◌, List, [], ◌∷◌, length, drop, get_or, map, Some, None, Ok, refl, sym, ap, subst, ◌∙◌}
 use Rattle.std.specs.Ordering.{ordering_reverse}
 use Rattle.std.specs.declared.cmp.Ordering.{Ordering}
 use Rattle.std.specs.declared.cmp.Ordering.TheVariants.{Less, Equal, Greater}
 use Rattle.std.specs.Cmp.{IsTotalOrder}
 use Rattle.std.specs.Cmp.Lexicographic.{nat_list_cmp_total}
+use Rattle.std.proofs.lemmas.List.{drop_more}
 use Rattle.std.proofs.lemmas.Map.Lookups.{exact_bytes}
 use Rattle.std.specs.List.{AllByRecursion}
 use Rattle.wire.proofs.Steps.{bind_ok}
@@ -120,26 +121,29 @@ pub share-none : (names : List (List ℕ)) → share_name names [] ≡ false
 share-none [] = refl
 share-none (name ∷ names) = share-none names
 
-walked : (n m : List ℕ) (names others before after : List (List ℕ)) → before ≡ n ∷ names → after ≡ m ∷ others → share_name before after ≡ share_name (n ∷ names) (m ∷ others)
-walked n m names others before after a b = rw (a, b) refl
+-- where a walk has come to n in one list and to m in the other
+module _ {N M : Type 0} (f : N → List ℕ) (h : M → List ℕ) (ns : List N) (os : List M) (i j : ℕ) (n : N) (m : M) (some : i < length ns) (some_other : j < length os) (is : n ≡ get_or ns i n) (other_is : m ≡ get_or os j m) where
+  names : map f (drop i ns) ≡ f n ∷ map f (drop (i + 1) ns)
+  names = ap (map f) (drop_more ns i n some ∙ ap (λ x. x ∷ drop (i + 1) ns) (sym is))
 
--- a step over the first list
-pub walk_less : (n m : List ℕ) (names others before after : List (List ℕ)) (t : Bool) → before ≡ n ∷ names → after ≡ m ∷ others → IsAscending before → IsAscending after → share_name before after ≡ t → bytes_cmp n m ≡ Less
-    → IsAscending names × (share_name names after ≡ t)
-walk_less n m names others before after t a b up_a up_b so_far less =
-    let rise : IsAscending (n ∷ names) = subst IsAscending a up_a in
-    let rise_b : IsAscending (m ∷ others) = subst IsAscending b up_b in
-    (rise.1, ap (share_name names) b ∙ sym (share-less n m names others rise_b less) ∙ sym (walked n m names others before after a b) ∙ so_far)
+  others : map h (drop j os) ≡ h m ∷ map h (drop (j + 1) os)
+  others = ap (map h) (drop_more os j m some_other ∙ ap (λ x. x ∷ drop (j + 1) os) (sym other_is))
 
--- a step over the second list
-pub walk_greater : (n m : List ℕ) (names others before after : List (List ℕ)) (t : Bool) → before ≡ n ∷ names → after ≡ m ∷ others → IsAscending before → IsAscending after → share_name before after ≡ t → bytes_cmp n m ≡ Greater
-    → IsAscending others × (share_name before others ≡ t)
-walk_greater n m names others before after t a b up_a up_b so_far more =
-    let rise : IsAscending (n ∷ names) = subst IsAscending a up_a in
-    let rise_b : IsAscending (m ∷ others) = subst IsAscending b up_b in
-    (rise_b.1, ap (λ l. share_name l others) a ∙ sym (share-greater n m names others rise more) ∙ sym (walked n m names others before after a b) ∙ so_far)
+  so_far : (t : Bool) → share_name (map f (drop i ns)) (map h (drop j os)) ≡ t → share_name (f n ∷ map f (drop (i + 1) ns)) (h m ∷ map h (drop (j + 1) os)) ≡ t
+  so_far t e = sym (rw (names, others) refl) ∙ e
 
--- the first names are one
-pub walk_equal : (n m : List ℕ) (names others before after : List (List ℕ)) (t : Bool) → before ≡ n ∷ names → after ≡ m ∷ others → share_name before after ≡ t → bytes_cmp n m ≡ Equal → true ≡ t
-walk_equal n m names others before after t a b so_far same =
-    sym (share-equal n m names others same) ∙ sym (walked n m names others before after a b) ∙ so_far
+  -- a step over the first list
+  pub walk_less : (t : Bool) → IsAscending (map f (drop i ns)) → IsAscending (map h (drop j os)) → share_name (map f (drop i ns)) (map h (drop j os)) ≡ t → bytes_cmp (f n) (h m) ≡ Less
+      → IsAscending (map f (drop (i + 1) ns)) × (share_name (map f (drop (i + 1) ns)) (map h (drop j os)) ≡ t)
+  walk_less t up others_up e less =
+      ((subst IsAscending names up).1, ap (share_name (map f (drop (i + 1) ns))) others ∙ sym (share-less (f n) (h m) _ _ (subst IsAscending others others_up) less) ∙ so_far t e)
+
+  -- a step over the second list
+  pub walk_greater : (t : Bool) → IsAscending (map f (drop i ns)) → IsAscending (map h (drop j os)) → share_name (map f (drop i ns)) (map h (drop j os)) ≡ t → bytes_cmp (f n) (h m) ≡ Greater
+      → IsAscending (map h (drop (j + 1) os)) × (share_name (map f (drop i ns)) (map h (drop (j + 1) os)) ≡ t)
+  walk_greater t up others_up e more =
+      ((subst IsAscending others others_up).1, ap (λ l. share_name l (map h (drop (j + 1) os))) names ∙ sym (share-greater (f n) (h m) _ _ (subst IsAscending names up) more) ∙ so_far t e)
+
+  -- the first names are one
+  pub walk_equal : (t : Bool) → share_name (map f (drop i ns)) (map h (drop j os)) ≡ t → bytes_cmp (f n) (h m) ≡ Equal → true ≡ t
+  walk_equal t e same = sym (share-equal (f n) (h m) _ _ same) ∙ so_far t e
