@@ -9,7 +9,7 @@ use Rattle.blob_digest.specs.Digest.{DigestValue}
 use Rattle.blob_digest.specs.Text.{digest_text}
 use Rattle.clap.specs.Words.{Row, first_of}
 use Rattle.report.specs.Line.{report_line}
-use Rattle.cache_server.specs.Cache.{empty_cache}
+use Rattle.cache_server.specs.Cache.{unused_cache}
 use Rattle.remote.specs.Folder.{IsNothingAt}
 use Rattle.remote.specs.Line.{ConnectionValue}
 use Rattle.blob_source.specs.Source.{Telling}
@@ -191,7 +191,7 @@ BeginsDigest sees options old new = (new ≡ old)
 abbrev pub serving_of : List Row → SocketAddr → Serving
 serving_of options address = record {
   address = address;
-  cache = empty_cache (decimal_number (option_text options (codes "limit")))
+  cache = unused_cache (decimal_number (option_text options (codes "limit")))
       (decimal_number (option_text options (codes "result-limit")));
   prefix = option_text options (codes "prefix");
   connections = decimal_number (option_text options (codes "connections"));
