@@ -12,7 +12,7 @@ use Rattle.plan.specs.declared.version.Version.TheVariants.{One, Two}
 use Rattle.plan.specs.Faults.{Beginning, at_start, in_step, in_root, IsBeginning, beginning_text, next_number, BeginsWithLine, IsNextFault, IsFaultBehind, IsPlanFault}
 use Rattle.plan.specs.Line.{line_text, Begins, step_words}
 use Rattle.plan.specs.Lines.{WrittenLine, step_line, root_line, in_line, IsWrittenLine, written_words, written_origin}
-use Rattle.plan.specs.Plan.{AreLines, HaveApartTargets, KeepApart, AllKeepApart, IsStep, AreSteps, IsPlan, plan_header, lines_text, step_text, plan_text}
+use Rattle.plan.specs.Plan.{AreLines, NoTargetsOverlap, KeepApart, AllKeepApart, IsStep, AreSteps, IsPlan, plan_header, lines_text, step_text, plan_text}
 use Rattle.plan.specs.Targets.{OverlapsAny}
 use Rattle.plan.specs.Values.{LineValue, StepValue, PlanValue, IsLine}
 use Rattle.plan.proofs.Beginnings.{step_with, plan_with, has_not_new}
@@ -70,7 +70,7 @@ in_cons : (x y : List (List ℕ)) (xs : List (List (List ℕ))) → Contains (x 
 in_cons x y xs (zero, within, e) = inl e
 in_cons x y xs (suc k, within, e) = inr (k, omega arith, e)
 
-apart_parts : (done : List LineValue) (line : LineValue) (more : List LineValue) → HaveApartTargets (done ++ line ∷ more) → OverlapsAny line.target (targets_of done) → ⊥
+apart_parts : (done : List LineValue) (line : LineValue) (more : List LineValue) → NoTargetsOverlap (done ++ line ∷ more) → OverlapsAny line.target (targets_of done) → ⊥
 apart_parts [] line more h (p, (k, within, e), overlap) = omega (arith, within)
 apart_parts (first ∷ done) line more h w = elim (in_cons first.target w.0 (targets_of done) w.1) [
   | inl e ↦ all_at (λ other. ¬ Overlap first.target other.target) done line more h.0 (turned line.target first.target (subst (λ (p : List (List ℕ)). Overlap line.target p) (sym e) w.2))

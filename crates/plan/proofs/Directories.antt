@@ -14,7 +14,7 @@ use Rattle.plan.specs.Faults.{BeginsWithLine, HasStep, IsLater}
 use Rattle.plan.specs.Parts.{IsFirstFault, IsNextInFault, IsLinesFault}
 use Rattle.plan.specs.Line.{line_text, Begins, IsStepName}
 use Rattle.plan.specs.Lines.{in_line, IsWrittenOrigin, in_words, written_origin, step_name}
-use Rattle.plan.specs.Plan.{AreLines, AreSteps, HaveApartTargets, KeepApart, lines_text}
+use Rattle.plan.specs.Plan.{AreLines, AreSteps, NoTargetsOverlap, KeepApart, lines_text}
 use Rattle.plan.specs.Reading.{FaultyUnlessMemory}
 use Rattle.plan.specs.Targets.{OverlapsAny, TakesIn}
 use Rattle.plan.specs.Values.{OriginValue, source, output, LineValue, StepValue, IsOrigin, IsLine}
@@ -44,7 +44,7 @@ apart_last : (first line : LineValue) (lines : List LineValue) → AllByRecursio
 apart_last first line [] h free = (free, tt)
 apart_last first line (next ∷ lines) h free = (h.0, apart_last first line lines h.1 free)
 
-apart_more : (lines : List LineValue) (line : LineValue) → HaveApartTargets lines → ¬ OverlapsAny line.target (targets_of lines) → HaveApartTargets (lines ++ line ∷ [])
+apart_more : (lines : List LineValue) (line : LineValue) → NoTargetsOverlap lines → ¬ OverlapsAny line.target (targets_of lines) → NoTargetsOverlap (lines ++ line ∷ [])
 apart_more [] line h free = (tt, tt)
 apart_more (first ∷ lines) line h free = (
   apart_last first line lines h.0 (λ o. free (first.target, here first.target (targets_of lines), turned first.target line.target o)),

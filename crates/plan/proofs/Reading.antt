@@ -9,14 +9,14 @@ use Rattle.plan.specs.Faults.{HasNoHeader, IsFaultBehind, IsPlanFault}
 use Rattle.plan.specs.Parts.{IsFront}
 use Rattle.plan.specs.Line.{line_text}
 use Rattle.plan.specs.Plan.{AreLines, KeepApart, IsPlan, plan_header, lines_text, plan_text}
-use Rattle.plan.specs.Reading.{FaultyUnlessMemory, GivesUnlessMemory}
+use Rattle.plan.specs.Reading.{FaultyUnlessMemory, ReadsUnlessMemory}
 use Rattle.plan.specs.Values.{LineValue, StepValue, PlanValue}
 use Rattle.plan.proofs.Beginnings.{root_cut, plan_with}
 use Rattle.plan.proofs.Chains.{plan_one, no_fault}
 use Rattle.plan.proofs.StepTexts.{count_few}
 
 pub only_of : (text : List ℕ) (r : Result PlanValue ReadError) (plan : PlanValue) → IsPlan plan → text ≡ plan_text plan → IfOk r (λ p. IsPlan p × (text ≡ plan_text p)) → IfErr r (FaultyUnlessMemory (IsPlanFault text))
-    → GivesUnlessMemory r plan
+    → ReadsUnlessMemory r plan
 only_of text (Ok p) plan is e found fault = plan_one p plan found.0 is (sym found.1 ∙ e)
 only_of text (Err Memory) plan is e found fault = tt
 only_of text (Err (Faulty x)) plan is e found fault = no_fault plan x is (subst (λ (t : List ℕ). IsPlanFault t x) e fault)
@@ -28,10 +28,10 @@ pub lifted_error : (version : Version) (text rest : List ℕ) (x : ReadError) �
 lifted_error version text rest Memory e h = tt
 lifted_error version text rest (Faulty x) e h = lifted version text rest x e h
 
-pub only_error : (text : List ℕ) (x : ReadError) (plan : PlanValue) → IsPlan plan → text ≡ plan_text plan → FaultyUnlessMemory (IsPlanFault text) x → GivesUnlessMemory {X = PlanValue} (Err x) plan
+pub only_error : (text : List ℕ) (x : ReadError) (plan : PlanValue) → IsPlan plan → text ≡ plan_text plan → FaultyUnlessMemory (IsPlanFault text) x → ReadsUnlessMemory {X = PlanValue} (Err x) plan
 only_error text x plan is e fault = only_of text (Err x) plan is e tt fault
 
-pub only_handed : (text : List ℕ) (r : Result PlanValue ReadError) (plan : PlanValue) → IsErr r → IsPlan plan → text ≡ plan_text plan → IfErr r (FaultyUnlessMemory (IsPlanFault text)) → GivesUnlessMemory r plan
+pub only_handed : (text : List ℕ) (r : Result PlanValue ReadError) (plan : PlanValue) → IsErr r → IsPlan plan → text ≡ plan_text plan → IfErr r (FaultyUnlessMemory (IsPlanFault text)) → ReadsUnlessMemory r plan
 only_handed text (Ok p) plan err is e fault = absurd (cc err)
 only_handed text (Err x) plan err is e fault = only_of text (Err x) plan is e tt fault
 

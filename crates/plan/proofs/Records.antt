@@ -11,7 +11,7 @@ use Rattle.plan.specs.declared.error.ReadError.TheVariants.{Faulty, Memory}
 use Rattle.plan.specs.Faults.{BeginsWithLine}
 use Rattle.plan.specs.Line.{line_text, Begins, step_words}
 use Rattle.plan.specs.Lines.{WrittenLine, step_line}
-use Rattle.plan.specs.Reading.{FaultyUnlessMemory, GivesUnlessMemory}
+use Rattle.plan.specs.Reading.{FaultyUnlessMemory, ReadsUnlessMemory}
 use Rattle.plan.specs.Record.{RecordValue, IsRecord, record_header, entries_text, build_record_text, IsNextEntryFault, IsEntryFault, IsRecordFault}
 use Rattle.plan.proofs.Entries.{record_with}
 use Rattle.plan.proofs.Written.{first_one, no_line_left}
@@ -200,14 +200,14 @@ record_one r s is was names e =
 -- ---- what reading answers
 
 pub only_record : (names : List (List ℕ)) (text : List ℕ) (result : Result RecordValue ReadError) (r : RecordValue) → IsRecord r → r.names ≡ names → text ≡ build_record_text r
-    → IfOk result (λ s. IsRecord s × (s.names ≡ names) × (text ≡ build_record_text s)) → IfErr result (FaultyUnlessMemory (IsRecordFault names text)) → GivesUnlessMemory result r
+    → IfOk result (λ s. IsRecord s × (s.names ≡ names) × (text ≡ build_record_text s)) → IfErr result (FaultyUnlessMemory (IsRecordFault names text)) → ReadsUnlessMemory result r
 only_record names text (Ok s) r is fits e found fault = record_one s r found.0 is (found.1 ∙ sym fits) (sym found.2 ∙ e)
 only_record names text (Err Memory) r is fits e found fault = tt
 only_record names text (Err (Faulty x)) r is fits e found fault =
     no_record_fault r x is (subst (λ (l : List (List ℕ)). IsRecordFault l (build_record_text r) x) (sym fits) (subst (λ (t : List ℕ). IsRecordFault names t x) e fault))
 
 pub only_handed_record : (names : List (List ℕ)) (text : List ℕ) (result : Result RecordValue ReadError) (r : RecordValue) → IsErr result → IsRecord r → r.names ≡ names → text ≡ build_record_text r
-    → IfErr result (FaultyUnlessMemory (IsRecordFault names text)) → GivesUnlessMemory result r
+    → IfErr result (FaultyUnlessMemory (IsRecordFault names text)) → ReadsUnlessMemory result r
 only_handed_record names text (Ok s) r err is fits e fault = absurd (cc err)
 only_handed_record names text (Err x) r err is fits e fault = only_record names text (Err x) r is fits e tt fault
 

@@ -12,14 +12,14 @@ use Rattle.plan.specs.Values.{LineValue, StepValue, PlanValue, IsLine}
 -- ---- rules
 
 -- no two of the lines have targets that overlap
-abbrev pub HaveApartTargets : List LineValue → Type 0
-HaveApartTargets [] = Unit {0}
-HaveApartTargets (line ∷ lines) =
-    AllByRecursion (λ other. ¬ Overlap line.target other.target) lines × HaveApartTargets lines
+abbrev pub NoTargetsOverlap : List LineValue → Type 0
+NoTargetsOverlap [] = Unit {0}
+NoTargetsOverlap (line ∷ lines) =
+    AllByRecursion (λ other. ¬ Overlap line.target other.target) lines × NoTargetsOverlap lines
 
--- the lines of a directory have apart targets, unless the version lets them meet
+-- no targets of the lines of a directory overlap, unless the version lets them meet
 abbrev pub KeepApart : Version → List LineValue → Type 0
-KeepApart version lines = version ≡ One → HaveApartTargets lines
+KeepApart version lines = version ≡ One → NoTargetsOverlap lines
 
 -- the lines of each step do
 abbrev pub AllKeepApart : Version → List StepValue → Type 0

@@ -11,10 +11,10 @@ FaultyUnlessMemory P (Faulty e) = P e
 FaultyUnlessMemory P Memory = Unit {0}
 
 -- this is answered, unless memory ran out
-abbrev pub GivesUnlessMemory : {X : Type 0} → Result X ReadError → X → Type 0
-GivesUnlessMemory (Ok x) y = x ≡ y
-GivesUnlessMemory (Err Memory) y = Unit {0}
-GivesUnlessMemory (Err (Faulty e)) y = ⊥
+abbrev pub ReadsUnlessMemory : {X : Type 0} → Result X ReadError → X → Type 0
+ReadsUnlessMemory (Ok x) y = x ≡ y
+ReadsUnlessMemory (Err Memory) y = Unit {0}
+ReadsUnlessMemory (Err (Faulty e)) y = ⊥
 
 -- line 1 is not a header
 abbrev pub bad_header : ReadError

@@ -6,7 +6,7 @@ ghost use Rattle.plan.specs.Parts.{IsLinesFault, IsFront};
 ghost use Rattle.plan.specs.Line.{Begins};
 ghost use Rattle.plan.specs.Plan.{KeepApart, AreLines, AreSteps, IsPlan, plan_header, lines_text};
 ghost use Rattle.plan.specs.Plan.{step_text, plan_text};
-ghost use Rattle.plan.specs.Reading.{FaultyUnlessMemory, GivesUnlessMemory, bad_header};
+ghost use Rattle.plan.specs.Reading.{FaultyUnlessMemory, ReadsUnlessMemory, bad_header};
 ghost use Rattle.plan.specs.Targets.{TakesIn};
 ghost use Rattle.plan.specs.Values.{PlanValue, IsLine};
 
@@ -177,7 +177,7 @@ impl<A: Allocator + Copy> Plan<A> {
         ensures found { IfOk result (λ plan. IsPlan plan × (text.now ≡ plan_text plan)) }
         // The plan whose text it is is answered.
         ensures only { (plan : PlanValue) → IsPlan plan → text.now ≡ plan_text plan
-            → GivesUnlessMemory result plan }
+            → ReadsUnlessMemory result plan }
         // Which line is at fault, and how.
         ensures fault { IfErr result (FaultyUnlessMemory (IsPlanFault text.now)) }
         // A text without a header takes no memory to refuse.

@@ -6,7 +6,7 @@ ghost use Rattle.plan.specs.Line.{Begins, IsStepName, line_text, step_words};
 ghost use Rattle.plan.specs.Record.{RecordValue, IsRecord, IsNextEntryFault, IsEntryFault};
 ghost use Rattle.plan.specs.Record.{names_of, Fits, entries_text, record_header, build_record_text};
 ghost use Rattle.plan.specs.Record.{IsRecordFault};
-ghost use Rattle.plan.specs.Reading.{FaultyUnlessMemory, GivesUnlessMemory, bad_header};
+ghost use Rattle.plan.specs.Reading.{FaultyUnlessMemory, ReadsUnlessMemory, bad_header};
 
 use crate::error::{Fault, ReadError};
 use crate::plan::Plan;
@@ -137,7 +137,7 @@ impl<A: Allocator + Copy> Record<A> {
             (λ r. IsRecord r × Fits r plan.now × (text.now ≡ build_record_text r)) }
         // The record whose text it is is answered.
         ensures only { (r : RecordValue) → IsRecord r → Fits r plan.now → text.now ≡ build_record_text r
-            → GivesUnlessMemory result r }
+            → ReadsUnlessMemory result r }
         // Which line is at fault, and how.
         ensures fault { IfErr result
             (FaultyUnlessMemory (IsRecordFault (names_of plan.now) text.now)) }

@@ -2,7 +2,7 @@ ghost use Rattle.std.specs.Prelude.{◌≡◌, ◌↔◌, ℕ, List, [], length,
 ghost use Rattle.std.specs.Prelude.{codes, option_map};
 ghost use Rattle.blob_digest.specs.Digest.{DigestValue};
 ghost use Rattle.blob_digest.specs.DigestValue.{IsDigest};
-ghost use Rattle.plan.specs.Plan.{HaveApartTargets, IsPlan};
+ghost use Rattle.plan.specs.Plan.{NoTargetsOverlap, IsPlan};
 ghost use Rattle.plan.specs.Values.{LineValue, StepValue, PlanValue};
 ghost use Rattle.plan.specs.declared.version.Version.TheVariants.{One};
 ghost use Rattle.tree.specs.Form.{NodeValue, form, root};
@@ -176,7 +176,7 @@ pub fn a_build_meets_the_premises()
 /// file put into a directory. A law: it does nothing.
 pub fn a_merge_meets_the_premises()
     ensures plan { IsPlan two.meeting_plan }
-    ensures meets { HaveApartTargets two.meeting_plan.root_lines → ⊥ }
+    ensures meets { NoTargetsOverlap two.meeting_plan.root_lines → ⊥ }
     ensures accepted { IsPlanAsRecorded two.blobs two.results two.sources two.meeting_plan
         two.recorded two.meeting_claim }
     ensures run { RunsFrom two.blobs two.results two.meeting_plan two.recorded two.tree two.run }
