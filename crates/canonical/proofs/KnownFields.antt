@@ -1,5 +1,5 @@
 -- Fields that are read tolerantly, as a loop checks them, and what they are.
-use Rattle.std.proofs.Common.{◌≡◌, ℕ, zero, suc, ◌+◌, ◌<◌, ◌≤◌, length, drop, slice_index_or, arith, add-one, Bool, true, false, cond, not, List, [], ◌∷◌, ◌++◌, Option, Some, None, Result, Ok, Err, refl, sym, ap, subst, ◌∙◌, append_assoc, inl, inr, ◌⊎◌}
+use Rattle.std.proofs.Common.{◌≡◌, ℕ, zero, suc, ◌+◌, ◌<◌, ◌≤◌, length, drop, slice_index_or, arith, add-one, Bool, true, false, cond, not, List, [], ◌∷◌, ◌++◌, Option, Some, None, Result, Ok, Err, refl, sym, ap, subst, ◌∙◌, inl, inr, ◌⊎◌}
 use Rattle.std.specs.Prelude.{IfOk}
 use Rattle.std.specs.List.{AllByRecursion, flat_map}
 use Rattle.std.specs.declared.vec.Vec.{Vec}
@@ -22,14 +22,10 @@ use Rattle.canonical.specs.Checking.{ChecksUnlessMemory}
 use Rattle.canonical.specs.Known.{SpellsEach, IsFieldOf, is_skipped, AreKnown, any_refusals_of, any_entry_kept, any_kept_if, any_field_kept, any_checked, any_fields_checked}
 use Rattle.canonical.specs.Shape.{shape_entry, has_wire_type, keeps_text}
 use Rattle.std.proofs.Math.ListN.{drop_of_length-le}
-use Rattle.canonical.proofs.Behind.{with_front, with_none, as_items}
+use Rattle.canonical.proofs.Behind.{with_front, with_none, regroup, as_items}
 use Rattle.canonical.proofs.Columns.{none_holds}
 
 -- ---- the loop
-
-regroup : (front : List Record) (r : Record) (read : Result (List Record) CanonError) → with_front front (read >>= λ rs. Ok (r ∷ rs)) ≡ with_front (front ++ r ∷ []) read
-regroup front r (Ok rs) = let e : front ++ (r ∷ rs) ≡ (front ++ r ∷ []) ++ rs = sym (append_assoc front (r ∷ []) rs) in ap (λ (l : List Record). Ok l) e
-regroup front r (Err e) = refl
 
 pub goes_on : (front : List Record) (entries : List Entry) (skipped : List ℕ) (r : Record) (items others : List (Result Record WireError)) (total : Result (List Record) CanonError)
     → items ≡ Ok r ∷ others → any_field_kept entries skipped r ≡ Ok tt → with_front front (any_checked entries skipped items) ≡ total

@@ -1,4 +1,4 @@
-ghost use Rattle.std.specs.Prelude.{◌≡◌, ◌<◌, ℕ, List, length, IfOk, Ok, Err};
+ghost use Rattle.std.specs.Prelude.{◌≡◌, ◌<◌, ℕ, List, [], length, IfOk, IsOk, Ok, Err};
 ghost use Rattle.std.specs.List.{AllByRecursion};
 ghost use Rattle.wire.specs.declared.error.WireError.{WireError};
 ghost use Rattle.wire.specs.Bytes.{IsBytes};
@@ -48,6 +48,9 @@ pub fn check_any<'a, A: Allocator>(
     // The same in one equation.
     ensures exact { ChecksUnlessMemory (λ v. records_of v.items) result
         (any_fields_checked shape.now skipped.now (slices texts.now)) }
+    // Without a field it takes no memory.
+    ensures none { any_fields_checked shape.now skipped.now (slices texts.now) ≡ Ok []
+        → IsOk result }
 {
     any_checked(alloc, shape, skipped, texts)
 }
@@ -58,8 +61,10 @@ fn any_checked<'a, A: Allocator>(
     skipped: &[u32],
     texts: &[&'a [u8]],
 ) -> Result<Vec<Field<'a>, A>, CanonError>
-    ensures { ChecksUnlessMemory (λ v. records_of v.items) result
+    ensures exact { ChecksUnlessMemory (λ v. records_of v.items) result
         (any_fields_checked shape.now skipped.now (slices texts.now)) }
+    ensures none { any_fields_checked shape.now skipped.now (slices texts.now) ≡ Ok []
+        → IsOk result }
 {
     let mut fields = Vec::new(alloc);
     for text in texts {
