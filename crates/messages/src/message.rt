@@ -110,6 +110,8 @@ pub fn write_each<A: Allocator + Copy, M: Encode<A>>(
     ensures appended { OnOk result (out.new.items ≡ out.old.items
         ++ spelling (element_fields number (map M.spells messages.now))) }
     ensures kept { OnErr result (out.new.items ≡ out.old.items) }
+    // Without a message it takes no memory.
+    ensures none { messages.now ≡ [] → IsOk result }
 {
     let len = out.len();
     let written = append_each(alloc, out, number, messages);
@@ -131,6 +133,7 @@ fn append_each<A: Allocator + Copy, M: Encode<A>>(
     ensures appended { OnOk result (out.new.items ≡ out.old.items
         ++ spelling (element_fields number (map M.spells messages.now))) }
     ensures front { OnErr result (take (length out.old.items) out.new.items ≡ out.old.items) }
+    ensures none { messages.now ≡ [] → IsOk result }
 {
     for message in messages {
         write_element(out, number, &message.write(alloc)?)?;
