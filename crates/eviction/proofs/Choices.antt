@@ -11,9 +11,9 @@ use Rattle.std.proofs.lemmas.List.{length-reverse, reverse-reverse}
 use Rattle.std.proofs.lemmas.List.Filters.{length-filter_both}
 use Rattle.std.proofs.lemmas.Map.Keys.{IsDistinct-head, IsDistinct-tail}
 use Rattle.eviction.specs.Kept.{Held, Kept, IsTallied, is_pinned, cost_of, total_cost, pinned_cost, others}
-use Rattle.eviction.specs.Entering.{least, without_first, without_last, new_entry, can_enter, evicted, entered}
+use Rattle.eviction.specs.Entering.{least, without_first, without_last, stored_key, new_entry, can_enter, evicted, entered}
 use Rattle.eviction.specs.Pinning.{is_among}
-use Rattle.eviction.specs.Victims.{IsStanding, part_if_pinned, victims, without_keys}
+use Rattle.eviction.specs.Victims.{IsStanding, part_if_pinned, victims, without_keys, placed_first}
 use Rattle.eviction.proofs.Filters.{filter_all, filter-reverse}
 use Rattle.eviction.proofs.Distinct.{filter_distinct, reverse_distinct}
 use Rattle.eviction.proofs.Costs.{total-reverse, pinned_le}
@@ -365,14 +365,24 @@ module _ {K : Type 0} (eq : K → K → Bool) (laws : IsEquivalence eq) (s : Kep
     pub admitted : can_enter eq s k bytes ≡ true
     admitted = enters d held pinned old_cost t st' fits'
 
-    -- the costs with those of the new entry, before anything is evicted
-    pub whole_is : held - old_cost + cost ≡ total_cost s.overhead (new ∷ rest)
-    whole_is = let a = rest_total d held pinned old_cost t st' fits' in omega arith
+    module _ (placed : List (K × Held)) (placed_is : placed ≡ placed_first eq k (record { bytes = bytes; pins = pins }) s.entries) where
+      first : placed ≡ new ∷ rest
+      first = placed_is ∙ ap (λ n. (stored_key eq s.entries k, let h : Held = record { bytes = bytes; pins = n } in h) ∷ rest) st.pins_are
 
-    module _ (part' x freed : ℕ) (after : List (K × Held)) (part'_is : part' ≡ part_if_pinned pins cost) (excess : x ≡ (held - old_cost + cost) - s.limit) (left : after ≡ without_keys eq (picked x) (new ∷ rest))
-        (sum : freed + total_cost s.overhead after ≡ total_cost s.overhead (new ∷ rest)) where
-      pub finished : entered eq s k bytes ≡ Some (record { entries = after; limit = s.limit; overhead = s.overhead })
-      finished = enters_as d held pinned old_cost t st' fits' x freed after (rw (← cost_is) excess) left sum
+      -- the costs with those of the new entry, before anything is evicted
+      pub whole_is : held - old_cost + cost ≡ total_cost s.overhead placed
+      whole_is = let a = rest_total d held pinned old_cost t st' fits' in let b = ap (total_cost s.overhead) first in omega arith
 
-      pub tallied : IsTallied after s.limit s.overhead (held - old_cost + cost - freed) (pinned - part + part')
-      tallied = rw (part_is, part'_is, cost_is, st.pins_are) (tallied_after d held pinned old_cost t st' fits' x freed after (rw (← cost_is) excess) left sum)
+      module _ (part' x freed : ℕ) (keys : List K) (after : List (K × Held)) (part'_is : part' ≡ part_if_pinned pins cost) (excess : x ≡ (held - old_cost + cost) - s.limit) (keys_are : keys ≡ picked x)
+          (left : after ≡ without_keys eq keys placed) (sum : freed + total_cost s.overhead after ≡ total_cost s.overhead placed) where
+        left' : after ≡ without_keys eq (picked x) (new ∷ rest)
+        left' = left ∙ ap (λ ks. without_keys eq ks placed) keys_are ∙ ap (without_keys eq (picked x)) first
+
+        sum' : freed + total_cost s.overhead after ≡ total_cost s.overhead (new ∷ rest)
+        sum' = sum ∙ ap (total_cost s.overhead) first
+
+        pub finished : entered eq s k bytes ≡ Some (record { entries = after; limit = s.limit; overhead = s.overhead })
+        finished = enters_as d held pinned old_cost t st' fits' x freed after (rw (← cost_is) excess) left' sum'
+
+        pub tallied : IsTallied after s.limit s.overhead (held - old_cost + cost - freed) (pinned - part + part')
+        tallied = rw (part_is, part'_is, cost_is, st.pins_are) (tallied_after d held pinned old_cost t st' fits' x freed after (rw (← cost_is) excess) left' sum')

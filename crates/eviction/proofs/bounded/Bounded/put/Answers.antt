@@ -1,15 +1,15 @@
-use Rattle.std.proofs.Common.{◌≡◌, ◌+◌, ◌∷◌, List, Bool, length, arith, ap, ◌∙◌, false, true, Ok, Err, Some, subst}
+use Rattle.std.proofs.Common.{◌≡◌, ◌+◌, Bool, length, arith, ap, ◌∙◌, false, true, Ok, Err, Some, subst}
 use Rattle.std.specs.Prelude.{Result, IsErrAnd}
 use Rattle.eviction.specs.declared.error.BoundedError.{BoundedError}
 use Rattle.eviction.specs.declared.error.BoundedError.TheVariants.{Full, Memory}
-use Rattle.eviction.specs.Kept.{Kept, Held, total_cost}
+use Rattle.eviction.specs.Kept.{Kept}
 use Rattle.eviction.specs.declared.entry.Entry.{Entry}
-use Rattle.eviction.specs.Entering.{can_enter, entered, stored_key}
+use Rattle.eviction.specs.Entering.{can_enter, entered}
 use Rattle.eviction.specs.View.{held, held_all}
-use Rattle.eviction.specs.Victims.{victims, without_keys}
+use Rattle.eviction.specs.Victims.{victims}
 use Rattle.eviction.proofs.Filters.{map-reverse}
 use Rattle.eviction.proofs.Costs.{pinned_le}
-use Rattle.eviction.proofs.Choices.{admitted, finished, tallied, whole_is, new, rest, picked}
+use Rattle.eviction.proofs.Choices.{admitted, finished, tallied, whole_is}
 use Rattle.eviction.proofs.bounded.Bounded.put.Goals as goal
 
 not_full : (r : Result (Unit {0}) BoundedError) (b : Bool) → IsErrAnd r (λ e. e ≡ Memory) → b ≡ true → (r ≡ Err Full → b ≡ false) × (b ≡ false → r ≡ Err Full)
@@ -67,73 +67,43 @@ returns-clause-full g c =
 
 pub take_out-freed-requires : goal.take_out-freed-requires
 take_out-freed-requires g c =
-    let K = g.row.K.Denot in
-    let laws = g.met.K.Eq.laws in
     let eq = g.K.PartialEq.eq in
+    let laws = g.met.K.Eq.laws in
     let i = c.self.inside in
     let bytes = c.args.bytes.items in
-    let es = held_all i.cache.entries in
-    let s : Kept g.row.K.Denot = record { entries = es; limit = i.limit; overhead = i.overhead } in
+    let s : Kept g.row.K.Denot = record { entries = held_all i.cache.entries; limit = i.limit; overhead = i.overhead } in
     let old = c.standing_under-old.result in
     let sat = c.saturating_add-cost.ensures in
     let fine = c.if-cost-self.false in
     let exact : c.saturating_add-cost.result ≡ length bytes + i.overhead = omega arith in
-    let whole = whole_is eq g.met.K.Eq.laws s c.args.key bytes c.standing_under-old.ensures.distinct i.held i.pinned old.cost old.pins c.part_of_pinned.result c.saturating_add-cost.result c.self.invariant c.standing_under-old.ensures.stands c.part_of_pinned.ensures exact fine in
-    let key = c.args.key in
-    let one : K × Held = new eq laws s key bytes in
-    let others : List (K × Held) = rest eq laws s key bytes in
-    let first : held_all c.put_first.new.cache.entries ≡ one ∷ others =
-    c.in_ok-put_first.ensures.ok ∙ ap (λ n. (stored_key eq es key, let h : Held = record { bytes = bytes; pins = n } in h) ∷ others) c.standing_under-old.ensures.stands.pins_are in
-    let sum = ap (total_cost i.overhead) first in
+    let whole = whole_is eq laws s c.args.key bytes c.standing_under-old.ensures.distinct i.held i.pinned old.cost old.pins c.part_of_pinned.result c.saturating_add-cost.result c.self.invariant c.standing_under-old.ensures.stands c.part_of_pinned.ensures exact fine (held_all c.put_first.new.cache.entries) c.in_ok-put_first.ensures.ok in
     omega arith
 
 pub invariant_of-self-2 : goal.invariant_of-self-2
 invariant_of-self-2 g c =
-    let K = g.row.K.Denot in
-    let laws = g.met.K.Eq.laws in
     let eq = g.K.PartialEq.eq in
+    let laws = g.met.K.Eq.laws in
     let i = c.self.inside in
     let bytes = c.args.bytes.items in
-    let es = held_all i.cache.entries in
-    let s : Kept g.row.K.Denot = record { entries = es; limit = i.limit; overhead = i.overhead } in
+    let s : Kept g.row.K.Denot = record { entries = held_all i.cache.entries; limit = i.limit; overhead = i.overhead } in
     let old = c.standing_under-old.result in
     let sat = c.saturating_add-cost.ensures in
     let fine = c.if-cost-self.false in
     let exact : c.saturating_add-cost.result ≡ length bytes + i.overhead = omega arith in
-    let key = c.args.key in
-    let one : K × Held = new eq laws s key bytes in
-    let others : List (K × Held) = rest eq laws s key bytes in
-    let first : held_all c.put_first.new.cache.entries ≡ one ∷ others =
-    c.in_ok-put_first.ensures.ok ∙ ap (λ n. (stored_key eq es key, let h : Held = record { bytes = bytes; pins = n } in h) ∷ others) c.standing_under-old.ensures.stands.pins_are in
-    let keys : c.deref.result.now ≡ picked eq laws s key bytes c.saturating_sub-excess.result =
-    c.deref.ensures.value ∙ c.in_ok-chosen.ensures ∙ ap (victims eq key i.overhead c.saturating_sub-excess.result) (map-reverse (λ (e : K × Entry g.row.A.Denot). (e.0, held e.1)) i.cache.entries) in
-    let left : held_all c.take_out-freed.new.cache.entries ≡ without_keys eq (picked eq laws s key bytes c.saturating_sub-excess.result) (one ∷ others) =
-    c.take_out-freed.ensures.entries ∙ ap (λ ks. without_keys eq ks (held_all c.put_first.new.cache.entries)) keys ∙ ap (without_keys eq (picked eq laws s key bytes c.saturating_sub-excess.result)) first in
-    let sum : c.take_out-freed.result + total_cost i.overhead (held_all c.take_out-freed.new.cache.entries) ≡ total_cost i.overhead (one ∷ others) = c.take_out-freed.ensures.cost ∙ ap (total_cost i.overhead) first in
-    tallied eq g.met.K.Eq.laws s c.args.key bytes c.standing_under-old.ensures.distinct i.held i.pinned old.cost old.pins c.part_of_pinned.result c.saturating_add-cost.result c.self.invariant c.standing_under-old.ensures.stands c.part_of_pinned.ensures exact fine c.part_of_pinned-2.result c.saturating_sub-excess.result c.take_out-freed.result (held_all c.take_out-freed.new.cache.entries) c.part_of_pinned-2.ensures c.saturating_sub-excess.ensures left sum
+    let keys = c.deref.ensures.value ∙ c.in_ok-chosen.ensures ∙ ap (victims eq c.args.key i.overhead c.saturating_sub-excess.result) (map-reverse (λ (e : g.row.K.Denot × Entry g.row.A.Denot). (e.0, held e.1)) i.cache.entries) in
+    tallied eq laws s c.args.key bytes c.standing_under-old.ensures.distinct i.held i.pinned old.cost old.pins c.part_of_pinned.result c.saturating_add-cost.result c.self.invariant c.standing_under-old.ensures.stands c.part_of_pinned.ensures exact fine (held_all c.put_first.new.cache.entries) c.in_ok-put_first.ensures.ok c.part_of_pinned-2.result c.saturating_sub-excess.result c.take_out-freed.result c.deref.result.now (held_all c.take_out-freed.new.cache.entries) c.part_of_pinned-2.ensures c.saturating_sub-excess.ensures keys c.take_out-freed.ensures.entries c.take_out-freed.ensures.cost
 
 pub returns-clause-ok : goal.returns-clause-ok
 returns-clause-ok g c =
-    let K = g.row.K.Denot in
-    let laws = g.met.K.Eq.laws in
     let eq = g.K.PartialEq.eq in
+    let laws = g.met.K.Eq.laws in
     let i = c.self.inside in
     let bytes = c.args.bytes.items in
-    let es = held_all i.cache.entries in
-    let s : Kept g.row.K.Denot = record { entries = es; limit = i.limit; overhead = i.overhead } in
+    let s : Kept g.row.K.Denot = record { entries = held_all i.cache.entries; limit = i.limit; overhead = i.overhead } in
     let old = c.standing_under-old.result in
     let sat = c.saturating_add-cost.ensures in
     let fine = c.if-cost-self.false in
     let exact : c.saturating_add-cost.result ≡ length bytes + i.overhead = omega arith in
-    let key = c.args.key in
-    let one : K × Held = new eq laws s key bytes in
-    let others : List (K × Held) = rest eq laws s key bytes in
-    let first : held_all c.put_first.new.cache.entries ≡ one ∷ others =
-    c.in_ok-put_first.ensures.ok ∙ ap (λ n. (stored_key eq es key, let h : Held = record { bytes = bytes; pins = n } in h) ∷ others) c.standing_under-old.ensures.stands.pins_are in
-    let keys : c.deref.result.now ≡ picked eq laws s key bytes c.saturating_sub-excess.result =
-    c.deref.ensures.value ∙ c.in_ok-chosen.ensures ∙ ap (victims eq key i.overhead c.saturating_sub-excess.result) (map-reverse (λ (e : K × Entry g.row.A.Denot). (e.0, held e.1)) i.cache.entries) in
-    let left : held_all c.take_out-freed.new.cache.entries ≡ without_keys eq (picked eq laws s key bytes c.saturating_sub-excess.result) (one ∷ others) =
-    c.take_out-freed.ensures.entries ∙ ap (λ ks. without_keys eq ks (held_all c.put_first.new.cache.entries)) keys ∙ ap (without_keys eq (picked eq laws s key bytes c.saturating_sub-excess.result)) first in
-    let sum : c.take_out-freed.result + total_cost i.overhead (held_all c.take_out-freed.new.cache.entries) ≡ total_cost i.overhead (one ∷ others) = c.take_out-freed.ensures.cost ∙ ap (total_cost i.overhead) first in
-    let after : Kept K = record { entries = held_all c.take_out-freed.new.cache.entries; limit = i.limit; overhead = i.overhead } in
-    subst (λ (w : Kept K). entered eq w key bytes ≡ Some after) c.self.view_is (finished eq g.met.K.Eq.laws s c.args.key bytes c.standing_under-old.ensures.distinct i.held i.pinned old.cost old.pins c.part_of_pinned.result c.saturating_add-cost.result c.self.invariant c.standing_under-old.ensures.stands c.part_of_pinned.ensures exact fine c.part_of_pinned-2.result c.saturating_sub-excess.result c.take_out-freed.result (held_all c.take_out-freed.new.cache.entries) c.part_of_pinned-2.ensures c.saturating_sub-excess.ensures left sum)
+    let keys = c.deref.ensures.value ∙ c.in_ok-chosen.ensures ∙ ap (victims eq c.args.key i.overhead c.saturating_sub-excess.result) (map-reverse (λ (e : g.row.K.Denot × Entry g.row.A.Denot). (e.0, held e.1)) i.cache.entries) in
+    let after : Kept g.row.K.Denot = record { entries = held_all c.take_out-freed.new.cache.entries; limit = i.limit; overhead = i.overhead } in
+    subst (λ (w : Kept g.row.K.Denot). entered eq w c.args.key bytes ≡ Some after) c.self.view_is (finished eq laws s c.args.key bytes c.standing_under-old.ensures.distinct i.held i.pinned old.cost old.pins c.part_of_pinned.result c.saturating_add-cost.result c.self.invariant c.standing_under-old.ensures.stands c.part_of_pinned.ensures exact fine (held_all c.put_first.new.cache.entries) c.in_ok-put_first.ensures.ok c.part_of_pinned-2.result c.saturating_sub-excess.result c.take_out-freed.result c.deref.result.now (held_all c.take_out-freed.new.cache.entries) c.part_of_pinned-2.ensures c.saturating_sub-excess.ensures keys c.take_out-freed.ensures.entries c.take_out-freed.ensures.cost)
