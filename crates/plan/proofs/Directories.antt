@@ -127,7 +127,7 @@ free_in Two targets new lines p same takes one = absurd (cc one)
 overlaps_in : (version : Version) (targets new : List (List (List ℕ))) (lines : List LineValue) (p : List (List ℕ)) → AreTargetsIn version targets lines → TakesIn version false p targets new
     → (version ≡ One) × OverlapsAny p (targets_of lines)
 overlaps_in One targets new lines p same refusal = (refl, overlaps_lines targets lines p (same refl) refusal.0)
-overlaps_in Two targets new lines p same refusal = absurd (cc refusal)
+overlaps_in Two targets new lines p same refusal = let taken = refusal.0 in absurd cc
 
 -- ---- a line that names earlier steps
 

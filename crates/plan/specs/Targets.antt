@@ -24,11 +24,11 @@ TakesTarget true path old new =
     × ((p : List (List ℕ)) → Contains new p ↔ ((p ≡ path) ⊎ Contains old p))
 TakesTarget false path old new = OverlapsAny path old × (new ≡ old)
 
--- the target of one more line is taken so in the version: in version 2 each is
+-- the target of one more line is taken so in the version: in version 2 each is, and none is kept
 abbrev pub TakesIn : Version → Bool → List (List ℕ) → List (List (List ℕ)) → List (List (List ℕ))
     → Type 0
 TakesIn One taken path old new = TakesTarget taken path old new
-TakesIn Two taken path old new = taken ≡ true
+TakesIn Two taken path old new = (taken ≡ true) × (new ≡ old)
 
 -- ---- what the code keeps
 

@@ -1,4 +1,4 @@
-ghost use Rattle.std.specs.Prelude.{◌≡◌, ◌+◌, ◌<◌, ◌≤◌, ◌^◌, ◌++◌, [], Err, IfOk, IfErr, OnOk};
+ghost use Rattle.std.specs.Prelude.{◌≡◌, ◌+◌, ◌<◌, ◌≤◌, ◌^◌, ◌++◌, [], Err, IfOk, IfErr, IsOk, OnOk};
 ghost use Rattle.std.specs.Prelude.{MatchOption, length, codes};
 ghost use Rattle.std.specs.List.{AllByRecursion, flat_map};
 ghost use Rattle.plan.specs.Faults.{HasNoHeader, IsFaultBehind, IsPlanFault};
@@ -9,6 +9,7 @@ ghost use Rattle.plan.specs.Plan.{step_text, plan_text};
 ghost use Rattle.plan.specs.Reading.{FaultyUnlessMemory, ReadsUnlessMemory, bad_header};
 ghost use Rattle.plan.specs.Targets.{TakesIn};
 ghost use Rattle.plan.specs.Values.{PlanValue, IsLine};
+ghost use Rattle.plan.specs.declared.version.Version.TheVariants.{Two};
 
 use crate::error::{Fault, ReadError};
 use crate::line::{Line, first_line, write_lines};
@@ -72,7 +73,9 @@ fn take_target<A: Allocator + Copy>(
     targets: &mut Targets<A>,
     target: &Path<A>,
 ) -> Result<bool, AllocError>
-    ensures { IfOk result (λ taken. TakesIn version taken target.now targets.old targets.new) }
+    ensures takes { IfOk result
+        (λ taken. TakesIn version taken target.now targets.old targets.new) }
+    ensures free { version ≡ Two → IsOk result }
 {
     match version {
         Version::One => targets.insert(alloc, target),

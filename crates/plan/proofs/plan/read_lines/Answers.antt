@@ -29,14 +29,14 @@ returns-then-not-branch-clause-fault g c =
     let room : length c.loop-alloc.lines.items ≢ 65536 = λ e. c.if-len-eq-MOST_LINES.false (omega (arith, e, c.len-in-loop-alloc.ensures, c.loop-alloc.lines.ok)) in
     let at : c.line.inside.target ≡ c.in-Ok.read.0.target = ap (λ (l : LineValue). l.target) c.line.view_is in
     overlap_fault c.args.version c.args.steps.now c.args.first c.args.text.now c.loop-alloc.rest.now c.in-Ok.read.1.now c.loop-alloc.lines.items c.in-Ok.read.0 (c.args.first + c.len.result) c.loop-alloc.targets c.take_target.new.targets c.line.inside.target c.in_ok-take_target.field-0 c.at-then-not-branch.result
-    (named [] c.args.steps.now c.requires.valid) c.loop-alloc.invariant.text c.loop-alloc.invariant.valid c.loop-alloc.invariant.apart (omega (arith, c.len.ensures, c.loop-alloc.lines.ok)) first.0 first.1 room c.loop-alloc.invariant.targets at c.if-not-branch.true c.in_ok-take_target.ensures c.at-then-not-branch.ensures
+    (named [] c.args.steps.now c.requires.valid) c.loop-alloc.invariant.text c.loop-alloc.invariant.valid c.loop-alloc.invariant.apart (omega (arith, c.len.ensures, c.loop-alloc.lines.ok)) first.0 first.1 room c.loop-alloc.invariant.targets at c.if-not-branch.true c.in_ok-take_target.ensures.takes c.at-then-not-branch.ensures
 
 pub loop-alloc-preserved : goal.loop-alloc-preserved
 loop-alloc-preserved g c =
     let first : IsLine (length c.args.steps.now) c.in-Ok.read.0 × (c.loop-alloc.rest.now ≡ line_text (in_words c.args.steps.now c.in-Ok.read.0) ++ c.in-Ok.read.1.now) = rw c.in-Ok.is at (c.in_ok-read.ensures {u = tt}) in
     let room : length c.loop-alloc.lines.items ≢ 65536 = λ e. c.if-len-eq-MOST_LINES.false (omega (arith, e, c.len-in-loop-alloc.ensures, c.loop-alloc.lines.ok)) in
     let at : c.line.inside.target ≡ c.in-Ok.read.0.target = ap (λ (l : LineValue). l.target) c.line.view_is in
-    let took : TakesIn c.args.version true c.line.inside.target c.loop-alloc.targets c.take_target.new.targets = subst (λ (t : Bool). TakesIn c.args.version t c.line.inside.target c.loop-alloc.targets c.take_target.new.targets) c.if-not-branch.false c.in_ok-take_target.ensures in
+    let took : TakesIn c.args.version true c.line.inside.target c.loop-alloc.targets c.take_target.new.targets = subst (λ (t : Bool). TakesIn c.args.version t c.line.inside.target c.loop-alloc.targets c.take_target.new.targets) c.if-not-branch.false c.in_ok-take_target.ensures.takes in
     let takes : TakesIn c.args.version true c.in-Ok.read.0.target c.loop-alloc.targets c.take_target.new.targets = subst (λ (p : List (List ℕ)). TakesIn c.args.version true p c.loop-alloc.targets c.take_target.new.targets) at took in
     let pushed = c.in_ok-push.ensures.items in
     let free = free_in c.args.version c.loop-alloc.targets c.take_target.new.targets c.loop-alloc.lines.items c.in-Ok.read.0.target c.loop-alloc.invariant.targets takes in
