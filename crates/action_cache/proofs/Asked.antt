@@ -1,8 +1,8 @@
 -- What a list of asks leaves.
-use Rattle.std.proofs.Common.{◌≡◌, ℕ, true, false, cond, not, List, [], ◌∷◌, ◌++◌, Option, Some, None, is_some, is_none, bytes_eq, refl, ap, sym, ◌∙◌, subst, arith}
+use Rattle.std.proofs.Common.{◌≡◌, ℕ, true, false, cond, List, [], ◌∷◌, ◌++◌, Option, Some, None, is_some, is_none, bytes_eq, refl, ap, sym, ◌∙◌, subst, arith}
 use Rattle.std.proofs.lemmas.Slice.Eq.{bytes_eq-Decides}
 use Rattle.sha2.specs.Sha256.{sha256}
-use Rattle.std.specs.List.{find, AllByRecursion, IsDistinct}
+use Rattle.std.specs.List.{AllByRecursion, IsDistinct}
 use Rattle.blob_digest.specs.DigestValue.{DigestValue}
 use Rattle.blob_store.specs.Blobs.{all_held}
 use Rattle.action_cache.specs.References.{Reference, Reader, is_held, files_of, fault_of, fault_in_tree, first_given, refers, is_complete, outputs_of, first_fault}

@@ -14,11 +14,10 @@ use Rattle.blob_digest.specs.DigestValue.{DigestValue}
 use Rattle.eviction.specs.Kept.{Held, is_pinned, total_cost}
 use Rattle.eviction.specs.Pinning.{repinned, is_among, all_stored, one_more}
 use Rattle.eviction.proofs.Repins.{repinned_same}
-use Rattle.action_cache.specs.References.{Reference, Reader, is_empty, of_size, is_held, names_hash, fault_in_tree, digests_of, files_of, references, fault_of, first_given, first_fault, outputs_of, refers, is_complete}
+use Rattle.action_cache.specs.References.{Reference, Reader, is_empty, is_held, names_hash, fault_in_tree, digests_of, files_of, references, fault_of, first_given, first_fault, outputs_of, refers, is_complete}
 use Rattle.action_cache.specs.Machine.{CacheState, Marked, done, refused, not_held, incomplete, why_incomplete, found, pin, pinned_now, with_results, marked}
 use Rattle.action_cache.specs.Tied.{how_many, marks, found_in, IsTied}
 use Rattle.action_cache.specs.State.{state_of}
-use Rattle.sha2.specs.Sha256.{sha256}
 use Rattle.blob_store.proofs.BlobLemmas.{held_is_found}
 use Rattle.action_cache.proofs.Pins.{pin_tied, plain-repinned}
 use Rattle.action_cache.proofs.Changes.{under-plain}

@@ -1,5 +1,5 @@
 -- The cache as a machine: lists, a mark on pinned results, and no counts.
-use Rattle.std.specs.Prelude.{ℕ, ◌+◌, Bool, true, false, not, ◌&&◌, List, [], ◌∷◌, ◌++◌, map}
+use Rattle.std.specs.Prelude.{ℕ, ◌+◌, Bool, true, false, not, ◌&&◌, List, [], ◌++◌, map}
 use Rattle.std.specs.Prelude.{length, bytes_eq, Option, Some, None, is_some, nat_lt, option_map}
 use Rattle.std.specs.Prelude.{if◌then◌else◌}
 use Rattle.std.specs.List.{filter, list_any, fold}

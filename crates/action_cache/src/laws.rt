@@ -1,4 +1,4 @@
-ghost use Rattle.std.specs.Prelude.{◌≡◌, ℕ, true, List, [], ◌∷◌, ◌++◌, Some, None};
+ghost use Rattle.std.specs.Prelude.{◌≡◌, ℕ, true, false, List, [], ◌∷◌, ◌++◌, Some, None, codes};
 ghost use Rattle.std.specs.List.{AllByRecursion};
 ghost use Rattle.sha2.specs.Sha256.{sha256};
 ghost use Rattle.wire.specs.Bytes.{IsBytes, AreBytes};
@@ -8,12 +8,12 @@ ghost use Rattle.messages.specs.declared.error.MessageError.{MessageError};
 ghost use Rattle.action_messages.specs.ActionResult.{ActionResultValue};
 ghost use Rattle.action_messages.specs.Reads.{Reads};
 ghost use Rattle.action_messages.specs.Refused.{IsRefusedResult};
-ghost use Rattle.action_cache.specs.References.{Reader, Reference};
+ghost use Rattle.action_cache.specs.References.{Reader, Reference, refers};
 ghost use Rattle.action_cache.specs.Reading.{referred_to, references_in, files_in, files_in_tree};
-ghost use Rattle.action_cache.specs.Machine.{Marked, given, empty_cache, under, get_blob};
+ghost use Rattle.action_cache.specs.Machine.{Marked, empty_cache, found, given, under, get_blob};
 ghost use Rattle.action_cache.specs.Machine.{get_result};
-ghost use Rattle.action_cache.specs.Asking.{CacheAsk, PutResult, GetResult, Pin, Unpin, after};
-ghost use Rattle.action_cache.specs.Asking.{AreWhole, StaysPinned, IsWithin};
+ghost use Rattle.action_cache.specs.Asking.{CacheAsk, PutBlob, PutResult, GetResult, Pin, Unpin};
+ghost use Rattle.action_cache.specs.Asking.{after, AreWhole, StaysPinned, IsWithin};
 
 /// What the bytes of a result refer to. A law: it does nothing.
 pub fn results_refer_to_what_is_read()
@@ -68,12 +68,18 @@ pub fn caches_keep_what_is_pinned()
         → IsWithin (after reader (empty_cache limit result_limit) asks) }
 {}
 
-/// Asks that meet the premises of `caches_keep_what_is_pinned`: a result that refers to nothing is
-/// put and pinned, and then looked up. An example: it does nothing.
+/// Asks that meet the premises of `caches_keep_what_is_pinned`: a blob is put, and a result that
+/// refers to it is put and pinned, and then looked up. An example: it does nothing.
 pub fn a_pinned_result_meets_the_premises()
-    ensures { let reader : Reader = record { outputs = λ _. Some []; files = λ _. None } in
-        let s = after reader (empty_cache 0 64) (PutResult [] [] ∷ Pin [] ∷ []) in
+    ensures { let hash = sha256 (codes "abc") in
+        let blob : Reference =
+        record { digest = record { hash = hash; size = 3 }; is_tree = false } in
+        let reader : Reader = record { outputs = λ _. Some (blob ∷ []); files = λ _. None } in
+        let s = after reader (empty_cache 3 64)
+        (PutBlob hash (codes "abc") ∷ PutResult [] [] ∷ Pin [] ∷ []) in
         (under [] s.results ≡ Some (record { bytes = []; pinned = true }))
+        × (refers (found reader s) reader [] hash ≡ true)
         × AllByRecursion (λ ask. ask ≡ Unpin [] → ⊥) (GetResult [] ∷ [])
-        × ((get_result reader s []).0 ≡ given []) }
+        × ((get_result reader s []).0 ≡ given [])
+        × ((get_blob reader s hash).0 ≡ given (codes "abc")) }
 {}

@@ -9,10 +9,11 @@ use Rattle.http_core.specs.Session.{SessionState, Closed, SessionValue, Stands, 
 use Rattle.http_core.proofs.Cutting.{cut_once, cuts_closed, cut_within, HasMore, empty_partial}
 use Rattle.cache_server.specs.Cache.{CacheValue}
 use Rattle.cache_server.specs.Writing.{TellsBut, StopsTelling}
-use Rattle.cache_server.specs.Connection.{Runs, RunsBut, BreaksOff, ReadsNoFurther}
+use Rattle.cache_server.specs.Connection.{Runs, RunsBut, BreaksOff, ReadsNoFurther, HasAllButLast}
 use Rattle.cache_server.specs.declared.error.ConnError.{ConnError}
 use Rattle.cache_server.specs.declared.error.ConnError.TheVariants.{ReadFault, WriteFault, Memory}
 use Rattle.cache_server.proofs.Serving.{ServesAll, serves_none, serves_join}
+use Rattle.cache_server.proofs.Telling.{last_joins}
 
 pub stands_cut : (session : SessionValue) (stream : List ℕ) (events : List EventValue) → Stands session stream events → (left : Option (List ℕ)) × Cuts session.prefix stream events left
 unfolding Stands
@@ -188,7 +189,7 @@ module _ (prefix : List ℕ) (old : CacheValue) (input left more written_before 
       -- given up in its answers
       pub runs_broken : (others : List EventValue) (lost : List ℕ) (t : TellsBut now events written written_more after others lost)
           → (rest : List ℕ) × (cut : Option (List ℕ)) × (runs : RunsBut prefix old input more written_before written_more after rest lost cut)
-          × (0 < length others → (0 < length rest) × (cut ≡ None → ⊥)) × (0 < length t.done → 0 < length runs.answered.events)
+          × (0 < length others → (0 < length rest) × (cut ≡ None → ⊥)) × (HasAllButLast now t.done t.told → HasAllButLast old runs.answered.events runs.told)
       runs_broken others lost t =
           let c : (rest : Option (List ℕ)) × Cuts session.prefix r.read r.before rest = stands_cut session r.read r.before r.stands in
           let d : (rest : Option (List ℕ)) × Cuts new.prefix (r.read ++ piece) (r.before ++ events) rest = stands_cut new (r.read ++ piece) (r.before ++ events) (feeds.stands r.read r.before r.stands) in
@@ -212,7 +213,7 @@ module _ (prefix : List ℕ) (old : CacheValue) (input left more written_before 
               few_left = let n = ap length h.whole ∙ length-append h.front h.rest in omega (arith, n, few);
             },
             undone session.prefix r.read piece h.front h.rest (r.before ++ t.done) others h.left d.0 h.whole h.cut (subst (λ z. Cuts session.prefix (r.read ++ piece) z d.0) (sym (append_assoc r.before t.done others)) e),
-            λ some. let n = length-append r.before t.done in omega (arith, n, some),
+            last_joins old now r.before t.done r.text t.told r.answers,
           )
 
       at_request : (rest : List ℕ) (cut : Option (List ℕ)) → RunsBut prefix old input more written_before written_more after rest [] cut → 0 < length rest → (cut ≡ None → ⊥)
@@ -223,7 +224,7 @@ module _ (prefix : List ℕ) (old : CacheValue) (input left more written_before 
       pub runs_broken_by : (e : ConnError) → StopsTelling now events written written_more after e → BreaksOff prefix old input more written_before written_more after e
       runs_broken_by ReadFault t = absurd t
       runs_broken_by Memory (event, others, t) = let x = runs_broken (event ∷ others) [] t in let y = x.3 (omega arith) in at_request x.0 x.1 x.2 y.0 y.1
-      runs_broken_by WriteFault (others, lost, t, some) = let x = runs_broken others lost t in (x.0, lost, x.1, x.2, x.4 some)
+      runs_broken_by WriteFault (others, lost, t, last) = let x = runs_broken others lost t in (x.0, lost, x.1, x.2, x.4 last)
 
 -- given up before the first piece
 pub runs_none : (prefix : List ℕ) (old : CacheValue) (input written : Option (List ℕ)) → BreaksOff prefix old input input written written old Memory

@@ -10,3 +10,4 @@ pub mod Connections
 pub mod Once
 pub mod Total
 pub mod Hashes
+pub mod Example

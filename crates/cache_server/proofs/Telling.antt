@@ -1,5 +1,5 @@
 -- Events answered on a writer.
-use Rattle.std.proofs.Common.{◌≡◌, ℕ, Option, List, [], ◌∷◌, ◌++◌, ◌<◌, true, false, map, length, length-append, arith, refl, sym, ◌∙◌, ap, subst, append_assoc}
+use Rattle.std.proofs.Common.{◌≡◌, ℕ, Option, List, [], ◌∷◌, ◌++◌, ◌<◌, true, false, map, length, arith, refl, sym, ◌∙◌, ap, subst, append_assoc}
 use Rattle.std.proofs.lemmas.List.{append-nil}
 use Rattle.std.specs.Io.KnownBytes.{Appends, Keeps}
 use Rattle.std.proofs.KnownBytes.{Appends-nil, Appends-trans, Appends-kept}
@@ -7,10 +7,12 @@ use Rattle.std.specs.Prelude.{◌==◌}
 use Rattle.std.proofs.lemmas.Bool.Decides.{Decides-eqb}
 use Rattle.http_core.specs.declared.event.Event.{Event}
 use Rattle.http_core.specs.Event.{EventValue, event_of}
+use Rattle.cache_server.specs.Answering.{answered, answered_all}
 use Rattle.cache_server.specs.Cache.{CacheValue}
 use Rattle.cache_server.specs.Writing.{WritesSome, TellsBut, StopsTelling}
+use Rattle.cache_server.specs.Connection.{HasAllButLast}
 use Rattle.cache_server.specs.declared.error.ConnError.TheVariants.{WriteFault}
-use Rattle.cache_server.proofs.Serving.{ServesAll, ServesOne, serves_none, serves_more}
+use Rattle.cache_server.proofs.Serving.{ServesAll, ServesOne, serves_none, serves_more, serves_join, text_is}
 
 -- the first of two texts in part
 pub writes_front : (a b : Option (List ℕ)) (x y : List ℕ) → WritesSome a b x → WritesSome a b (x ++ y)
@@ -19,6 +21,37 @@ writes_front a b x y w = record { written = w.written; lost = w.lost ++ y; whole
 -- the first of two texts, and the second in part
 pub writes_on : (a b c : Option (List ℕ)) (x y : List ℕ) → Appends a b x → WritesSome b c y → WritesSome a c (x ++ y)
 writes_on a b c x y p w = record { written = x ++ w.written; lost = w.lost; whole = ap (λ z. x ++ z) w.whole ∙ sym (append_assoc x w.written w.lost); appends = Appends-trans a b c x w.written p w.appends }
+
+-- where all is written, so is all but the last answer
+all_but_last : (old new : CacheValue) (done : List EventValue) (text : List ℕ) → ServesAll old done text new → 0 < length done → HasAllButLast old done text
+unfolding answered_all
+all_but_last old new [] text s some = absurd (omega (arith, some))
+all_but_last old new (event ∷ []) text s some = record { earlier = []; last = event; part = text; whole = refl; has = refl }
+all_but_last old new (event ∷ other ∷ done) text s some =
+    let first : List ℕ × CacheValue = answered old event in
+    let others : List ℕ × CacheValue = answered_all first.1 (other ∷ done) in
+    let h : HasAllButLast first.1 (other ∷ done) others.0 = all_but_last first.1 others.1 (other ∷ done) others.0 refl (omega arith) in
+    let told : first.0 ++ others.0 ≡ text = text_is (first.0 ++ others.0, others.1) (text, new) s in
+    record {
+      earlier = event ∷ h.earlier;
+      last = h.last;
+      part = h.part;
+      whole = ap (λ z. event ∷ z) h.whole;
+      has = sym told ∙ ap (λ z. first.0 ++ z) h.has ∙ sym (append_assoc first.0 (answered_all first.1 h.earlier).0 h.part);
+    }
+
+-- so after earlier events, which are all told
+pub last_joins : (old now : CacheValue) (before done : List EventValue) (text told : List ℕ) → ServesAll old before text now → HasAllButLast now done told → HasAllButLast old (before ++ done) (text ++ told)
+last_joins old now before done text told s h =
+    let mid : List ℕ × CacheValue = answered_all now h.earlier in
+    let joined : answered_all old (before ++ h.earlier) ≡ (text ++ mid.0, mid.1) = serves_join old now mid.1 before h.earlier text mid.0 s refl in
+    record {
+      earlier = before ++ h.earlier;
+      last = h.last;
+      part = h.part;
+      whole = ap (λ z. before ++ z) h.whole ∙ sym (append_assoc before h.earlier (h.last ∷ []));
+      has = ap (λ z. text ++ z) h.has ∙ sym (append_assoc text mid.0 h.part) ∙ ap (λ z. z ++ h.part) (sym (text_is (answered_all old (before ++ h.earlier)) (text ++ mid.0, mid.1) joined));
+    }
 
 -- the events up to the ones that are left
 pub record TellsOn (old : CacheValue) (events left : List EventValue) (before now : Option (List ℕ)) (new : CacheValue) : Type 0 where
@@ -42,7 +75,7 @@ module _ (old now new : CacheValue) (events left : List EventValue) (event : Eve
   }
 
   -- of the last text a part is written
-  unfoldable pub told_part : TellsOn old events (event ∷ left) before mid now → ServesOne now event text new → (w : WritesSome mid after text) → (b : TellsBut old events before after new left w.lost) × (0 < length b.done)
+  unfoldable pub told_part : TellsOn old events (event ∷ left) before mid now → ServesOne now event text new → (w : WritesSome mid after text) → (b : TellsBut old events before after new left w.lost) × HasAllButLast old b.done b.told
   told_part t s w = (
     record {
       done = t.done ++ event ∷ [];
@@ -51,7 +84,7 @@ module _ (old now new : CacheValue) (events left : List EventValue) (event : Eve
       answers = serves_more old now new t.done event t.text text ((t.text ++ w.written) ++ w.lost) t.answers (append_assoc t.text w.written w.lost ∙ ap (λ z. t.text ++ z) (sym w.whole)) s;
       appends = Appends-trans before mid after t.text w.written t.appends w.appends;
     },
-    let n = length-append t.done (event ∷ []) in omega (arith, n),
+    record { earlier = t.done; last = event; part = w.written; whole = refl; has = ap (λ z. z ++ w.written) (sym (text_is (answered_all old t.done) (t.text, now) t.answers)) },
   )
 
 -- so far
@@ -84,5 +117,6 @@ module _ {A : Type 0} (events : List (Event A)) where
     [],
     [],
     record { done = t.done; told = t.told; whole = t.whole; answers = t.answers; appends = Appends-kept before mid after t.told t.appends kept },
-    let n = ap length t.whole ∙ ap length (append-nil t.done) in let some = some_of events f in omega (arith, n, some),
+    let n = ap length t.whole ∙ ap length (append-nil t.done) in let some = some_of events f in
+        all_but_last old new t.done t.told (subst (λ z. ServesAll old t.done z new) (append-nil t.told) t.answers) (omega (arith, n, some)),
   )

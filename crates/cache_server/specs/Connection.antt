@@ -1,5 +1,6 @@
 -- What a run over one connection reads, writes and does.
-use Rattle.std.specs.Prelude.{◌≡◌, ℕ, ◌≤◌, ◌<◌, ◌⊎◌, List, [], ◌++◌, length, Option, Some, None}
+use Rattle.std.specs.Prelude.{◌≡◌, ℕ, ◌≤◌, ◌<◌, ◌⊎◌, ⊤, List, [], ◌∷◌, ◌++◌, length}
+use Rattle.std.specs.Prelude.{Option, Some, None}
 use Rattle.std.specs.Io.KnownBytes.{Appends, Consumes, IsAtEnd}
 use Rattle.http_core.specs.Event.{EventValue}
 use Rattle.http_core.specs.Stream.{Cuts}
@@ -33,6 +34,20 @@ abbrev pub StopsShort : List ℕ → List ℕ → Type 0
 StopsShort front rest =
     (0 < length rest) ⊎ (front ≡ []) ⊎ (18446744073709551615 ≤ length front)
 
+-- of the answers to these events the text has all but the last, and a part of that
+pub record HasAllButLast (old : CacheValue) (events : List EventValue) (text : List ℕ) : Type 0 where
+  pub earlier : List EventValue
+  pub last : EventValue
+  pub part : List ℕ
+  pub whole : events ≡ earlier ++ last ∷ []
+  pub has : text ≡ (answered_all old earlier).0 ++ part
+
+-- a fault is told where it happened, the reader's or the writer's; memory may run out at any time
+abbrev pub IsFaultOf : Type 0 → Type 0 → ConnError → Type 0
+IsFaultOf reader writer ReadFault = reader
+IsFaultOf reader writer WriteFault = writer
+IsFaultOf reader writer Memory = ⊤
+
 module _ (prefix : List ℕ) (old : CacheValue) (input input_left before after : Option (List ℕ))
     (new : CacheValue) where
   -- The requests in what was read did their work, but for the rest of it, of at most one piece, and
@@ -52,7 +67,7 @@ module _ (prefix : List ℕ) (old : CacheValue) (input input_left before after :
 
   -- Where the reader failed all that was read is answered, and nothing in it closes; without memory
   -- only whole answers are written, of requests that don't close, and not all. The writer fails
-  -- where a request is answered.
+  -- at the last request that is answered.
   abbrev pub BreaksOff : ConnError → Type 0
   BreaksOff ReadFault = (begun : List ℕ) × RunsBut [] [] (Some begun)
   BreaksOff Memory =
@@ -60,4 +75,4 @@ module _ (prefix : List ℕ) (old : CacheValue) (input input_left before after :
       × StopsShort runs.front rest
   BreaksOff WriteFault =
       (rest : List ℕ) × (lost : List ℕ) × (left : Option (List ℕ))
-      × (runs : RunsBut rest lost left) × (0 < length runs.answered.events)
+      × (runs : RunsBut rest lost left) × HasAllButLast old runs.answered.events runs.told

@@ -1,9 +1,10 @@
 -- Answers on a writer: what it had, and what it has then.
-use Rattle.std.specs.Prelude.{◌≡◌, ℕ, ◌<◌, List, [], ◌∷◌, ◌++◌, length, Option}
+use Rattle.std.specs.Prelude.{◌≡◌, ℕ, List, [], ◌∷◌, ◌++◌, Option}
 use Rattle.std.specs.Io.KnownBytes.{Appends}
 use Rattle.http_core.specs.Event.{EventValue}
 use Rattle.cache_server.specs.Answering.{answered_all}
 use Rattle.cache_server.specs.Cache.{CacheValue}
+use Rattle.cache_server.specs.Connection.{HasAllButLast}
 use Rattle.cache_server.specs.declared.error.ConnError.{ConnError}
 use Rattle.cache_server.specs.declared.error.ConnError.TheVariants.{ReadFault, WriteFault, Memory}
 
@@ -25,11 +26,12 @@ module _ (old : CacheValue) (events : List EventValue) (before after : Option (L
     pub answers : answered_all old done ≡ (told ++ lost, new)
     pub appends : Appends before after told
 
-  -- Without memory for an answer those before it are written. The writer fails at an answer.
+  -- Without memory for an answer those before it are written. The writer fails at an answer, after
+  -- which nothing is answered.
   abbrev pub StopsTelling : ConnError → Type 0
   StopsTelling Memory =
       (event : EventValue) × (others : List EventValue) × TellsBut (event ∷ others) []
   StopsTelling WriteFault =
       (others : List EventValue) × (lost : List ℕ) × (tells : TellsBut others lost)
-      × (0 < length tells.done)
+      × HasAllButLast old tells.done tells.told
   StopsTelling ReadFault = ⊥

@@ -1,17 +1,18 @@
 ghost use Rattle.std.specs.Prelude.{IfErr, OnOk, [], map};
 ghost use Rattle.http_core.specs.Event.{event_of};
+ghost use Rattle.cache_server.specs.Connection.{IsFaultOf};
 ghost use Rattle.cache_server.specs.Writing.{StopsTelling, TellsBut};
 
 use crate::cache::Cache;
 use crate::error::ConnError;
+use crate::streams::Outgoing;
 use crate::writing::write_answer;
 use http_core::Event;
 use std::alloc::Allocator;
-use std::io::Write;
 
 /// Answers the events one after another. After an `Err` the cache is as some of them left it, from
 /// the first on, and a beginning of their texts is written.
-fn answer_all<A: Allocator + Copy, W: Write>(
+fn answer_all<A: Allocator + Copy, W: Outgoing>(
     alloc: A,
     cache: &mut Cache<A>,
     events: Vec<Event<A>, A>,
@@ -21,6 +22,7 @@ fn answer_all<A: Allocator + Copy, W: Write>(
         (W.contents writer.old) (W.contents writer.new) cache.new [] []) }
     ensures err { IfErr result (StopsTelling cache.old (map event_of events.items)
         (W.contents writer.old) (W.contents writer.new) cache.new) }
+    ensures fault { IfErr result (IsFaultOf ⊥ (W.broken writer.new)) }
 {
     for event in events {
         let answer = cache.answer(alloc, event)?;
@@ -31,7 +33,7 @@ fn answer_all<A: Allocator + Copy, W: Write>(
 
 /// Answers the events, if there are any, and flushes the answers; where memory is wanting, those
 /// that were written. A writer that has failed isn't flushed.
-pub(crate) fn answer_and_flush<A: Allocator + Copy, W: Write>(
+pub(crate) fn answer_and_flush<A: Allocator + Copy, W: Outgoing>(
     alloc: A,
     cache: &mut Cache<A>,
     events: Vec<Event<A>, A>,
@@ -41,6 +43,8 @@ pub(crate) fn answer_and_flush<A: Allocator + Copy, W: Write>(
         (W.contents writer.old) (W.contents writer.new) cache.new [] []) }
     ensures err { IfErr result (StopsTelling cache.old (map event_of events.items)
         (W.contents writer.old) (W.contents writer.new) cache.new) }
+    ensures fault { IfErr result (IsFaultOf ⊥ (W.broken writer.new)) }
+    ensures flushed { OnOk result (W.flushed writer.old → W.flushed writer.new) }
 {
     if events.is_empty() {
         return Ok(());

@@ -1,3 +1,12 @@
+ghost use Rattle.std.specs.Prelude.{◌≡◌, ℕ, List, [], ◌∷◌, ◌++◌, Some, codes, false};
+ghost use Rattle.sha2.specs.Sha256.{sha256};
+ghost use Rattle.http_core.specs.declared.event.Area.TheVariants.{Cas};
+ghost use Rattle.http_core.specs.Event.{Get, Refused};
+ghost use Rattle.http_core.specs.Stream.{Cuts};
+ghost use Rattle.cache_server.specs.Answering.{answered};
+ghost use Rattle.cache_server.specs.Cache.{CacheValue, applied, unused_cache};
+ghost use Rattle.cache_server.specs.Connection.{IsAnswered};
+ghost use Rattle.cache_server.specs.History.{AnswersTo, CacheAfter, Piece};
 ghost use Rattle.cache_server.specs.Laws.{LeadsToOneCache, HasOneAnswer, AnswersItsHash};
 ghost use Rattle.cache_server.specs.Laws.{BeginsTheAnswers};
 
@@ -17,4 +26,17 @@ pub fn blobs_are_answered_under_their_hashes()
 /// nothing.
 pub fn answers_begin_the_answers_to_the_whole()
     ensures { BeginsTheAnswers }
+{}
+
+/// A request, with the byte after it, meets the premises of these laws. An example: it does
+/// nothing.
+pub fn a_history_meets_the_premises()
+    ensures { let get = codes "GET / HTTP/1.1\r\nHost: a\r\n\r\n" in
+        let opening = unused_cache 0 0 in
+        let out : List ℕ × CacheValue = answered opening (Refused 404 false) in
+        CacheAfter [] opening (Piece 0 get ∷ []) out.1
+        × AnswersTo [] opening [] (Piece 0 get) out.0
+        × IsAnswered [] opening get out.0 (Some []) out.1
+        × Cuts [] (get ++ 71 ∷ []) (Refused 404 false ∷ []) (Some (71 ∷ []))
+        × ((applied out.1 (Get Cas (sha256 []))).0.status ≡ 200) }
 {}

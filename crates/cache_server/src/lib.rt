@@ -10,6 +10,7 @@ mod error;
 mod laws;
 mod running;
 mod server;
+mod streams;
 mod writing;
 
 pub use answer::Answer;
@@ -17,8 +18,9 @@ pub use cache::Cache;
 pub use counts::Counts;
 pub use error::ConnError;
 pub use laws::{
-    answers_begin_the_answers_to_the_whole, blobs_are_answered_under_their_hashes,
-    histories_are_answered_in_one_way,
+    a_history_meets_the_premises, answers_begin_the_answers_to_the_whole,
+    blobs_are_answered_under_their_hashes, histories_are_answered_in_one_way,
 };
 pub use running::run;
 pub use server::Server;
+pub use streams::{Incoming, Outgoing};

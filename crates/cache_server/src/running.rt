@@ -1,13 +1,13 @@
 ghost use Rattle.std.specs.Prelude.{◌≡◌, ◌<◌, ◌≤◌, length, take, IfOk, IfErr, OnErr, OnOk};
 ghost use Rattle.std.specs.Io.KnownBytes.{Consumes, IsAtEnd, Keeps};
-ghost use Rattle.cache_server.specs.Connection.{BreaksOff, Runs};
+ghost use Rattle.cache_server.specs.Connection.{BreaksOff, IsFaultOf, Runs};
 
 use crate::answering::answer_and_flush;
 use crate::cache::Cache;
 use crate::error::ConnError;
+use crate::streams::{Incoming, Outgoing};
 use http_core::{Prefix, Session};
 use std::alloc::Allocator;
-use std::io::{Read, Write};
 
 /// The most bytes that are read at once.
 const PIECE: usize = 65536;
@@ -16,7 +16,7 @@ const PIECE: usize = 65536;
 /// a piece are written, and flushed, before the next piece is read. `ReadFault` or `WriteFault`
 /// where the reader or the writer failed, and `Memory`: the cache is as the requests up to then
 /// left it.
-pub fn run<A: Allocator + Copy, R: Read, W: Write>(
+pub fn run<A: Allocator + Copy, R: Incoming, W: Outgoing>(
     alloc: A,
     reader: &mut R,
     writer: &mut W,
@@ -29,6 +29,8 @@ pub fn run<A: Allocator + Copy, R: Read, W: Write>(
     ensures err { IfErr result (BreaksOff prefix.now cache.old
         (R.remaining reader.old) (R.remaining reader.new)
         (W.contents writer.old) (W.contents writer.new) cache.new) }
+    ensures faults { IfErr result (IsFaultOf (R.broken reader.new) (W.broken writer.new)) }
+    ensures flushed { OnOk result (W.flushed writer.old → W.flushed writer.new) }
 {
     let mut session = Session::new(alloc, prefix)?;
     let mut buffer = [0; PIECE];
@@ -49,7 +51,7 @@ pub fn run<A: Allocator + Copy, R: Read, W: Write>(
 
 /// Reads bytes into the buffer, and gives how many they are: none at the end of the input. What
 /// fails here is the reader.
-fn read_some<R: Read>(reader: &mut R, buffer: &mut [u8]) -> Result<usize, ConnError>
+fn read_some<R: Incoming>(reader: &mut R, buffer: &mut [u8]) -> Result<usize, ConnError>
     ensures ok { IfOk result (λ count. Consumes (R.remaining reader.old) (R.remaining reader.new)
         (take count buffer.new)) }
     ensures end { IfOk result (λ count. count ≡ 0 → 0 < length buffer.old
@@ -58,6 +60,7 @@ fn read_some<R: Read>(reader: &mut R, buffer: &mut [u8]) -> Result<usize, ConnEr
     ensures buffer { length buffer.new ≡ length buffer.old }
     ensures err { OnErr result (Keeps (R.remaining reader.old) (R.remaining reader.new)) }
     ensures fault { IfErr result (λ e. e ≡ ConnError.ReadFault) }
+    ensures broken { OnErr result (R.broken reader.new) }
 {
     match reader.read(buffer) {
         Ok(count) => Ok(count),

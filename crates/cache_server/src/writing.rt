@@ -5,19 +5,20 @@ ghost use Rattle.cache_server.specs.Writing.{WritesSome};
 
 use crate::answer::Answer;
 use crate::error::ConnError;
+use crate::streams::Outgoing;
 use std::alloc::Allocator;
-use std::io::Write;
 
 /// The most bytes that are written at once.
 const PIECE: usize = 65536;
 
 /// Writes the bytes, piece after piece. A write that takes none is a fault.
-fn write_out<W: Write>(writer: &mut W, bytes: &[u8]) -> Result<(), ConnError>
+fn write_out<W: Outgoing>(writer: &mut W, bytes: &[u8]) -> Result<(), ConnError>
     ensures ok { OnOk result
         (Appends (W.contents writer.old) (W.contents writer.new) bytes.now) }
     ensures err { OnErr result
         (WritesSome (W.contents writer.old) (W.contents writer.new) bytes.now) }
     ensures fault { IfErr result (λ e. e ≡ ConnError.WriteFault) }
+    ensures broken { OnErr result (W.broken writer.new) }
 {
     let mut rest = bytes;
     while !rest.is_empty() {
@@ -35,7 +36,7 @@ fn write_out<W: Write>(writer: &mut W, bytes: &[u8]) -> Result<(), ConnError>
 }
 
 /// Writes an answer: its head and then its body, which isn't copied.
-pub(crate) fn write_answer<A: Allocator, W: Write>(
+pub(crate) fn write_answer<A: Allocator, W: Outgoing>(
     writer: &mut W,
     answer: &Answer<A>,
 ) -> Result<(), ConnError>
@@ -44,6 +45,7 @@ pub(crate) fn write_answer<A: Allocator, W: Write>(
     ensures err { OnErr result
         (WritesSome (W.contents writer.old) (W.contents writer.new) (text_of answer.now)) }
     ensures fault { IfErr result (λ e. e ≡ ConnError.WriteFault) }
+    ensures broken { OnErr result (W.broken writer.new) }
 {
     write_out(writer, answer.head())?;
     write_out(writer, answer.body())

@@ -11,3 +11,4 @@ pub mod Pieces
 pub mod Feeding
 pub mod Lengths
 pub mod Pairs
+pub mod Example

@@ -49,11 +49,11 @@ pub record MayRunShort (s : SessionValue) (piece : List ℕ) : Type 0 where
 
 -- Nothing is kept but the bytes that came of a block, or of a body that isn't whole and will not be
 -- too large.
-abbrev pub IsKept : Stage → List ℕ → List ℕ → Type 0
-IsKept stages.Block block body = body ≡ []
-IsKept (stages.Body area hash size close) block body =
+abbrev pub HoldsNoMore : Stage → List ℕ → List ℕ → Type 0
+HoldsNoMore stages.Block block body = body ≡ []
+HoldsNoMore (stages.Body area hash size close) block body =
     (block ≡ []) × (length body < size) × (size ≤ greatest_blob)
-IsKept stages.Closed block body = (block ≡ []) × (body ≡ [])
+HoldsNoMore stages.Closed block body = (block ≡ []) × (body ≡ [])
 
 -- the state after these bytes of a request that isn't whole
 abbrev pub Holds : List ℕ → SessionState → List ℕ → Type 0

@@ -21,7 +21,9 @@ pub use event::{Area, Ask, Event};
 pub use fail_stream::FailStream;
 pub use head_text::HeadText;
 pub use host::Host;
-pub use laws::{a_stream_is_cut_in_one_way, cuts_go_on, pieces_make_no_difference};
+pub use laws::{
+    a_request_meets_the_premises, a_stream_is_cut_in_one_way, cuts_go_on, pieces_make_no_difference,
+};
 pub use prefix::Prefix;
 pub use reply::{Content, Reply, write_reply};
 pub use reply_head::{ReplyHead, read_reply_head};

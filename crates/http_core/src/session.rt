@@ -40,7 +40,7 @@ pub struct Session<A: Allocator> {
 }
 
 impl<A: Allocator> Model for Session<A> {
-    ghost use Rattle.http_core.specs.Session.{SessionValue, IsKept, state_of};
+    ghost use Rattle.http_core.specs.Session.{SessionValue, HoldsNoMore, state_of};
 
     ghost Value = { SessionValue };
 
@@ -49,7 +49,7 @@ impl<A: Allocator> Model for Session<A> {
       state = state_of s.stage s.block.items s.body;
     } };
 
-    ghost invariant = { λ s. IsKept s.stage s.block.items s.body };
+    ghost invariant = { λ s. HoldsNoMore s.stage s.block.items s.body };
 }
 
 impl<A: Allocator> Session<A> {

@@ -1,7 +1,9 @@
 -- What connections do to a cache that are served one after another.
-use Rattle.std.specs.Prelude.{ℕ, zero, suc, ◌+◌, List, Option, MatchResult}
+use Rattle.std.specs.Prelude.{ℕ, zero, suc, ◌+◌, List, Option, IfErr, MatchResult}
 use Rattle.cache_server.specs.Cache.{CacheValue}
-use Rattle.cache_server.specs.Connection.{Runs, BreaksOff}
+use Rattle.cache_server.specs.Connection.{Runs, BreaksOff, IsFaultOf}
+use Rattle.cache_server.specs.declared.error.ConnError.{ConnError}
+use Rattle.cache_server.specs.declared.error.ConnError.TheVariants.{ReadFault, WriteFault}
 use Rattle.service.specs.Sockets.{Why}
 
 -- After so many connections so many accepts in a row have failed, and besides them, where there was
@@ -10,11 +12,16 @@ abbrev pub FailsAfter : {L : Type 0} → (L → ℕ → Type 0) → ℕ → ℕ 
 FailsAfter failed zero tries old new = (n : ℕ) → failed old n → failed new (n + tries)
 FailsAfter failed (suc number) tries old new = failed new tries
 
+-- a connection of which this reader or this writer failed was lost so
+pub record LosesAs (reader writer : Type 0) (lost : ConnError → Type 0) : Type 0 where
+  pub reading : reader → lost ReadFault
+  pub writing : writer → lost WriteFault
+
 -- The connection with the number was opened, its requests were answered under the prefix, to its
--- end or to a fault, and it has ended.
+-- end or to a fault that was found, and it has ended.
 pub record ServesNext
     (opened : ℕ → Option (List ℕ) → Option (List ℕ) → Type 0)
-    (ended : ℕ → Option (List ℕ) → Option (List ℕ) → Why → Type 0)
+    (ended : ℕ → Option (List ℕ) → Option (List ℕ) → Why → Type 0) (lost : ℕ → ConnError → Type 0)
     (prefix : List ℕ) (number : ℕ) (old new : CacheValue) : Type 0 where
   pub input : Option (List ℕ)
   pub left : Option (List ℕ)
@@ -25,14 +32,15 @@ pub record ServesNext
   pub ends : ended number left after why
   pub ran : MatchResult why (λ _. Runs prefix old input left before after new)
       (BreaksOff prefix old input left before after new)
+  pub found : IfErr why (IsFaultOf (lost number ReadFault) (lost number WriteFault))
 
 -- so were the connections with the numbers below this one, each after the one before it
 pub data ServesInTurn
     (opened : ℕ → Option (List ℕ) → Option (List ℕ) → Type 0)
-    (ended : ℕ → Option (List ℕ) → Option (List ℕ) → Why → Type 0)
+    (ended : ℕ → Option (List ℕ) → Option (List ℕ) → Why → Type 0) (lost : ℕ → ConnError → Type 0)
     (prefix : List ℕ) (opening : CacheValue) : ℕ → CacheValue → Type 0 where
-  none : ServesInTurn opened ended prefix opening 0 opening
+  none : ServesInTurn opened ended lost prefix opening 0 opening
   next : (count : ℕ) (old new : CacheValue)
-      → ServesInTurn opened ended prefix opening count old
-      → ServesNext opened ended prefix count old new
-      → ServesInTurn opened ended prefix opening (count + 1) new
+      → ServesInTurn opened ended lost prefix opening count old
+      → ServesNext opened ended lost prefix count old new
+      → ServesInTurn opened ended lost prefix opening (count + 1) new

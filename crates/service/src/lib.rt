@@ -26,8 +26,6 @@ mod turn;
 mod turns;
 
 pub use error::NotAccepted;
-pub use listening::{Accepted, Listener};
-pub use serving::{serve, serve_listener};
-pub use sockets::{Peer, Ready, Sockets};
+pub use serving::serve;
 pub use status::ErrorTerminal;
-pub use together::{serve_sockets, serve_together};
+pub use together::serve_together;

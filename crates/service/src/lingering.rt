@@ -1,5 +1,6 @@
 //! What is left to do after the last answer.
-ghost use Rattle.std.specs.Prelude.{◌≡◌, ◌+◌, ◌<◌, ◌≤◌, min, IfSome, IfNone};
+ghost use Rattle.std.specs.Prelude.{◌≡◌, ◌+◌, ◌<◌, ◌≤◌, min, IfSome, IfNone, None, Some, false, true};
+ghost use Rattle.std.specs.Prelude.{if◌then◌else◌, option_map, unwrap_or};
 
 /// The most reads of what still comes.
 const LAST_READS: u32 = 1024;
@@ -8,6 +9,9 @@ const LAST_READS: u32 = 1024;
 const LAST_TIME: u64 = 10_000;
 
 const LAST_WAIT: u64 = 2_000;
+
+/// How many milliseconds a connection may be silent that holds much, where others wait for memory.
+const PRESSED_TIME: u64 = 5_000;
 
 /// When the writing side was ended, and how often more was read since.
 #[derive(Clone, Copy)]
@@ -50,4 +54,38 @@ impl Lingering {
         let silent = moved.saturating_add(LAST_WAIT);
         silent.min(self.begun.saturating_add(LAST_TIME))
     }
+}
+
+/// How many milliseconds a connection may be silent that has so many else, where it holds much and
+/// others wait for memory.
+pub(crate) fn limit_of(idle: Option<u64>, is_pressed: bool) -> Option<u64>
+    ensures { result ≡ (if is_pressed then Some (min (unwrap_or idle 5000) 5000) else idle) }
+{
+    if is_pressed {
+        return Some(idle.unwrap_or(PRESSED_TIME).min(PRESSED_TIME));
+    }
+    idle
+}
+
+/// When a connection will have been silent for too long, where a byte was moved last at this time:
+/// after the last answer sooner, and never while it waits for others.
+pub(crate) fn deadline_of(
+    lingering: Option<Lingering>,
+    is_held: bool,
+    moved: u64,
+    limit: Option<u64>,
+) -> Option<u64>
+    ensures lingers { IfSome lingering (λ it.
+        result ≡ Some (min (min (moved + 2000) (it.begun + 10000)) u64.MAX)) }
+    ensures waits { lingering ≡ None → is_held ≡ true → result ≡ None }
+    ensures limit { lingering ≡ None → is_held ≡ false
+        → result ≡ option_map (λ time. min (moved + time) u64.MAX) limit }
+{
+    if let Some(lingering) = lingering {
+        return Some(lingering.deadline(moved));
+    }
+    if is_held {
+        return None;
+    }
+    Some(moved.saturating_add(limit?))
 }

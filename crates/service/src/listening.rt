@@ -1,14 +1,15 @@
 ghost use Rattle.std.specs.Prelude.{ℕ, List, Option, IfErr, IfOk, OnErr, OnOk};
 ghost use Rattle.std.specs.declared.io.Error.{Error};
+ghost use Rattle.cache_server.specs.declared.error.ConnError.{ConnError};
 ghost use Rattle.service.specs.Sockets.{Why};
-ghost use Rattle.service.specs.Turns.{FailsAfter};
+ghost use Rattle.service.specs.Turns.{FailsAfter, LosesAs};
 
 use crate::closing::close;
 use crate::metered::Metered;
-use cache_server::ConnError;
+use cache_server::{ConnError, Incoming, Outgoing};
 use std::alloc::Global;
 use std::io;
-use std::io::{BufWriter, Read, Write};
+use std::io::BufWriter;
 use std::net::{SocketAddr, TcpListener};
 use std::time::{Clock, Duration};
 
@@ -17,17 +18,17 @@ const GATHERED: usize = 16384;
 
 /// A connection: what is read of it, what is written to it, and its peer.
 #[derive(Drop)]
-pub struct Accepted<I, O> {
+pub(crate) struct Accepted<I, O> {
     pub reader: I,
     pub writer: O,
     pub peer: SocketAddr,
 }
 
 /// Where connections come from that are served one after another.
-pub trait Listener {
-    type Reader: Read + Drop;
+pub(crate) trait Listener {
+    type Reader: Incoming + Drop;
 
-    type Writer: Write + Drop;
+    type Writer: Outgoing + Drop;
 
     /// That the connection with this number was opened, with this to be read and written there.
     ghost opened: { ℕ → Option (List ℕ) → Option (List ℕ) → Type 0 };
@@ -35,6 +36,9 @@ pub trait Listener {
     /// That it has ended, with this left to be read and written there, and why. Only the calls that
     /// opened it and ended it say so.
     ghost ended: { ℕ → Option (List ℕ) → Option (List ℕ) → Why → Type 0 };
+
+    /// That it had failed so then: its reader, or its writer.
+    ghost lost: { ℕ → ConnError → Type 0 };
 
     /// That so many accepts in a row have failed, up to the last. Only calls say so.
     ghost failed: { Self → ℕ → Type 0 };
@@ -60,6 +64,8 @@ pub trait Listener {
     ) -> (u64, u64)
         ensures ends { ended number
             (Self.Reader.remaining reader) (Self.Writer.contents writer) why }
+        ensures lost { LosesAs (Self.Reader.broken reader) (Self.Writer.broken writer)
+            (lost number) }
         ensures keeps { FailsAfter failed 0 0 self.old self.new };
 }
 
@@ -80,6 +86,8 @@ impl<'r, R: AllocGlobal + Clock> Listener for System<'r, R> {
     ghost opened = { λ _ _ _. Unit {0} };
 
     ghost ended = { λ _ _ _ _. Unit {0} };
+
+    ghost lost = { λ _ _. Unit {0} };
 
     ghost failed = { λ _ _. Unit {0} };
 

@@ -1,3 +1,6 @@
+ghost use Rattle.std.specs.Prelude.{◌≡◌, ◌+◌, ◌-◌, ◌<◌, ◌⊎◌, ◌↔◌, ◌==◌, ◌&&◌, ℕ, min, false};
+ghost use Rattle.std.specs.Prelude.{IsTrue, None, Some, nat_le, nat_lt, if◌then◌else◌};
+
 /// The most bytes that may be held of answers that nothing else holds, and of requests that aren't
 /// whole: over all connections, and of each kind.
 pub(crate) const GREATEST: u64 = 268_435_456;
@@ -10,21 +13,29 @@ pub(crate) struct Load {
 }
 
 impl Load {
-    pub(crate) fn none() -> Load {
+    pub(crate) fn none() -> Load
+        ensures { result ≡ record { answers = 0; requests = 0 } }
+    {
         Load {
             answers: 0,
             requests: 0,
         }
     }
 
-    pub(crate) fn with(&self, other: &Load) -> Load {
+    pub(crate) fn with(&self, other: &Load) -> Load
+        ensures answers { result.answers ≡ min (self.now.answers + other.now.answers) u64.MAX }
+        ensures requests { result.requests ≡ min (self.now.requests + other.now.requests) u64.MAX }
+    {
         Load {
             answers: self.answers.saturating_add(other.answers),
             requests: self.requests.saturating_add(other.requests),
         }
     }
 
-    pub(crate) fn without(&self, other: &Load) -> Load {
+    pub(crate) fn without(&self, other: &Load) -> Load
+        ensures answers { result.answers ≡ self.now.answers - other.now.answers }
+        ensures requests { result.requests ≡ self.now.requests - other.now.requests }
+    {
         Load {
             answers: self.answers.saturating_sub(other.answers),
             requests: self.requests.saturating_sub(other.requests),
@@ -32,7 +43,10 @@ impl Load {
     }
 
     /// Whether less is held of one kind or the other.
-    pub(crate) fn is_less_than(&self, other: &Load) -> bool {
+    pub(crate) fn is_less_than(&self, other: &Load) -> bool
+        ensures { IsTrue result ↔ ((self.now.answers < other.now.answers)
+            ⊎ (self.now.requests < other.now.requests)) }
+    {
         self.answers < other.answers || self.requests < other.requests
     }
 }
@@ -57,7 +71,13 @@ pub(crate) struct Scales {
 }
 
 impl Scales {
-    pub(crate) fn new() -> Scales {
+    pub(crate) fn new() -> Scales
+        ensures { result ≡ record {
+          load = record { answers = 0; requests = 0 };
+          senior = None;
+          eased = false;
+        } }
+    {
         Scales {
             load: Load::none(),
             senior: None,
@@ -66,7 +86,23 @@ impl Scales {
     }
 
     /// Notes what the connection with the number holds now, and held before.
-    pub(crate) fn weigh(&mut self, number: u64, before: &Load, after: &Load) {
+    pub(crate) fn weigh(&mut self, number: u64, before: &Load, after: &Load)
+        ensures answers { self.new.load.answers
+            ≡ min ((self.old.load.answers - before.now.answers) + after.now.answers) u64.MAX }
+        ensures requests { self.new.load.requests
+            ≡ min ((self.old.load.requests - before.now.requests) + after.now.requests) u64.MAX }
+        ensures eased { IsTrue self.new.eased ↔ (IsTrue self.old.eased
+            ⊎ ((after.now.answers < before.now.answers)
+            ⊎ (after.now.requests < before.now.requests))) }
+        // The senior stays so until nothing of its request is left.
+        ensures stays { (senior : ℕ) → self.old.senior ≡ Some senior
+            → self.new.senior ≡ (if (senior == number) && (after.now.requests == 0)
+            then None else Some senior) }
+        // One becomes it that has a request where all together hold too much.
+        ensures becomes { self.old.senior ≡ None → self.new.senior
+            ≡ (if nat_le 268435456 self.new.load.requests && nat_lt 0 after.now.requests
+            then Some number else None) }
+    {
         self.load = self.load.without(before).with(after);
         if after.is_less_than(before) {
             self.eased = true;

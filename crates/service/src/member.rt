@@ -8,7 +8,7 @@ ghost use Rattle.service.specs.Talks.{IsReason};
 
 use crate::desk::Desk;
 use crate::error::finds_none;
-use crate::lingering::Lingering;
+use crate::lingering::{Lingering, deadline_of, limit_of};
 use crate::load::{Leave, Load};
 use crate::part::{gather, next_of, sent_with};
 use crate::silence::was_silent;
@@ -25,10 +25,7 @@ use std::{io, mem};
 /// The most steps of a turn, so that one busy client starves nobody.
 const STEPS: u32 = 16;
 
-/// How many milliseconds a connection that holds more than so many bytes may be silent, where
-/// others wait for memory.
-const PRESSED_TIME: u64 = 5_000;
-
+/// A connection that holds more bytes may be silent less long, where others wait for memory.
 const HEAVY: u64 = 65_536;
 
 /// An open connection, one of many. Clauses see its stream, what was read and hasn't come to the
@@ -156,18 +153,13 @@ impl<S: Peer + Drop> Member<S> {
     /// When it will have been silent for too long. Where others wait for memory, that is sooner for
     /// one that holds much.
     pub(crate) fn deadline(&self, idle: Option<u64>, pressed: bool) -> Option<u64> {
-        if let Some(lingering) = self.lingering {
-            return Some(lingering.deadline(self.moved));
-        }
-        if self.is_held {
-            return None;
-        }
-        let idle = if pressed && self.held_alone().max(self.kept) > HEAVY {
-            idle.unwrap_or(PRESSED_TIME).min(PRESSED_TIME)
-        } else {
-            idle?
-        };
-        Some(self.moved.saturating_add(idle))
+        let is_pressed = pressed && self.held_alone().max(self.kept) > HEAVY;
+        deadline_of(
+            self.lingering,
+            self.is_held,
+            self.moved,
+            limit_of(idle, is_pressed),
+        )
     }
 
     /// Why it ends, where it was silent for too long: its deadline is over, and so says its stream.

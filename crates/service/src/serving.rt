@@ -27,9 +27,9 @@ pub fn serve<R: AllocGlobal + Clock + Log>(
 ) -> Result<(), NotAccepted>
     // The requests of some streams, one for each connection, led to the cache.
     ensures ok { OnOk result (ServesInTurn (λ _ _ _. Unit {0}) (λ _ _ _ _. Unit {0})
-        prefix.now cache.old connections cache.new) }
+        (λ _ _. Unit {0}) prefix.now cache.old connections cache.new) }
     ensures err { IfErr result (λ fault. ServesInTurn (λ _ _ _. Unit {0}) (λ _ _ _ _. Unit {0})
-        prefix.now cache.old fault.accepted cache.new) }
+        (λ _ _. Unit {0}) prefix.now cache.old fault.accepted cache.new) }
     ensures few { IfErr result (λ fault. fault.accepted < connections) }
 {
     let mut system = System { rt, listener, idle };
@@ -39,7 +39,7 @@ pub fn serve<R: AllocGlobal + Clock + Log>(
 /// Serves so many connections of the listener, one after another, under the prefix. A fault of one
 /// connection ends that connection alone. One that can't be accepted isn't counted; after 100
 /// faults in a row no more are waited for.
-pub fn serve_listener<R: AllocGlobal + Log, L: Listener>(
+fn serve_listener<R: AllocGlobal + Log, L: Listener>(
     rt: &R,
     listener: &mut L,
     connections: u64,
@@ -48,9 +48,9 @@ pub fn serve_listener<R: AllocGlobal + Log, L: Listener>(
 ) -> Result<(), NotAccepted>
     // Each connection was opened, run to its end or to a fault, and ended.
     ensures ok { OnOk result
-        (ServesInTurn L.opened L.ended prefix.now cache.old connections cache.new) }
+        (ServesInTurn L.opened L.ended L.lost prefix.now cache.old connections cache.new) }
     ensures err { IfErr result (λ fault.
-        ServesInTurn L.opened L.ended prefix.now cache.old fault.accepted cache.new) }
+        ServesInTurn L.opened L.ended L.lost prefix.now cache.old fault.accepted cache.new) }
     ensures few { IfErr result (λ fault. fault.accepted < connections) }
     ensures tried { IfErr result (λ fault.
         FailsAfter L.failed fault.accepted 100 listener.old listener.new) }
@@ -91,6 +91,7 @@ fn accept<R: Log, L: Listener>(
 }
 
 /// Serves a connection, and tells of it in the log.
+#[tactic(auto, using(crate::proofs::Failing::fault_lost))]
 fn serve_next<R: AllocGlobal + Log, L: Listener>(
     rt: &R,
     listener: &mut L,
@@ -101,7 +102,7 @@ fn serve_next<R: AllocGlobal + Log, L: Listener>(
 )
     requires { L.opened number
         (L.Reader.remaining accepted.reader) (L.Writer.contents accepted.writer) }
-    ensures serves { ServesNext L.opened L.ended prefix.now number cache.old cache.new }
+    ensures serves { ServesNext L.opened L.ended L.lost prefix.now number cache.old cache.new }
     ensures keeps { FailsAfter L.failed 0 0 listener.old listener.new }
 {
     let Accepted {

@@ -18,7 +18,7 @@ use std::time::Duration;
 
 /// What the system has for a connection, or for the listener, which has no number.
 #[derive(Clone, Copy, Debug, PartialEq, Eq)]
-pub struct Ready {
+pub(crate) struct Ready {
     pub number: Option<u64>,
     /// There may be something to read.
     pub readable: bool,
@@ -27,7 +27,7 @@ pub struct Ready {
 }
 
 /// The stream of an open connection. Nothing waits: what can't be done yet is `WouldBlock`.
-pub trait Peer {
+pub(crate) trait Peer {
     /// That it is the connection with this number, and that so much was read of it and sent to it.
     ghost spoke: { ℕ → Self → List ℕ → List ℕ → Type 0 };
 
@@ -81,7 +81,7 @@ pub trait Peer {
 }
 
 /// Where connections come from.
-pub trait Sockets {
+pub(crate) trait Sockets {
     type Stream: Peer + Drop;
 
     /// That the connection with this number has ended, when so much had been read of it and sent to

@@ -1,5 +1,9 @@
-ghost use Rattle.std.specs.Prelude.{◌≡◌, ◌+◌, ◌<◌, ◌≤◌, min, IsSome, None, Some, is_some};
+ghost use Rattle.std.specs.Prelude.{◌≡◌, ◌+◌, ◌++◌, ◌<◌, ◌≤◌, codes, min, IsSome, None, OnOk, Some};
+ghost use Rattle.std.specs.Prelude.{is_some};
+ghost use Rattle.std.specs.Fmt.{decimal};
+ghost use Rattle.std.specs.Io.KnownBytes.{Appends};
 
+use std::io;
 use std::io::{IsTerminal, Stderr, Write};
 
 /// How many milliseconds the line stands at least.
@@ -96,8 +100,7 @@ impl StatusLine {
             self.due = self.next;
             return;
         }
-        let Status { open, hits } = status;
-        let _ = write!(terminal, "\r{open} open, {hits} hits\x1b[K");
+        let _ = write_status(terminal, &status);
         self.shown = Some(status);
         self.next = now.saturating_add(STANDS);
         self.due = u64::MAX;
@@ -113,8 +116,26 @@ impl StatusLine {
             return;
         }
         if let Some(terminal) = &mut self.terminal {
-            let _ = write!(terminal, "\r\x1b[K");
+            let _ = write_nothing(terminal);
         }
         self.shown = None;
     }
+}
+
+/// Writes the status over what stands in the line.
+fn write_status<W: Write>(terminal: &mut W, status: &Status) -> io::Result<()>
+    ensures { OnOk result (Appends (W.contents terminal.old) (W.contents terminal.new)
+        (codes "\r" ++ decimal status.now.open ++ codes " open, " ++ decimal status.now.hits
+        ++ codes " hits\u{1b}[K")) }
+{
+    let Status { open, hits } = *status;
+    write!(terminal, "\r{open} open, {hits} hits\x1b[K")
+}
+
+/// Leaves the line without a text.
+fn write_nothing<W: Write>(terminal: &mut W) -> io::Result<()>
+    ensures { OnOk result (Appends (W.contents terminal.old) (W.contents terminal.new)
+        (codes "\r\u{1b}[K")) }
+{
+    write!(terminal, "\r\x1b[K")
 }

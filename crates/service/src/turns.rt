@@ -1,5 +1,6 @@
 //! A turn of each that has something to do.
-ghost use Rattle.std.specs.Prelude.{◌≡◌, None, IfSome};
+ghost use Rattle.std.specs.Prelude.{◌≡◌, ◌==◌, ◌||◌, None, IfSome, true, nat_lt, if◌then◌else◌};
+ghost use Rattle.std.specs.Option.{option_map_or};
 ghost use Rattle.service.specs.Member.{end_of};
 ghost use Rattle.service.specs.Together.{AreSame, LeavesPlaced, LeavesTogether, MovesOnAt};
 
@@ -104,7 +105,11 @@ impl<S: Peer + Drop> Together<S> {
 
     /// What the connection with the number may do. Where requests that aren't whole hold too much,
     /// each may keep its share, and one of them is read to its end.
-    fn leave(&self, number: u64) -> Leave {
+    fn leave(&self, number: u64) -> Leave
+        ensures kept { result.kept ≡ (if nat_lt self.now.scales.load.requests 268435456
+            || option_map_or (λ senior. senior == number) self.now.scales.senior true
+            then u64.MAX else self.now.share) }
+    {
         let is_senior = match self.scales.senior {
             Some(senior) => senior == number,
             None => true,

@@ -7,4 +7,4 @@ abbrev pub invariant-loop-event : goal.invariant-loop-event
 invariant-loop-event g l =
     (goal.iterator-loop-event g).can_next l.event-iterator
     × (goal.iterator-loop-event g).is_finite l.event-iterator
-    × TellsOn l.fn.cache (map event_of l.fn.events.items) (map event_of l.event-iterator.rest.items) (g.W.Write.contents l.fn.writer) (g.W.Write.contents l.writer) l.cache
+    × TellsOn l.fn.cache (map event_of l.fn.events.items) (map event_of l.event-iterator.rest.items) (g.W.Outgoing.contents l.fn.writer) (g.W.Outgoing.contents l.writer) l.cache

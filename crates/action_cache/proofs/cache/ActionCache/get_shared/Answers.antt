@@ -1,4 +1,4 @@
-use Rattle.std.proofs.Common.{◌≡◌, ℕ, List, ap, sym, ◌∙◌, subst, OnOk, Result, Ok, Err}
+use Rattle.std.proofs.Common.{ℕ, List, ap, sym, ◌∙◌}
 use Rattle.eviction.specs.Kept.{Kept}
 use Rattle.blob_store.proofs.BlobLemmas.{used_overhead}
 use Rattle.action_cache.specs.Machine.{CacheState, get_blob as blob_got}

@@ -1,4 +1,4 @@
-use Rattle.std.proofs.Common.{◌≡◌, ℕ, List, Bool, refl, sym, ap, ◌∙◌, subst, bytes_eq, true, false, is_some, Err, inl, inr, ◌⊎◌, IfErr}
+use Rattle.std.proofs.Common.{◌≡◌, ℕ, List, Bool, refl, sym, ap, ◌∙◌, subst, bytes_eq, true, false, Err, inl, inr, ◌⊎◌, IfErr}
 use Rattle.eviction.specs.declared.error.BoundedError.{BoundedError}
 use Rattle.eviction.specs.declared.error.BoundedError.TheVariants as bounded
 use Rattle.eviction.specs.Entering.{can_enter}
@@ -21,44 +21,26 @@ seen w st h b l q t v e told is = (λ i. differs_pinned by_messages (v i) (sym e
 pub returns-then-differs-clause-refused : goal.returns-then-differs-clause-refused
 returns-then-differs-clause-refused g c =
     let i = c.self.inside in
-    let reader = by_messages in
     let h = c.args.hash in
     let b = c.args.bytes.items in
-    let s = i.results in
-    let B = i.blobs.entries in
-    let flat = c.self.invariant.2 in
-    let d = c.held_bytes-held.ensures.valid.distinct in
-    let reads : is_some (reader.outputs b) ≡ true = c.requires in
-    let other = seen _ (state_of i.blobs.limit s.limit B s.entries) h b c.deref.result.now c.differs.result true c.self.view_is c.deref.ensures.value c.differs.ensures c.if-differs.true in
-    subst (λ (w : CacheState). IsRefused w (result_put reader w h b) PinnedDiffers) c.self.view_is (other_put reader i.blobs.limit B s flat d h b reads other)
+    let other = seen _ (state_of i.blobs.limit i.results.limit i.blobs.entries i.results.entries) h b c.deref.result.now c.differs.result true c.self.view_is c.deref.ensures.value c.differs.ensures c.if-differs.true in
+    subst (λ (w : CacheState). IsRefused w (result_put by_messages w h b) PinnedDiffers) c.self.view_is (other_put by_messages i.blobs.limit i.blobs.entries i.results c.self.invariant.2 c.held_bytes-held.ensures.valid.distinct h b c.requires other)
 
 pub invariant_of-self-2 : goal.invariant_of-self-2
 invariant_of-self-2 g c =
     let i = c.self.inside in
-    let reader = by_messages in
     let h = c.args.hash in
     let b = c.args.bytes.items in
-    let s = i.results in
-    let B = i.blobs.entries in
-    let flat = c.self.invariant.2 in
-    let d = c.held_bytes-held.ensures.valid.distinct in
-    let reads : is_some (reader.outputs b) ≡ true = c.requires in
-    let other = seen _ (state_of i.blobs.limit s.limit B s.entries) h b c.deref.result.now c.differs.result false c.self.view_is c.deref.ensures.value c.differs.ensures c.if-differs.false in
-    (put_tied reader i.blobs.limit B s flat d h b c.put.new.self c.in_ok-put.ensures.ok (same_put reader i.blobs.limit B s flat d h b other) c.self.invariant.0, c.self.invariant.1, entered_overhead s c.put.new.self h b c.in_ok-put.ensures.ok ∙ flat)
+    let other = seen _ (state_of i.blobs.limit i.results.limit i.blobs.entries i.results.entries) h b c.deref.result.now c.differs.result false c.self.view_is c.deref.ensures.value c.differs.ensures c.if-differs.false in
+    (put_tied by_messages i.blobs.limit i.blobs.entries i.results c.self.invariant.2 c.held_bytes-held.ensures.valid.distinct h b c.put.new.self c.in_ok-put.ensures.ok (same_put by_messages i.blobs.limit i.blobs.entries i.results c.self.invariant.2 c.held_bytes-held.ensures.valid.distinct h b other) c.self.invariant.0, c.self.invariant.1, entered_overhead i.results c.put.new.self h b c.in_ok-put.ensures.ok ∙ c.self.invariant.2)
 
 pub returns-clause-ok : goal.returns-clause-ok
 returns-clause-ok g c =
     let i = c.self.inside in
-    let reader = by_messages in
     let h = c.args.hash in
     let b = c.args.bytes.items in
-    let s = i.results in
-    let B = i.blobs.entries in
-    let flat = c.self.invariant.2 in
-    let d = c.held_bytes-held.ensures.valid.distinct in
-    let reads : is_some (reader.outputs b) ≡ true = c.requires in
-    let other = seen _ (state_of i.blobs.limit s.limit B s.entries) h b c.deref.result.now c.differs.result false c.self.view_is c.deref.ensures.value c.differs.ensures c.if-differs.false in
-    subst (λ (w : CacheState). result_put reader w h b ≡ (done, state_of i.blobs.limit c.put.new.self.limit B c.put.new.self.entries)) c.self.view_is (ok_put reader i.blobs.limit B s flat d h b c.put.new.self reads other c.in_ok-put.ensures.ok)
+    let other = seen _ (state_of i.blobs.limit i.results.limit i.blobs.entries i.results.entries) h b c.deref.result.now c.differs.result false c.self.view_is c.deref.ensures.value c.differs.ensures c.if-differs.false in
+    subst (λ (w : CacheState). result_put by_messages w h b ≡ (done, state_of i.blobs.limit c.put.new.self.limit i.blobs.entries c.put.new.self.entries)) c.self.view_is (ok_put by_messages i.blobs.limit i.blobs.entries i.results c.self.invariant.2 c.held_bytes-held.ensures.valid.distinct h b c.put.new.self c.requires other c.in_ok-put.ensures.ok)
 
 -- full or out of memory
 refused_by : (st : CacheState) (out : Answer × CacheState) (e : BoundedError) → (e ≡ bounded.Full) ⊎ (e ≡ bounded.Memory) → (e ≡ bounded.Full → out ≡ (refused full, st)) → IsRefused st out (of_bounded e)
@@ -68,21 +50,15 @@ refused_by st out e (inr memory) f = subst (λ x. IsRefused st out (of_bounded x
 pub returns-in_err-put-clause-refused : goal.returns-in_err-put-clause-refused
 returns-in_err-put-clause-refused g c =
     let i = c.self.inside in
-    let reader = by_messages in
     let h = c.args.hash in
     let b = c.args.bytes.items in
-    let s = i.results in
-    let B = i.blobs.entries in
-    let flat = c.self.invariant.2 in
-    let d = c.held_bytes-held.ensures.valid.distinct in
-    let reads : is_some (reader.outputs b) ≡ true = c.requires in
-    let other = seen _ (state_of i.blobs.limit s.limit B s.entries) h b c.deref.result.now c.differs.result false c.self.view_is c.deref.ensures.value c.differs.ensures c.if-differs.false in
-    let st = state_of i.blobs.limit s.limit B s.entries in
+    let other = seen _ (state_of i.blobs.limit i.results.limit i.blobs.entries i.results.entries) h b c.deref.result.now c.differs.result false c.self.view_is c.deref.ensures.value c.differs.ensures c.if-differs.false in
+    let st = state_of i.blobs.limit i.results.limit i.blobs.entries i.results.entries in
     let e = c.in_err-put.field-0.0 in
-    let full : e ≡ bounded.Full → can_enter bytes_eq s h b ≡ false = λ q. c.in_err-put.ensures.full.0 (ap Err q) in
-    subst (λ (w : CacheState). IfErr c.from_residual.result (IsRefused w (result_put reader w h b))) c.self.view_is
-    (told c.from_residual.result (of_bounded e) (IsRefused st (result_put reader st h b)) c.from_residual.ensures.1
-    (refused_by st (result_put reader st h b) e c.in_err-put.ensures.errors (λ q. full_put reader i.blobs.limit B s flat d h b reads other (full q))))
+    let full : e ≡ bounded.Full → can_enter bytes_eq i.results h b ≡ false = λ q. c.in_err-put.ensures.full.0 (ap Err q) in
+    subst (λ (w : CacheState). IfErr c.from_residual.result (IsRefused w (result_put by_messages w h b))) c.self.view_is
+    (told c.from_residual.result (of_bounded e) (IsRefused st (result_put by_messages st h b)) c.from_residual.ensures.1
+    (refused_by st (result_put by_messages st h b) e c.in_err-put.ensures.errors (λ q. full_put by_messages i.blobs.limit i.blobs.entries i.results c.self.invariant.2 c.held_bytes-held.ensures.valid.distinct h b c.requires other (full q))))
 
 bounded_not_bad : (e : BoundedError) (d : MessageError) → (e ≡ bounded.Full) ⊎ (e ≡ bounded.Memory) → of_bounded e ≡ BadResult d → ⊥
 bounded_not_bad e d (inl same) h = let no : cache.Full ≡ BadResult d = sym (ap of_bounded same) ∙ h in absurd cc
@@ -106,15 +82,9 @@ not_false false n = absurd (n refl)
 pub returns-in_err-put-clause-memory : goal.returns-in_err-put-clause-memory
 returns-in_err-put-clause-memory g c is =
     let i = c.self.inside in
-    let reader = by_messages in
     let h = c.args.hash in
     let b = c.args.bytes.items in
-    let s = i.results in
-    let B = i.blobs.entries in
-    let flat = c.self.invariant.2 in
-    let d = c.held_bytes-held.ensures.valid.distinct in
-    let reads : is_some (reader.outputs b) ≡ true = c.requires in
-    let other = seen _ (state_of i.blobs.limit s.limit B s.entries) h b c.deref.result.now c.differs.result false c.self.view_is c.deref.ensures.value c.differs.ensures c.if-differs.false in
+    let other = seen _ (state_of i.blobs.limit i.results.limit i.blobs.entries i.results.entries) h b c.deref.result.now c.differs.result false c.self.view_is c.deref.ensures.value c.differs.ensures c.if-differs.false in
     let memory = bounded_memory c.in_err-put.field-0.0 (told_is c.from_residual.result (of_bounded c.in_err-put.field-0.0) cache.Memory c.from_residual.ensures.1 is) in
-    let room = not_false (can_enter bytes_eq s h b) (λ full. let is_full = c.in_err-put.ensures.full.1 full in let no : bounded.Full ≡ bounded.Memory = cc in absurd cc) in
-    subst (λ (w : CacheState). (result_put reader w h b).0 ≡ done) c.self.view_is (put_done reader i.blobs.limit B s flat d h b reads other room)
+    let room = not_false (can_enter bytes_eq i.results h b) (λ full. let is_full = c.in_err-put.ensures.full.1 full in let no : bounded.Full ≡ bounded.Memory = cc in absurd cc) in
+    subst (λ (w : CacheState). (result_put by_messages w h b).0 ≡ done) c.self.view_is (put_done by_messages i.blobs.limit i.blobs.entries i.results c.self.invariant.2 c.held_bytes-held.ensures.valid.distinct h b c.requires other room)

@@ -1,10 +1,9 @@
-use Rattle.std.proofs.Common.{◌≡◌, is_some, ap, subst, IfErr}
-use Rattle.messages.specs.declared.error.MessageError.{MessageError}
+use Rattle.std.proofs.Common.{is_some, ap, subst, IfErr}
 use Rattle.action_cache.specs.Reading.{by_messages}
 use Rattle.action_cache.specs.Machine.{CacheState, put_result as result_put}
 use Rattle.action_cache.specs.State.{state_of}
 use Rattle.action_cache.specs.CacheError.{IsRefused, IsNoResult}
-use Rattle.action_cache.proofs.Said.{bad_told, not_bad}
+use Rattle.action_cache.proofs.Said.{bad_told}
 use Rattle.action_cache.proofs.Refusing.{unread_refused}
 use Rattle.action_cache.proofs.Mirrors.{told}
 use Rattle.action_cache.proofs.Replacing.{bad_put}
