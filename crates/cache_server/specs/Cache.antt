@@ -19,9 +19,9 @@ pub record CacheValue : Type 0 where
   pub counts : Counts
 
 -- a cache that holds nothing
-abbrev pub empty_cache : ℕ → ℕ → CacheValue
-empty_cache limit result_limit =
-    record { state = machine.opened limit result_limit; counts = no_counts }
+abbrev pub unused_cache : ℕ → ℕ → CacheValue
+unused_cache limit result_limit =
+    record { state = machine.empty_cache limit result_limit; counts = no_counts }
 
 -- the reply to a look-up that found these bytes, or none
 abbrev pub found_reply : Option (List ℕ) → ReplyValue

@@ -5,7 +5,7 @@ use Rattle.http_core.specs.declared.event.Area.TheVariants.{Cas}
 use Rattle.http_core.specs.Event.{EventValue, Get}
 use Rattle.http_core.specs.Reply.{ReplyValue}
 use Rattle.http_core.specs.Stream.{Cuts}
-use Rattle.cache_server.specs.Cache.{CacheValue, applied, empty_cache}
+use Rattle.cache_server.specs.Cache.{CacheValue, applied, unused_cache}
 use Rattle.cache_server.specs.History.{HistoryEntry, CacheAfter, AnswersTo}
 use Rattle.cache_server.specs.Connection.{IsAnswered}
 
@@ -27,7 +27,7 @@ abbrev pub AnswersItsHash : Type 0
 AnswersItsHash =
     (prefix : List ℕ) (limit result_limit : ℕ) (history : List HistoryEntry)
     (cache new : CacheValue) (hash : List ℕ) (reply : ReplyValue)
-    → CacheAfter prefix (empty_cache limit result_limit) history cache
+    → CacheAfter prefix (unused_cache limit result_limit) history cache
     → applied cache (Get Cas hash) ≡ (reply, new) → reply.status ≡ 200 → sha256 reply.body ≡ hash
 
 -- what a beginning of a stream is answered begins the answers to the whole stream

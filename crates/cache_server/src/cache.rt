@@ -6,7 +6,7 @@ ghost use Rattle.http_core.specs.Reply.{bare, content_bytes};
 ghost use Rattle.http_core.specs.declared.event.Area.TheVariants.{Ac, Cas};
 ghost use Rattle.cache_server.specs.Answer.{text_of};
 ghost use Rattle.cache_server.specs.Answering.{MayWantFor, answered};
-ghost use Rattle.cache_server.specs.Cache.{MayWant, applied, empty_cache, found_reply, step};
+ghost use Rattle.cache_server.specs.Cache.{MayWant, applied, unused_cache, found_reply, step};
 ghost use Rattle.cache_server.specs.Status.{IsStatusOf, WantsMemory};
 
 use crate::answer::Answer;
@@ -158,7 +158,7 @@ impl<A: Allocator + Copy> Cache<A> {
     ) -> Result<Cache<A>, AllocError>
         requires blobs { limit < 2 ^ 63 }
         requires results { result_limit < 2 ^ 63 }
-        ensures { IfOk result (λ c. c ≡ empty_cache limit result_limit) }
+        ensures { IfOk result (λ c. c ≡ unused_cache limit result_limit) }
     {
         Ok(Cache {
             store: ActionCache::new(alloc, state, limit, result_limit)?,

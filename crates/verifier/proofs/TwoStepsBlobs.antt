@@ -46,7 +46,7 @@ others =
     frame_bytes two.gen.0.frame ∷
     frame_bytes two.uses.0.frame ∷
     top (form empty) ∷
-    top (form two.made) ∷
+    top (form two.first_output) ∷
     top (form two.data_input) ∷
     top (form data_directory) ∷
     codes "123456789" ∷
@@ -232,7 +232,7 @@ use_action_no_tree t e =
     let texts : command ≡ directory_bytes t.root = cc in
     no_directory t.root (encode_lower two.use_command_digest.hash) 16 texts
 
-made_blob : Contains all_blobs (top (form two.made))
+made_blob : Contains all_blobs (top (form two.first_output))
 made_blob = (8, omega arith, refl)
 
 pub in_tree : (b : List ℕ) → IsDirectoryInTree two.blobs b → Contains all_blobs b
@@ -249,7 +249,7 @@ in_tree b (t, valid, v, m, inside, is) = by (keeping_one two.kept_blobs v.0 (tre
         root_only one
       where
         root_only : Contains (two.gen_tree.root ∷ []) m → Contains all_blobs b
-        root_only (zero, lt, e) = same_blob (top (form two.made)) b made_blob (is ∙ ap directory_bytes (sym e))
+        root_only (zero, lt, e) = same_blob (top (form two.first_output)) b made_blob (is ∙ ap directory_bytes (sym e))
         root_only (suc k, lt, e) = absurd (omega (arith, lt))
     by (suc (suc (suc (suc (suc k)))), lt, e) = absurd (omega (arith, lt))
 
@@ -264,8 +264,8 @@ of_built b (inl is) = same_blob (top (form two.built)) b (13, omega arith, refl)
 of_built b (inr (inl is)) = same_blob (10 ∷ []) b (12, omega arith, refl) is
 of_built b (inr (inr none)) = absurd none
 
-of_made : (b : List ℕ) → IsBlobOf two.made b → Contains all_blobs b
-of_made b (inl is) = same_blob (top (form two.made)) b made_blob is
+of_made : (b : List ℕ) → IsBlobOf two.first_output b → Contains all_blobs b
+of_made b (inl is) = same_blob (top (form two.first_output)) b made_blob is
 of_made b (inr (inl is)) = same_blob (codes "123456789") b (11, omega arith, refl) is
 of_made b (inr (inr none)) = absurd none
 
