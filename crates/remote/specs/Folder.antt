@@ -39,6 +39,22 @@ TellsFault path fault (NotAFile p) = ⊥
 TellsFault path fault (TooLarge p) = ⊥
 TellsFault path fault Memory = error_kind fault ≡ OutOfMemory
 
+-- The error tells of this fault of an open file at this path, or of lack of memory. That nothing is
+-- there is no fault of an open file, and another stands for it.
+abbrev pub TellsOpenFault : {A : Type 0} → List ℕ → FileError A → Error → Type 0
+TellsOpenFault path (Io p f) fault =
+    (string_bytes p ≡ path) × (error_kind fault ≢ NotFound → f ≡ fault)
+TellsOpenFault path (NotAFile p) fault = ⊥
+TellsOpenFault path (TooLarge p) fault = ⊥
+TellsOpenFault path Memory fault = Unit {0}
+
+-- the error is of the system, or of lack of memory
+abbrev pub IsOfSystem : {A : Type 0} → FileError A → Type 0
+IsOfSystem (Io p fault) = Unit {0}
+IsOfSystem (NotAFile p) = ⊥
+IsOfSystem (TooLarge p) = ⊥
+IsOfSystem Memory = Unit {0}
+
 -- a file that is read: one of at most 16,777,216 bytes
 abbrev pub IsReadable : Metadata → Type 0
 IsReadable m = IsFile (file_type m) × (metadata_len m ≤ 16777216)

@@ -2,8 +2,8 @@ ghost use Rattle.std.specs.Prelude.{◌≡◌, ◌⊎◌, ◌<◌, ◌≤◌, �
 ghost use Rattle.std.specs.Prelude.{◌≢◌, IfErr, IfOk, IfSome, IsErrAnd, IsOk};
 ghost use Rattle.std.specs.declared.string.String.{String};
 ghost use Rattle.std.specs.IoError.{error_kind};
-ghost use Rattle.remote.specs.Folder.{IsErrorOf, IsNotThere, IsReadable, TellsFault};
-ghost use Rattle.remote.specs.Folder.{TellsUnreadable};
+ghost use Rattle.remote.specs.Folder.{IsErrorOf, IsNotThere, IsOfSystem, IsReadable, TellsFault};
+ghost use Rattle.remote.specs.Folder.{TellsOpenFault, TellsUnreadable};
 
 use std::alloc::{AllocError, Allocator};
 use std::io::{ErrorKind, Read};
@@ -99,6 +99,7 @@ fn read_whole<F: Read + Drop, A: Allocator + Copy>(
     ensures few { IfOk result (λ bytes. vec_len bytes ≤ GREATEST_FILE) }
     ensures large { (p : String A) → result ≡ Err (FileError.TooLarge p)
         → IfSome (F.remaining file) (λ all. GREATEST_FILE < length all) }
+    ensures file { (p : String A) → result ≡ Err (FileError.NotAFile p) → ⊥ }
     ensures error { IfErr result (IsErrorOf path.now) }
     ensures there { IfErr result (λ e. IsNotThere e → ⊥) }
 {
@@ -159,7 +160,7 @@ fn io_error<A: Allocator>(
     ensures memory { IfErr result (λ e. e ≡ FileError.Memory) }
     ensures there { error_kind fault ≢ ErrorKind.NotFound
         → IfOk result (λ e. IsNotThere e → ⊥) }
-    ensures small { IfOk result (λ e. (p : String A) → e ≢ FileError.TooLarge p) }
+    ensures plain { IfOk result IsOfSystem }
 {
     if fault.kind() == ErrorKind::OutOfMemory {
         return Ok(FileError::Memory);
@@ -168,7 +169,7 @@ fn io_error<A: Allocator>(
     Ok(FileError::Io { path, fault })
 }
 
-/// What a read of an open file came to, or why it failed: never since no file is there.
+/// What a read of an open file came to, or its fault: never that no file is there.
 fn checked_read<A: Allocator>(
     alloc: A,
     path: &str,
@@ -177,7 +178,8 @@ fn checked_read<A: Allocator>(
     ensures same { IfOk result (λ count. read ≡ Ok count) }
     ensures error { IfErr result (IsErrorOf path.now) }
     ensures there { IfErr result (λ e. IsNotThere e → ⊥) }
-    ensures small { IfErr result (λ e. (p : String A) → e ≢ FileError.TooLarge p) }
+    ensures plain { IfErr result IsOfSystem }
+    ensures fault { IfErr result (λ e. IsErrAnd read (TellsOpenFault path.now e)) }
 {
     match read {
         Ok(count) => Ok(count),

@@ -3,7 +3,7 @@ ghost use Rattle.std.specs.Prelude.{Ok, OnErr, Some};
 ghost use Rattle.std.specs.Prelude.{◌↔◌, IsTrue, codes, string_bytes};
 ghost use Rattle.blob_source.specs.Called.{Calls};
 ghost use Rattle.blob_source.specs.Source.{AsksBlob, AsksResult, GrowsAt, bytes_of, greatest_count};
-ghost use Rattle.remote.specs.Folder.{IsErrorOf, IsFaultAt, IsFreshFolder, IsNotThere, IsReadAs};
+ghost use Rattle.remote.specs.Folder.{IsFaultAt, IsFreshFolder, IsNotThere, IsReadAs};
 ghost use Rattle.remote.specs.Folder.{IsReadAt, LooksInFolder, entry_path};
 ghost use Rattle.remote.specs.Folder.{blobs_of, error_of, place_of, results_of, telling_of};
 ghost use Rattle.remote.specs.Table.{HasAnswer, IsSameBut, KeepsAnswers, KeepsNone, told_by};
@@ -99,25 +99,6 @@ impl<'r, F: FileReader<A>, A: Allocator + Copy> Folder<'r, F, A> {
         FetchError::Failed
     }
 
-    /// The bytes of the file for a digest in a part of the folder, if it is there.
-    fn read(
-        &self,
-        alloc: A,
-        part: &str,
-        digest: &Digest,
-    ) -> Result<Option<Vec<u8, A>>, FileError<A>>
-        ensures read { IfOk result (λ answer. IsReadAt F.reads F.fails
-            (entry_path (string_bytes self.now.place) part.now digest.now) (bytes_of answer)) }
-        ensures error { IfErr result
-            (IsErrorOf (entry_path (string_bytes self.now.place) part.now digest.now)) }
-        ensures fault { IfErr result (λ e. e ≢ errors.Memory
-            → F.fails (entry_path (string_bytes self.now.place) part.now digest.now) e) }
-        ensures real { IfErr result (λ e. IsNotThere e → ⊥) }
-    {
-        let path = entry_path(alloc, self.place.as_str(), part, digest)?;
-        answer_of(self.files.read_at(alloc, path.as_str()))
-    }
-
     /// Answers from the table, or else reads the file and keeps what it holds.
     fn look_up(
         &mut self,
@@ -155,7 +136,8 @@ impl<'r, F: FileReader<A>, A: Allocator + Copy> Folder<'r, F, A> {
         if table.has(digest) {
             return Ok(table.copied(alloc, digest)?);
         }
-        match self.read(alloc, part, digest) {
+        let path = entry_path(alloc, self.place.as_str(), part, digest)?;
+        match answer_of(self.files.read_at(alloc, path.as_str())) {
             Ok(answer) => {
                 keep_answer(alloc, table, digest, &answer)?;
                 Ok(answer)
