@@ -3,7 +3,7 @@ use Rattle.std.proofs.Common.{◌≡◌, ℕ, zero, suc, ◌+◌, ◌<◌, ◌�
 use Rattle.std.proofs.lemmas.List.{drop_all, length-append}
 use Rattle.blob_digest.specs.Digest.{DigestValue}
 use Rattle.actions.specs.Outcome.{OutcomeValue}
-use Rattle.plan.specs.Values.{StepValue, PlanValue}
+use Rattle.plan.specs.Values.{LineValue, StepValue, PlanValue}
 use Rattle.plan.specs.Plan.{AreLines, AreSteps}
 use Rattle.blob_source.specs.Source.{Blobs, Telling, Grows}
 use Rattle.verifier.specs.declared.verdict.Cause.{Cause}
@@ -13,7 +13,8 @@ use Rattle.verifier.specs.declared.verdict.Verdict.TheVariants.{Yes, No}
 use Rattle.tree.specs.Stage.{◌and_then◌}
 use Rattle.tree.specs.MergeLooks.{looks}
 use Rattle.verifier.specs.StepChecks.{step_check}
-use Rattle.tree.specs.Memo.{Asked}
+use Rattle.tree.specs.Memo.{Asked, Known, Learns}
+use Rattle.tree.proofs.Learning.{learns_then, learns_refused}
 use Rattle.verifier.specs.LooksAt.{StepLooksAt, StepsLookAt, RootLooksAt, PlanLooksAt}
 use Rattle.verifier.specs.Verdict.{root_check, steps_check, IsVerdict}
 use Rattle.verifier.proofs.ChecksThen.{stable_step, stable_steps, steady_steps}
@@ -58,9 +59,15 @@ module _ {A : Type 0} where
         goes.look later (both_grow g m) (both_grow k n) a (subst (λ xs. StepsLookAt A later src os xs (drop i ds) a) (sym (split_at steps i s lt is))
         (subst (λ ys. StepsLookAt A later src os (s ∷ drop (i + 1) steps) ys a) (sym (split_at ds i d lt' is')) h))
 
-    pub steps_look_here : (a : Asked) → StepLooksAt A new src os s d a → StepsLookAt A new src [] steps ds a
+    steps_look_here : (a : Asked) → StepLooksAt A new src os s d a → StepsLookAt A new src [] steps ds a
     unfolding looks
     steps_look_here a h = all_look new (λ e b q. q) (λ e b q. q) a (inl h)
+
+    -- the steps before have learned, and so has this one
+    pub learns_step : (before : List OutcomeValue) → before ≡ os → {refused : Type 0} {k0 k1 k2 : Known} {t0 : Telling}
+        → Learns (StepsLookAt A old src [] steps ds) ⊥ k0 k1 t0 old → Learns (StepLooksAt A new src before s d) refused k1 k2 old new → Learns (StepsLookAt A new src [] steps ds) refused k0 k2 t0 new
+    learns_step before same h here =
+        learns_then {t1 = old} ((steady_steps A src [] steps ds).still old new g k) (λ a at. steps_look_here a (subst (λ os. StepLooksAt A new src os s d a) same at)) (λ none. none) h here
 
     pub steps_next : (o : OutcomeValue) → (step_check {A = A} new src os s d).passes o → StepsGoOn A new src steps ds (os ++ o ∷ []) (drop (i + 1) steps) (drop (i + 1) ds)
     unfolding ◌and_then◌ looks
@@ -136,10 +143,20 @@ module _ (A : Type 0) (told : Telling) (src : DigestValue) (plan : PlanValue) (d
   plan_look_steps a h = inl h
 
   module _ (later : Telling) (g : Grows told.blobs later.blobs) (k : Grows told.results later.results) where
-    pub plan_look_still : (a : Asked) → StepsLookAt A told src [] plan.steps ds a → PlanLooksAt A later src plan ds a
+    plan_look_still : (a : Asked) → StepsLookAt A told src [] plan.steps ds a → PlanLooksAt A later src plan ds a
     unfolding looks
     plan_look_still a h = inl ((steady_steps A src [] plan.steps ds).still told later g k a h)
 
-    pub plan_look_root : (os : List OutcomeValue) → (steps_check {A = A} told src [] plan.steps ds).passes os → (a : Asked) → RootLooksAt A later src os plan.root_lines a → PlanLooksAt A later src plan ds a
+    plan_look_root : (os : List OutcomeValue) → (steps_check {A = A} told src [] plan.steps ds).passes os → (a : Asked) → RootLooksAt A later src os plan.root_lines a → PlanLooksAt A later src plan ds a
     unfolding looks
     plan_look_root os h a at = inr (os, (stable_steps {A = A} src [] plan.steps ds).still told later g k os h, at)
+
+    -- the steps have learned, which all pass, and so has the root
+    pub learns_root : (steps : List StepValue) (lines : List LineValue) (before os : List OutcomeValue) → steps ≡ plan.steps → lines ≡ plan.root_lines → before ≡ os
+        → (steps_check {A = A} told src [] steps ds).passes os → {rejected refused : Type 0} {k0 k1 k2 : Known} {t0 : Telling} → (rejected → ⊥)
+        → Learns (StepsLookAt A told src [] steps ds) rejected k0 k1 t0 told → Learns (RootLooksAt A later src before lines) refused k1 k2 told later → Learns (PlanLooksAt A later src plan ds) (Unit {0}) k0 k2 t0 later
+    learns_root steps lines before os these those same passes none h root =
+        let all = subst (λ ss. (steps_check {A = A} told src [] ss ds).passes os) these passes in
+        learns_refused (λ a at. at) tt (learns_then {both = PlanLooksAt A later src plan ds} {t1 = told} (λ a at. plan_look_still a (subst (λ ss. StepsLookAt A told src [] ss ds a) these at))
+        (λ a at. plan_look_root os all a (subst (λ os. RootLooksAt A later src os plan.root_lines a) same (subst (λ ls. RootLooksAt A later src before ls a) those at)))
+        none h root)

@@ -13,7 +13,6 @@ use Rattle.blob_source.specs.Told.{IsTold, missing, wrong, malformed}
 use Rattle.tree.specs.Lookup.{Looked, fault, nothing, found, Looks}
 use Rattle.tree.specs.Difference.{unread, FindsFirst, ExplainsDifference}
 use Rattle.tree.specs.Merging.{NodeWithin, MergeFault, conflict, unreadable, ExplainsMerge}
-use Rattle.tree.specs.declared.merging.Within.TheVariants as withins
 use Rattle.tree.specs.TreeError as errors
 use Rattle.tree.specs.TreeError.{ExplainsLookup}
 use Rattle.tree.specs.declared.error.TreeError.{TreeError}

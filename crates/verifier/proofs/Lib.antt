@@ -5,6 +5,7 @@ pub mod TwoStepsRecorded
 pub mod TwoStepsRun
 pub mod TwoStepsBlobs
 pub mod TwoStages
+pub mod SourceLine
 pub mod Lines
 pub mod Targets
 pub mod SameDigests

@@ -168,7 +168,7 @@ table_valid = record { same = same; actions = each }
 
 -- ---- the plan is valid
 
-data_name : IsName (codes "data")
+pub data_name : IsName (codes "data")
 unfolding is_utf8 chars lib.Utf8.encode
 data_name = IsName-from (codes "data") refl
 
@@ -219,7 +219,7 @@ plan_valid = record {
 
 -- ---- so is the plan whose lines meet
 
-all_name : IsName (codes "all")
+pub all_name : IsName (codes "all")
 unfolding is_utf8 chars lib.Utf8.encode
 all_name = IsName-from (codes "all") refl
 

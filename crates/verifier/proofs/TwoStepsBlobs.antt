@@ -38,7 +38,7 @@ use Rattle.verifier.proofs.TwoStepsRun.{s1, s2, s3, s4, s5, s6, s7}
 
 -- ---- the blobs concerned, and their digests
 
-abbrev data_directory : Tree Leaf
+abbrev pub data_directory : Tree Leaf
 data_directory = leaf (codes "x") (file (codes "123456789") false) empty
 
 abbrev others : List (List ℕ)
@@ -122,12 +122,12 @@ pub none_clash : NoClash (Contains all_blobs)
 none_clash x y c d e = no_clash_among all_blobs (ap all_distinct digests_are ∙ are_distinct) x y c d e
 
 -- a blob that equals one of them is one of them
-same_blob : (x b : List ℕ) → Contains all_blobs x → b ≡ x → Contains all_blobs b
+pub same_blob : (x b : List ℕ) → Contains all_blobs x → b ≡ x → Contains all_blobs b
 same_blob x b c e = subst (Contains all_blobs) (sym e) c
 
 -- ---- what the source has
 
-keeping_one : (es : List (DigestValue × List ℕ)) (d : DigestValue) (b : List ℕ) → two.keeping es d ≡ Some b → Contains (map (λ (e : DigestValue × List ℕ). e.1) es) b
+pub keeping_one : (es : List (DigestValue × List ℕ)) (d : DigestValue) (b : List ℕ) → two.keeping es d ≡ Some b → Contains (map (λ (e : DigestValue × List ℕ). e.1) es) b
 keeping_one [] d b is = absurd cc
 keeping_one (e ∷ es) d b is = by (is_eq (digest_cmp d e.0)) is (keeping_one es d b)
   where
@@ -144,10 +144,10 @@ elements_fixed : (f : ℕ) (xs : List (List ℕ)) → AreFixed (element_fields f
 elements_fixed f [] = tt
 elements_fixed f (x ∷ xs) = (tt, elements_fixed f xs)
 
-abbrev tree_records : TreeValue → List Record
+abbrev pub tree_records : TreeValue → List Record
 tree_records t = message_field 1 (Some (directory_bytes t.root)) ++ element_fields 2 (map directory_bytes t.children)
 
-tree_spelled : (t : TreeValue) (rs : List Record) → AreFixed rs → spelling rs ≡ tree_bytes t → rs ≡ tree_records t
+pub tree_spelled : (t : TreeValue) (rs : List Record) → AreFixed rs → spelling rs ≡ tree_bytes t → rs ≡ tree_records t
 unfolding tree_bytes
 tree_spelled t rs fixed e = spelling_injective rs (tree_records t) fixed (tt, elements_fixed 2 (map directory_bytes t.children)) e
 
@@ -269,7 +269,7 @@ of_made b (inl is) = same_blob (top (form two.first_output)) b made_blob is
 of_made b (inr (inl is)) = same_blob (codes "123456789") b (11, omega arith, refl) is
 of_made b (inr (inr none)) = absurd none
 
-of_input : (b : List ℕ) → IsBlobOf two.data_input b → Contains all_blobs b
+pub of_input : (b : List ℕ) → IsBlobOf two.data_input b → Contains all_blobs b
 of_input b (inl is) = same_blob (top (form two.data_input)) b (9, omega arith, refl) is
 of_input b (inr (inl (inl is))) = same_blob (top (form data_directory)) b (10, omega arith, refl) is
 of_input b (inr (inl (inr (inl is)))) = same_blob (codes "123456789") b (11, omega arith, refl) is

@@ -26,6 +26,7 @@ use Rattle.actions.specs.Recorded.{IsRecorded}
 use Rattle.action_messages.specs.Command.{IsCommand, command_bytes}
 use Rattle.tree.specs.Tree.{Tree, empty, leaf, folder, single, whole}
 use Rattle.tree.specs.Form.{NodeValue, form, root, top}
+use Rattle.blob_source.specs.Source.{Blobs}
 use Rattle.blob_source.specs.Told.{IsTold}
 use Rattle.tree.proofs.TreeDigests.{IsDigest-digest_of}
 use Rattle.plan.specs.Values.{output}
@@ -187,9 +188,9 @@ unfolding two.newline_digest two.claim first_words schedule rounds compress hash
 root_named = refl
 
 -- a line alone is grafted
-alone : (target : List (List ℕ)) (x : NodeWithin) → target ≢ [] → length target ≤ 64 → (merged two.blobs ((target, x) ∷ [])).passes (graft (nodes_in ((target, x) ∷ [])))
+pub alone : (blobs : Blobs) (target : List (List ℕ)) (x : NodeWithin) → target ≢ [] → length target ≤ 64 → (merged blobs ((target, x) ∷ [])).passes (graft (nodes_in ((target, x) ∷ [])))
 unfolding merged
-alone target x some few = let apart : HaveApartTargets ((target, x) ∷ []) = (some, tt, tt) in graft_passes two.blobs 64 [] ((target, x) ∷ []) (all_named ((target, x) ∷ []) apart) (are_apart ((target, x) ∷ []) apart) (few, tt)
+alone blobs target x some few = let apart : HaveApartTargets ((target, x) ∷ []) = (some, tt, tt) in graft_passes blobs 64 [] ((target, x) ∷ []) (all_named ((target, x) ∷ []) apart) (are_apart ((target, x) ∷ []) apart) (few, tt)
 
 nothing_merges : (merged two.blobs []).passes empty
 unfolding merged
@@ -202,7 +203,7 @@ abbrev data_lines : MergeLines
 data_lines = (codes "data" ∷ codes "x" ∷ [], made_file) ∷ []
 
 data_merges : (merged two.blobs data_lines).passes (graft (nodes_in data_lines))
-data_merges = alone (codes "data" ∷ codes "x" ∷ []) made_file (λ e. cc) (omega arith)
+data_merges = alone two.blobs (codes "data" ∷ codes "x" ∷ []) made_file (λ e. cc) (omega arith)
 
 abbrev result_file : NodeWithin
 result_file = record { node = nodes.File two.newline_digest false; within = in_source }
@@ -211,7 +212,7 @@ abbrev result_lines : MergeLines
 result_lines = (codes "result" ∷ [], result_file) ∷ []
 
 result_merges : (merged two.blobs result_lines).passes (graft (nodes_in result_lines))
-result_merges = alone (codes "result" ∷ []) result_file (λ e. cc) (omega arith)
+result_merges = alone two.blobs (codes "result" ∷ []) result_file (λ e. cc) (omega arith)
 
 gen_passes : (sources : DigestValue) → IsAsRecorded two.blobs two.results sources [] (record { name = codes "gen"; frame = two.gen_frame_digest; lines = [] }) two.gen_action_digest gen_outcome
 gen_passes sources = record {

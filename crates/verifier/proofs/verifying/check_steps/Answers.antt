@@ -10,10 +10,9 @@ use Rattle.verifier.specs.declared.error.VerifyError.TheVariants as errors
 use Rattle.verifier.specs.Stage.{ExplainsFault}
 use Rattle.verifier.specs.StepChecks.{step_check}
 use Rattle.blob_source.proofs.Calling.{err_injective, called_none, called_as, called_no, called_on, called_exit}
-use Rattle.tree.proofs.Learning.{learns_none, learns_then, learns_refused}
-use Rattle.verifier.specs.LooksAt.{StepLooksAt}
-use Rattle.verifier.proofs.ChecksThen.{steady_steps, stopped_exit}
-use Rattle.verifier.proofs.CheckingSteps.{StepsGoOn, steps_first, steps_next, steps_fail, steps_end, steps_look_here, numbered_lines}
+use Rattle.tree.proofs.Learning.{learns_none, learns_refused}
+use Rattle.verifier.proofs.ChecksThen.{stopped_exit}
+use Rattle.verifier.proofs.CheckingSteps.{StepsGoOn, steps_first, steps_next, steps_fail, steps_end, learns_step, numbered_lines}
 use Rattle.verifier.proofs.verifying.check_steps.Goals as goal
 
 pub check_step-requires-clause-lines : goal.check_step-requires-clause-lines
@@ -46,8 +45,6 @@ loop-index-preserved g c =
     let pushed : c.push.new.self.items ≡ c.loop-index.outcomes.items ++ o ∷ [] = search rules in
     let passes = subst (λ os. (step_check {A = g.row.A.Denot} tells c.args.sources.now os c.index-steps-index.result c.index-recorded-index.result).passes o) c.deref.ensures.value (c.in-Ok.ensures {u = tt}).checked in
     let within : c.loop-index.index < length c.args.recorded.now = subst (λ n. c.loop-index.index < n) (sym c.requires.each) c.loop-index-test.true in
-    let here = steps_look_here {A = g.row.A.Denot} old tells c.args.sources.now c.args.steps.now c.args.recorded.now c.loop-index.outcomes.items c.loop-index.index c.index-steps-index.result c.index-recorded-index.result
-    c.loop-index-test.true c.index-steps-index.is within c.index-recorded-index.is c.loop-index.invariant.goes asked.blobs asked.results in
     let longer : length c.push.new.self.items ≡ length c.loop-index.outcomes.items + 1 = ap length pushed ∙ length-append c.loop-index.outcomes.items (o ∷ []) in
     record {
       called = called_on c.loop-index.invariant.called (called_no ok_no_error (λ n. n) (c.in-Ok.ensures {u = tt}).called);
@@ -55,8 +52,8 @@ loop-index-preserved g c =
       goes = subst (λ os. StepsGoOn g.row.A.Denot tells c.args.sources.now c.args.steps.now c.args.recorded.now os (drop (c.loop-index.index + 1) c.args.steps.now) (drop (c.loop-index.index + 1) c.args.recorded.now)) (sym pushed)
           (steps_next old tells c.args.sources.now c.args.steps.now c.args.recorded.now c.loop-index.outcomes.items c.loop-index.index c.index-steps-index.result c.index-recorded-index.result
           c.loop-index-test.true c.index-steps-index.is within c.index-recorded-index.is c.loop-index.invariant.goes asked.blobs asked.results o passes);
-      learned = learns_then {t1 = old} ((steady_steps g.row.A.Denot c.args.sources.now [] c.args.steps.now c.args.recorded.now).still old tells asked.blobs asked.results)
-          (λ a h. here a (subst (λ os. StepLooksAt g.row.A.Denot tells c.args.sources.now os c.index-steps-index.result c.index-recorded-index.result a) c.deref.ensures.value h)) (λ n. n) c.loop-index.invariant.learned (c.in-Ok.ensures {u = tt}).learned;
+      learned = learns_step {A = g.row.A.Denot} old tells c.args.sources.now c.args.steps.now c.args.recorded.now c.loop-index.outcomes.items c.loop-index.index c.index-steps-index.result c.index-recorded-index.result
+          c.loop-index-test.true c.index-steps-index.is within c.index-recorded-index.is c.loop-index.invariant.goes asked.blobs asked.results c.deref.result.now c.deref.ensures.value c.loop-index.invariant.learned (c.in-Ok.ensures {u = tt}).learned;
     }
 
 pub returns-clause-checked : goal.returns-clause-checked
@@ -96,11 +93,9 @@ returns-in_err-push-in-Ok-clause-learned g c =
     let tells = g.S.BlobSource.tells c.check_step.new.source in
     let asked = c.check_step.ensures.called.asked in
     let within : c.loop-index.index < length c.args.recorded.now = subst (λ n. c.loop-index.index < n) (sym c.requires.each) c.loop-index-test.true in
-    let here = steps_look_here {A = g.row.A.Denot} old tells c.args.sources.now c.args.steps.now c.args.recorded.now c.loop-index.outcomes.items c.loop-index.index c.index-steps-index.result c.index-recorded-index.result
-    c.loop-index-test.true c.index-steps-index.is within c.index-recorded-index.is c.loop-index.invariant.goes asked.blobs asked.results in
     learns_refused (λ a h. h) (stopped_exit _ _ c.from_residual.ensures.1)
-    (learns_then {t1 = old} ((steady_steps g.row.A.Denot c.args.sources.now [] c.args.steps.now c.args.recorded.now).still old tells asked.blobs asked.results)
-    (λ a h. here a (subst (λ os. StepLooksAt g.row.A.Denot tells c.args.sources.now os c.index-steps-index.result c.index-recorded-index.result a) c.deref.ensures.value h)) (λ n. n) c.loop-index.invariant.learned (c.in-Ok.ensures {u = tt}).learned)
+    (learns_step {A = g.row.A.Denot} old tells c.args.sources.now c.args.steps.now c.args.recorded.now c.loop-index.outcomes.items c.loop-index.index c.index-steps-index.result c.index-recorded-index.result
+    c.loop-index-test.true c.index-steps-index.is within c.index-recorded-index.is c.loop-index.invariant.goes asked.blobs asked.results c.deref.result.now c.deref.ensures.value c.loop-index.invariant.learned (c.in-Ok.ensures {u = tt}).learned)
 
 pub returns-in_err-cause-in-Err-clause-learned : goal.returns-in_err-cause-in-Err-clause-learned
 returns-in_err-cause-in-Err-clause-learned g c =
@@ -108,11 +103,9 @@ returns-in_err-cause-in-Err-clause-learned g c =
     let tells = g.S.BlobSource.tells c.check_step.new.source in
     let asked = c.check_step.ensures.called.asked in
     let within : c.loop-index.index < length c.args.recorded.now = subst (λ n. c.loop-index.index < n) (sym c.requires.each) c.loop-index-test.true in
-    let here = steps_look_here {A = g.row.A.Denot} old tells c.args.sources.now c.args.steps.now c.args.recorded.now c.loop-index.outcomes.items c.loop-index.index c.index-steps-index.result c.index-recorded-index.result
-    c.loop-index-test.true c.index-steps-index.is within c.index-recorded-index.is c.loop-index.invariant.goes asked.blobs asked.results in
     learns_refused (λ a h. h) (stopped_exit _ _ c.from_residual-in_err-cause-in-Err.ensures.1)
-    (learns_then {t1 = old} ((steady_steps g.row.A.Denot c.args.sources.now [] c.args.steps.now c.args.recorded.now).still old tells asked.blobs asked.results)
-    (λ a h. here a (subst (λ os. StepLooksAt g.row.A.Denot tells c.args.sources.now os c.index-steps-index.result c.index-recorded-index.result a) c.deref.ensures.value h)) (λ n. n) c.loop-index.invariant.learned (c.in-Err.ensures {u = tt}).learned)
+    (learns_step {A = g.row.A.Denot} old tells c.args.sources.now c.args.steps.now c.args.recorded.now c.loop-index.outcomes.items c.loop-index.index c.index-steps-index.result c.index-recorded-index.result
+    c.loop-index-test.true c.index-steps-index.is within c.index-recorded-index.is c.loop-index.invariant.goes asked.blobs asked.results c.deref.result.now c.deref.ensures.value c.loop-index.invariant.learned (c.in-Err.ensures {u = tt}).learned)
 
 pub returns-in_err-copy_of-in-Err-clause-learned : goal.returns-in_err-copy_of-in-Err-clause-learned
 returns-in_err-copy_of-in-Err-clause-learned g c =
@@ -120,11 +113,9 @@ returns-in_err-copy_of-in-Err-clause-learned g c =
     let tells = g.S.BlobSource.tells c.check_step.new.source in
     let asked = c.check_step.ensures.called.asked in
     let within : c.loop-index.index < length c.args.recorded.now = subst (λ n. c.loop-index.index < n) (sym c.requires.each) c.loop-index-test.true in
-    let here = steps_look_here {A = g.row.A.Denot} old tells c.args.sources.now c.args.steps.now c.args.recorded.now c.loop-index.outcomes.items c.loop-index.index c.index-steps-index.result c.index-recorded-index.result
-    c.loop-index-test.true c.index-steps-index.is within c.index-recorded-index.is c.loop-index.invariant.goes asked.blobs asked.results in
     learns_refused (λ a h. h) (stopped_exit _ _ c.from_residual-in_err-copy_of-in-Err.ensures.1)
-    (learns_then {t1 = old} ((steady_steps g.row.A.Denot c.args.sources.now [] c.args.steps.now c.args.recorded.now).still old tells asked.blobs asked.results)
-    (λ a h. here a (subst (λ os. StepLooksAt g.row.A.Denot tells c.args.sources.now os c.index-steps-index.result c.index-recorded-index.result a) c.deref.ensures.value h)) (λ n. n) c.loop-index.invariant.learned (c.in-Err.ensures {u = tt}).learned)
+    (learns_step {A = g.row.A.Denot} old tells c.args.sources.now c.args.steps.now c.args.recorded.now c.loop-index.outcomes.items c.loop-index.index c.index-steps-index.result c.index-recorded-index.result
+    c.loop-index-test.true c.index-steps-index.is within c.index-recorded-index.is c.loop-index.invariant.goes asked.blobs asked.results c.deref.result.now c.deref.ensures.value c.loop-index.invariant.learned (c.in-Err.ensures {u = tt}).learned)
 
 pub returns-in-Err-clause-learned : goal.returns-in-Err-clause-learned
 returns-in-Err-clause-learned g c =
@@ -132,10 +123,8 @@ returns-in-Err-clause-learned g c =
     let tells = g.S.BlobSource.tells c.check_step.new.source in
     let asked = c.check_step.ensures.called.asked in
     let within : c.loop-index.index < length c.args.recorded.now = subst (λ n. c.loop-index.index < n) (sym c.requires.each) c.loop-index-test.true in
-    let here = steps_look_here {A = g.row.A.Denot} old tells c.args.sources.now c.args.steps.now c.args.recorded.now c.loop-index.outcomes.items c.loop-index.index c.index-steps-index.result c.index-recorded-index.result
-    c.loop-index-test.true c.index-steps-index.is within c.index-recorded-index.is c.loop-index.invariant.goes asked.blobs asked.results in
-    learns_then {t1 = old} ((steady_steps g.row.A.Denot c.args.sources.now [] c.args.steps.now c.args.recorded.now).still old tells asked.blobs asked.results)
-    (λ a h. here a (subst (λ os. StepLooksAt g.row.A.Denot tells c.args.sources.now os c.index-steps-index.result c.index-recorded-index.result a) c.deref.ensures.value h)) (λ n. n) c.loop-index.invariant.learned (c.in-Err.ensures {u = tt}).learned
+    learns_step {A = g.row.A.Denot} old tells c.args.sources.now c.args.steps.now c.args.recorded.now c.loop-index.outcomes.items c.loop-index.index c.index-steps-index.result c.index-recorded-index.result
+    c.loop-index-test.true c.index-steps-index.is within c.index-recorded-index.is c.loop-index.invariant.goes asked.blobs asked.results c.deref.result.now c.deref.ensures.value c.loop-index.invariant.learned (c.in-Err.ensures {u = tt}).learned
 
 pub returns-clause-learned : goal.returns-clause-learned
 returns-clause-learned g c = c.loop-index.invariant.learned

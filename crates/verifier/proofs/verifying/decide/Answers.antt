@@ -10,11 +10,11 @@ use Rattle.verifier.specs.declared.error.VerifyError.TheVariants as errors
 use Rattle.verifier.specs.declared.verdict.Cause.{Cause}
 use Rattle.verifier.specs.Answers.{IsChecked, IsStopped}
 use Rattle.verifier.specs.declared.error.VerifyError.{VerifyError}
-use Rattle.verifier.specs.LooksAt.{StepsLookAt, RootLooksAt, PlanLooksAt}
-use Rattle.tree.proofs.Learning.{learns_then, learns_refused}
+use Rattle.verifier.specs.LooksAt.{StepsLookAt}
+use Rattle.tree.proofs.Learning.{learns_refused}
 use Rattle.verifier.specs.Stage.{ExplainsFault}
 use Rattle.verifier.specs.Verdict.{root_check, steps_check}
-use Rattle.verifier.proofs.CheckingSteps.{passes_count, steps_decide, root_decides, all_pass_decides, plan_look_steps, plan_look_still, plan_look_root}
+use Rattle.verifier.proofs.CheckingSteps.{passes_count, steps_decide, root_decides, all_pass_decides, plan_look_steps, learns_root}
 use Rattle.verifier.proofs.verifying.decide.Goals as goal
 
 pub returns-in-First-clause-verdict : goal.returns-in-First-clause-verdict
@@ -94,12 +94,8 @@ returns-in_err-cause_in-in-Err-clause-learned g c =
     let later = g.S.BlobSource.tells c.check_root.new.source in
     let asked = c.check_root.ensures.called.asked in
     let checked = subst (IsChecked told c.args.sources.now c.steps.result.now c.args.recorded.now) c.in-Outcomes.is (c.in_ok-name.ensures {u = tt}).checked in
-    let passes = subst (λ steps. (steps_check {A = g.row.A.Denot} told c.args.sources.now [] steps c.args.recorded.now).passes c.in-Outcomes.outcomes.items) c.steps.ensures.value checked in
-    learns_refused (λ a h. h) tt (learns_then {both = PlanLooksAt g.row.A.Denot later c.args.sources.now c.args.plan.now c.args.recorded.now} {t1 = told}
-    (λ a h. plan_look_still g.row.A.Denot told c.args.sources.now c.args.plan.now c.args.recorded.now later asked.blobs asked.results a (subst (λ ss. StepsLookAt g.row.A.Denot told c.args.sources.now [] ss c.args.recorded.now a) c.steps.ensures.value h))
-    (λ a h. plan_look_root g.row.A.Denot told c.args.sources.now c.args.plan.now c.args.recorded.now later asked.blobs asked.results c.in-Outcomes.outcomes.items passes a
-    (subst (λ os. RootLooksAt g.row.A.Denot later c.args.sources.now os c.args.plan.now.root_lines a) c.deref.ensures.value (subst (λ ls. RootLooksAt g.row.A.Denot later c.args.sources.now c.deref.result.now ls a) c.root.ensures.value h)))
-    (λ stopped. subst (λ x. IsStopped {E = VerifyError} (Ok x)) c.in-Outcomes.is stopped) (c.in_ok-name.ensures {u = tt}).learned c.check_root.ensures.learned)
+    learns_root g.row.A.Denot told c.args.sources.now c.args.plan.now c.args.recorded.now later asked.blobs asked.results c.steps.result.now c.root.result.now c.deref.result.now c.in-Outcomes.outcomes.items
+    c.steps.ensures.value c.root.ensures.value c.deref.ensures.value checked (λ stopped. subst (λ x. IsStopped {E = VerifyError} (Ok x)) c.in-Outcomes.is stopped) (c.in_ok-name.ensures {u = tt}).learned c.check_root.ensures.learned
 
 pub returns-in-Err-clause-learned : goal.returns-in-Err-clause-learned
 returns-in-Err-clause-learned g c =
@@ -107,12 +103,8 @@ returns-in-Err-clause-learned g c =
     let later = g.S.BlobSource.tells c.check_root.new.source in
     let asked = c.check_root.ensures.called.asked in
     let checked = subst (IsChecked told c.args.sources.now c.steps.result.now c.args.recorded.now) c.in-Outcomes.is (c.in_ok-name.ensures {u = tt}).checked in
-    let passes = subst (λ steps. (steps_check {A = g.row.A.Denot} told c.args.sources.now [] steps c.args.recorded.now).passes c.in-Outcomes.outcomes.items) c.steps.ensures.value checked in
-    learns_refused (λ a h. h) tt (learns_then {both = PlanLooksAt g.row.A.Denot later c.args.sources.now c.args.plan.now c.args.recorded.now} {t1 = told}
-    (λ a h. plan_look_still g.row.A.Denot told c.args.sources.now c.args.plan.now c.args.recorded.now later asked.blobs asked.results a (subst (λ ss. StepsLookAt g.row.A.Denot told c.args.sources.now [] ss c.args.recorded.now a) c.steps.ensures.value h))
-    (λ a h. plan_look_root g.row.A.Denot told c.args.sources.now c.args.plan.now c.args.recorded.now later asked.blobs asked.results c.in-Outcomes.outcomes.items passes a
-    (subst (λ os. RootLooksAt g.row.A.Denot later c.args.sources.now os c.args.plan.now.root_lines a) c.deref.ensures.value (subst (λ ls. RootLooksAt g.row.A.Denot later c.args.sources.now c.deref.result.now ls a) c.root.ensures.value h)))
-    (λ stopped. subst (λ x. IsStopped {E = VerifyError} (Ok x)) c.in-Outcomes.is stopped) (c.in_ok-name.ensures {u = tt}).learned c.check_root.ensures.learned)
+    learns_root g.row.A.Denot told c.args.sources.now c.args.plan.now c.args.recorded.now later asked.blobs asked.results c.steps.result.now c.root.result.now c.deref.result.now c.in-Outcomes.outcomes.items
+    c.steps.ensures.value c.root.ensures.value c.deref.ensures.value checked (λ stopped. subst (λ x. IsStopped {E = VerifyError} (Ok x)) c.in-Outcomes.is stopped) (c.in_ok-name.ensures {u = tt}).learned c.check_root.ensures.learned
 
 pub returns-clause-learned : goal.returns-clause-learned
 returns-clause-learned g c =
@@ -120,9 +112,5 @@ returns-clause-learned g c =
     let later = g.S.BlobSource.tells c.check_root.new.source in
     let asked = c.check_root.ensures.called.asked in
     let checked = subst (IsChecked told c.args.sources.now c.steps.result.now c.args.recorded.now) c.in-Outcomes.is (c.in_ok-name.ensures {u = tt}).checked in
-    let passes = subst (λ steps. (steps_check {A = g.row.A.Denot} told c.args.sources.now [] steps c.args.recorded.now).passes c.in-Outcomes.outcomes.items) c.steps.ensures.value checked in
-    learns_refused (λ a h. h) tt (learns_then {both = PlanLooksAt g.row.A.Denot later c.args.sources.now c.args.plan.now c.args.recorded.now} {t1 = told}
-    (λ a h. plan_look_still g.row.A.Denot told c.args.sources.now c.args.plan.now c.args.recorded.now later asked.blobs asked.results a (subst (λ ss. StepsLookAt g.row.A.Denot told c.args.sources.now [] ss c.args.recorded.now a) c.steps.ensures.value h))
-    (λ a h. plan_look_root g.row.A.Denot told c.args.sources.now c.args.plan.now c.args.recorded.now later asked.blobs asked.results c.in-Outcomes.outcomes.items passes a
-    (subst (λ os. RootLooksAt g.row.A.Denot later c.args.sources.now os c.args.plan.now.root_lines a) c.deref.ensures.value (subst (λ ls. RootLooksAt g.row.A.Denot later c.args.sources.now c.deref.result.now ls a) c.root.ensures.value h)))
-    (λ stopped. subst (λ x. IsStopped {E = VerifyError} (Ok x)) c.in-Outcomes.is stopped) (c.in_ok-name.ensures {u = tt}).learned c.check_root.ensures.learned)
+    learns_root g.row.A.Denot told c.args.sources.now c.args.plan.now c.args.recorded.now later asked.blobs asked.results c.steps.result.now c.root.result.now c.deref.result.now c.in-Outcomes.outcomes.items
+    c.steps.ensures.value c.root.ensures.value c.deref.ensures.value checked (λ stopped. subst (λ x. IsStopped {E = VerifyError} (Ok x)) c.in-Outcomes.is stopped) (c.in_ok-name.ensures {u = tt}).learned c.check_root.ensures.learned
