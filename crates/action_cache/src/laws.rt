@@ -56,7 +56,8 @@ pub fn caches_keep_what_is_pinned()
     ensures whole { (reader : Reader) (limit result_limit : ℕ) (asks : List CacheAsk)
         (h bytes : List ℕ)
         → (get_result reader (after reader (empty_cache limit result_limit) asks) h).0 ≡ given bytes
-        → AreWhole reader (get_result reader (after reader (empty_cache limit result_limit) asks) h).1
+        → AreWhole reader
+        (get_result reader (after reader (empty_cache limit result_limit) asks) h).1
         bytes }
     // A blob that is answered has the hash that was asked for.
     ensures hash { (reader : Reader) (limit result_limit : ℕ) (asks : List CacheAsk)

@@ -8,7 +8,8 @@ ghost use Rattle.action_messages.specs.Outputs.{directories_among, file, recorde
 ghost use Rattle.action_messages.specs.Outputs.{recorded_values};
 ghost use Rattle.actions.specs.Outcome.{output_value, outputs_in};
 ghost use Rattle.actions.specs.Recorded.{IsRecorded, StandsFor, StandForAll};
-ghost use Rattle.actions.specs.Recorded.{IsFirstTreeFault, IsOutputFault, IsWithoutTree, StopsAtFault};
+ghost use Rattle.actions.specs.Recorded.{IsFirstTreeFault, IsOutputFault, IsWithoutTree};
+ghost use Rattle.actions.specs.Recorded.{StopsAtFault};
 ghost use Rattle.actions.specs.LooksAt.{OutputLooksAt};
 
 use crate::outcome::{Outcome, Output};

@@ -31,9 +31,9 @@ pub fn a_build_is_a_run<A: Allocator, N: Runner<A>>(runner: &N)
         → IsARun told.blobs last t meaning X }
 {}
 
-/// The build of two steps meets what is asked of a build: in each of its runs, whatever overlaps, is
-/// lost or repeated, its jobs come to what the table says, and no two different blobs share a digest.
-/// A law: it does nothing.
+/// The build of two steps meets what is asked of a build: in each of its runs, whatever overlaps,
+/// is lost or repeated, its jobs come to what the table says, and no two different blobs share a
+/// digest. A law: it does nothing.
 pub fn two_steps_meet_the_premises()
     // for `a_build_is_a_run`
     ensures about { IsAbout two.plan two.sources two.blobs example.calls example.last two.tree

@@ -35,7 +35,8 @@ StopsShort front rest =
     (0 < length rest) ⊎ (front ≡ []) ⊎ (18446744073709551615 ≤ length front)
 
 -- of the answers to these events the text has all but the last, and a part of that
-pub record HasAllButLast (old : CacheValue) (events : List EventValue) (text : List ℕ) : Type 0 where
+pub record HasAllButLast (old : CacheValue) (events : List EventValue) (text : List ℕ)
+    : Type 0 where
   pub earlier : List EventValue
   pub last : EventValue
   pub part : List ℕ

@@ -10,7 +10,7 @@ use Rattle.http_core.specs.declared.judging.Judgement.{Judgement}
 use Rattle.http_core.specs.declared.judging.Judgement.TheVariants as judgements
 use Rattle.http_core.specs.Connection.{closes_of}
 use Rattle.http_core.specs.Judging.{Judges}
-use Rattle.http_core.specs.Rules.{first_status, rules_of, refused_status, is_put, length_of, size_of, asked, Targets}
+use Rattle.http_core.specs.Rules.{first_status, rules_of, refused_status, is_put, length_of, body_size, asked, Targets}
 use Rattle.http_core.specs.Event.{EventValue, IsValid, is_served}
 use Rattle.http_core.specs.Stream.{body_length, outcome}
 
@@ -22,11 +22,11 @@ none_apply ((false, status) ∷ rules) e = (refl, none_apply rules e)
 not_more : (n : ℕ) → nat_lt greatest_blob n ≡ false → n ≤ greatest_blob
 not_more n e = grind arith
 
-pub size_fits : (minor : ℕ) (method : List ℕ) (fields : List (List ℕ × List ℕ)) → refused_status minor method fields ≡ None → size_of (length_of fields) ≤ greatest_blob
+pub size_fits : (minor : ℕ) (method : List ℕ) (fields : List (List ℕ × List ℕ)) → refused_status minor method fields ≡ None → body_size (length_of fields) ≤ greatest_blob
 unfolding refused_status
 size_fits minor method fields e =
     let all : AllByRecursion (λ r. r.0 ≡ false) (rules_of minor method fields) = none_apply (rules_of minor method fields) e in
-    not_more (size_of (length_of fields)) all.1.1.1.1.1.1.1.0
+    not_more (body_size (length_of fields)) all.1.1.1.1.1.1.1.0
 
 -- its body is not too large, and a GET is served
 abbrev pub IsAllowed : Judgement → Type 0
@@ -45,11 +45,11 @@ targets_allowed prefix put close target size j h (inl (area, hash, m, e)) = subs
 targets_allowed prefix put close target size j h (inr (none, e)) = subst IsAllowed (sym e) (refuse_allowed 404 (put || close))
 
 judged_allowed : (prefix : List ℕ) (h : RequestHead) (status : Option ℕ) (j : Judgement) → refused_status h.minor h.method (map name_and_value h.fields) ≡ status
-    → MatchOption status (Targets prefix (is_put h.method) (closes_of (map name_and_value h.fields)) h.target (size_of (length_of (map name_and_value h.fields))) j) (λ s. j ≡ judgements.Refuse s true) → IsAllowed j
+    → MatchOption status (Targets prefix (is_put h.method) (closes_of (map name_and_value h.fields)) h.target (body_size (length_of (map name_and_value h.fields))) j) (λ s. j ≡ judgements.Refuse s true) → IsAllowed j
 judged_allowed prefix h (Some status) j e is = subst IsAllowed (sym is) (refuse_allowed status true)
 judged_allowed prefix h None j e is =
     let fields = map name_and_value h.fields in
-    targets_allowed prefix (is_put h.method) (closes_of fields) h.target (size_of (length_of fields)) j (size_fits h.minor h.method fields e) is
+    targets_allowed prefix (is_put h.method) (closes_of fields) h.target (body_size (length_of fields)) j (size_fits h.minor h.method fields e) is
 
 pub allowed : (prefix block : List ℕ) (j : Judgement) → Judges prefix block j → IsAllowed j
 unfolding Judges

@@ -14,7 +14,7 @@ use Rattle.http_core.specs.declared.judging.Judgement.{Judgement}
 use Rattle.http_core.specs.declared.judging.Judgement.TheVariants as judgements
 use Rattle.http_core.specs.Connection.{closes_of}
 use Rattle.http_core.specs.Judging.{Judges, pairs}
-use Rattle.http_core.specs.Rules.{area_text, Names, asked, Targets, JudgesHead, refused_status, is_put, size_of, length_of}
+use Rattle.http_core.specs.Rules.{area_text, Names, asked, Targets, JudgesHead, refused_status, is_put, body_size, length_of}
 
 ok_is : (a b : List ℕ) → ◌≡◌ {A = Result (List ℕ) FromHexError} (Ok a) (Ok b) → a ≡ b
 ok_is a b e = cc
@@ -91,4 +91,4 @@ judges_once prefix block i j (inr (inr x)) (inr (inl y)) = absurd (y.1 x.1 x.2)
 judges_once prefix block i j (inr (inr x)) (inr (inr y)) =
     let same : x.1 ≡ y.1 = (request_unique block x.1 y.1 [] [] x.2.0 y.2.0).0 in
     let fields = map name_and_value y.1.fields in
-    judged_once prefix y.1.target (is_put y.1.method) (closes_of fields) (size_of (length_of fields)) (refused_status y.1.minor y.1.method fields) i j (subst (λ h. JudgesHead prefix h i) same x.3) y.3
+    judged_once prefix y.1.target (is_put y.1.method) (closes_of fields) (body_size (length_of fields)) (refused_status y.1.minor y.1.method fields) i j (subst (λ h. JudgesHead prefix h i) same x.3) y.3

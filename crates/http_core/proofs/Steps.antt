@@ -10,7 +10,7 @@ use Rattle.http_core.specs.Block.{EndsBlock, HasNoBlock, IsBlock}
 use Rattle.http_core.specs.Event.{EventValue, Asked, Refused, Put}
 use Rattle.http_core.specs.Judging.{Judges}
 use Rattle.http_core.specs.Stream.{Completes}
-use Rattle.http_core.specs.Session.{SessionState, Reading, Taking, Closed, Holds, Follows, state_of}
+use Rattle.http_core.specs.Session.{SessionState, Reading, Taking, Closed, Holds, Follows, session_state}
 use Rattle.http_core.proofs.Blocks.{block_with, no_block_with, no_block_through}
 
 -- no line feed but at the end
@@ -22,7 +22,7 @@ one_longer : (bytes : List ℕ) (byte : ℕ) → length (bytes ++ byte ∷ []) �
 one_longer bytes byte = length-append bytes (byte ∷ [])
 
 reads_on : (prefix : List ℕ) (old new : SessionState) (stage : Stage) (bytes body line : List ℕ) (event : Option EventValue)
-    → state_of stage bytes body ≡ old → ((held : List ℕ) × (old ≡ Reading held))
+    → session_state stage bytes body ≡ old → ((held : List ℕ) × (old ≡ Reading held))
     → (HasNoBlock bytes → length bytes < 16384 → Follows prefix (bytes ++ line) event new)
     → (rest : List ℕ) → Holds prefix old rest → Follows prefix (rest ++ line) event new
 reads_on prefix old new stages.Block bytes body line event is reading goes rest h =
@@ -47,7 +47,7 @@ line_follows prefix bytes line more room event new (front, last, whole, plain) e
     subst (λ z. Follows prefix z event new) (sym k ∙ e) (goes (bytes ++ front) last k (no_block_through bytes front none plain) small)
 
 pub reads_line : (prefix : List ℕ) (old new : SessionState) (stage : Stage) (bytes body line more piece : List ℕ) (room : ℕ) (event : Option EventValue)
-    → state_of stage bytes body ≡ old → ((held : List ℕ) × (old ≡ Reading held))
+    → session_state stage bytes body ≡ old → ((held : List ℕ) × (old ≡ Reading held))
     → IsHeadLine line → more ≡ bytes ++ line → (length line ≤ room) ⊎ (length line ≡ 1) → room ≤ 16384 - length bytes → line ≡ take (length line) piece
     → ((front : List ℕ) (last : ℕ) → more ≡ front ++ last ∷ [] → HasNoBlock front → length front < 16384 → Follows prefix (front ++ last ∷ []) event new)
     → (rest : List ℕ) → Holds prefix old rest → Follows prefix (rest ++ take (length line) piece) event new
@@ -55,7 +55,7 @@ reads_line prefix old new stage bytes body line more piece room event is reading
     subst (λ z. Follows prefix (rest ++ z) event new) front
     (reads_on prefix old new stage bytes body line event is reading (line_follows prefix bytes line more room event new line_is e most fits goes) rest h)
 
-pub still_reading : (stage : Stage) (bytes more body : List ℕ) (old : SessionState) → state_of stage bytes body ≡ old → ((held : List ℕ) × (old ≡ Reading held)) → state_of stage more body ≡ Reading more
+pub still_reading : (stage : Stage) (bytes more body : List ℕ) (old : SessionState) → session_state stage bytes body ≡ old → ((held : List ℕ) × (old ≡ Reading held)) → session_state stage more body ≡ Reading more
 still_reading stages.Block bytes more body old is reading = refl
 still_reading (stages.Body area hash size close) bytes more body old is reading = let no : Taking area hash size close body ≡ Reading reading.0 = is ∙ reading.1 in absurd cc
 still_reading stages.Closed bytes more body old is reading = let no : Closed ≡ Reading reading.0 = is ∙ reading.1 in absurd cc
@@ -84,12 +84,12 @@ past_block prefix bytes more byte new e not_ends is many none small =
     (inl (record { size = omega arith; none = no_block_with bytes byte none (λ k. not_ends (subst EndsBlock (sym e) k)); gives = refl }), is)
 
 pub takes_some : (prefix : List ℕ) (old new : SessionState) (stage : Stage) (block body piece more : List ℕ) (area : Area) (hash : List ℕ) (size : ℕ) (close : Bool)
-    → state_of stage block body ≡ old → stage ≡ stages.Body area hash size close → length piece < size - length body
-    → more ≡ body ++ piece → new ≡ state_of stage block more
+    → session_state stage block body ≡ old → stage ≡ stages.Body area hash size close → length piece < size - length body
+    → more ≡ body ++ piece → new ≡ session_state stage block more
     → (rest : List ℕ) → Holds prefix old rest → Holds prefix new (rest ++ take (length piece) piece)
 takes_some prefix old new stage block body piece more area hash size close is at few e leads rest h =
-    let s : old ≡ Taking area hash size close body = sym is ∙ ap (λ z. state_of z block body) at in
-    let t : new ≡ Taking area hash size close (body ++ piece) = leads ∙ ap (λ z. state_of z block more) at ∙ ap (λ z. Taking area hash size close z) e in
+    let s : old ≡ Taking area hash size close body = sym is ∙ ap (λ z. session_state z block body) at in
+    let t : new ≡ Taking area hash size close (body ++ piece) = leads ∙ ap (λ z. session_state z block more) at ∙ ap (λ z. Taking area hash size close z) e in
     let k : Holds prefix (Taking area hash size close body) rest = subst (λ z. Holds prefix z rest) s h in
     let a : take (length piece) piece ≡ piece = take-all piece in
     let n : length (body ++ piece) ≡ length body + length piece = length-append body piece in
@@ -101,11 +101,11 @@ takes_some prefix old new stage block body piece more area hash size close is at
     take-all (b ∷ l) = ap (λ z. b ∷ z) (take-all l)
 
 pub takes_all : (prefix : List ℕ) (old : SessionState) (stage : Stage) (block body front more : List ℕ) (area : Area) (hash : List ℕ) (size : ℕ) (close : Bool)
-    → state_of stage block body ≡ old → stage ≡ stages.Body area hash size close → length front ≡ size - length body
+    → session_state stage block body ≡ old → stage ≡ stages.Body area hash size close → length front ≡ size - length body
     → more ≡ body ++ front
     → (rest : List ℕ) → Holds prefix old rest → Completes prefix (rest ++ front) (Asked (Put area hash more) close)
 takes_all prefix old stage block body front more area hash size close is at few e rest h =
-    let s : old ≡ Taking area hash size close body = sym is ∙ ap (λ z. state_of z block body) at in
+    let s : old ≡ Taking area hash size close body = sym is ∙ ap (λ z. session_state z block body) at in
     let k : Holds prefix (Taking area hash size close body) rest = subst (λ z. Holds prefix z rest) s h in
     let n : length (body ++ front) ≡ length body + length front = length-append body front in
     let m : length more ≡ length (body ++ front) = ap length e in

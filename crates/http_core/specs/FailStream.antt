@@ -17,14 +17,14 @@ pub record FailStreamValue : Type 0 where
   pub until_failure : ℕ
 
 -- the stream with one call counted
-abbrev pub counted : FailStreamValue → FailStreamValue
-counted s = record s { until_failure = s.until_failure - 1 }
+abbrev pub with_a_call_counted : FailStreamValue → FailStreamValue
+with_a_call_counted s = record s { until_failure = s.until_failure - 1 }
 
 -- the call failed with an error of this kind, and nothing was given or taken
 pub record FailsWith (kind : ErrorKind) (old new : FailStreamValue) (result : Result ℕ Error)
     : Type 0 where
   pub told : MatchResult result (λ _. ⊥) (λ e. error_kind e ≡ kind)
-  pub same : new ≡ counted old
+  pub same : new ≡ with_a_call_counted old
 
 -- the call is the one that fails
 abbrev pub FailsCall : FailStreamValue → FailStreamValue → Result ℕ Error → Type 0
@@ -37,7 +37,7 @@ pub record GivesNext
   pub is : count ≡ min (min old.most (length before)) (length old.coming)
   pub told : result ≡ Ok count
   pub given : after ≡ take count old.coming ++ drop count before
-  pub rest : new ≡ record (counted old) { coming = drop count old.coming }
+  pub rest : new ≡ record (with_a_call_counted old) { coming = drop count old.coming }
 
 -- the write took a front of the bytes: as many as there are and may go at once
 pub record TakesBytes (old new : FailStreamValue) (bytes : List ℕ) (result : Result ℕ Error)
@@ -45,7 +45,7 @@ pub record TakesBytes (old new : FailStreamValue) (bytes : List ℕ) (result : R
   pub count : ℕ
   pub is : count ≡ min old.most (length bytes)
   pub told : result ≡ Ok count
-  pub kept : new ≡ record (counted old) { sent = old.sent ++ take count bytes }
+  pub kept : new ≡ record (with_a_call_counted old) { sent = old.sent ++ take count bytes }
 
 -- it took them, unless memory was wanting
 abbrev pub TakesFront : FailStreamValue → FailStreamValue → List ℕ → Result ℕ Error → Type 0

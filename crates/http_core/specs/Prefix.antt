@@ -9,13 +9,13 @@ abbrev pub is_unreserved : ℕ → Bool
 is_unreserved b = is_ascii_alphanumeric b || (b == 45 || b == 46 || b == 95 || b == 126)
 
 -- one or more such bytes
-abbrev pub is_segment : List ℕ → Bool
-is_segment text = nat_lt 0 (length text) && list_all is_unreserved text
+abbrev pub is_prefix_segment : List ℕ → Bool
+is_prefix_segment text = nat_lt 0 (length text) && list_all is_unreserved text
 
 -- no bytes, or a slash and then segments with a slash between any two
 abbrev pub are_segments : List ℕ → Bool
 are_segments [] = true
-are_segments (b ∷ text) = b == 47 && list_all is_segment (slice_split (λ c. c == 47) text)
+are_segments (b ∷ text) = b == 47 && list_all is_prefix_segment (slice_split (λ c. c == 47) text)
 
 -- segments of at most 256 bytes together
 abbrev pub is_prefix : List ℕ → Bool

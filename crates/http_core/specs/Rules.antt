@@ -56,9 +56,9 @@ is_absent Absent = true
 is_absent other = false
 
 -- how many bytes a body has of which this is said: without a word, none
-abbrev pub size_of : Length → ℕ
-size_of (Is size) = size
-size_of other = 0
+abbrev pub body_size : Length → ℕ
+body_size (Is size) = size
+body_size other = 0
 
 -- the methods that the server knows; their names have case (RFC 9110, section 9.1)
 abbrev pub is_get : List ℕ → Bool
@@ -82,8 +82,8 @@ rules_of minor method fields =
     ∷ (nat_lt 0 (count_of (codes "expect") fields), 417)
     ∷ (not (is_get method) && not (is_put method), 405)
     ∷ (is_put method && is_absent (length_of fields), 411)
-    ∷ (nat_lt greatest_blob (size_of (length_of fields)), 413)
-    ∷ (is_get method && nat_lt 0 (size_of (length_of fields)), 400)
+    ∷ (nat_lt greatest_blob (body_size (length_of fields)), 413)
+    ∷ (is_get method && nat_lt 0 (body_size (length_of fields)), 400)
     ∷ []
 
 -- the status that refuses a head with these parts, if one does
@@ -127,5 +127,5 @@ abbrev pub JudgesHead : List ℕ → RequestHead → Judgement → Type 0
 JudgesHead prefix h j =
     let fields = map name_and_value h.fields in
     MatchOption (refused_status h.minor h.method fields)
-    (Targets prefix (is_put h.method) (closes_of fields) h.target (size_of (length_of fields)) j)
+    (Targets prefix (is_put h.method) (closes_of fields) h.target (body_size (length_of fields)) j)
     (λ status. j ≡ judgements.Refuse status true)

@@ -24,10 +24,10 @@ pub record SessionValue : Type 0 where
   pub state : SessionState
 
 -- with these bytes of a block, or these of a body
-abbrev pub state_of : Stage → List ℕ → List ℕ → SessionState
-state_of stages.Block block body = Reading block
-state_of (stages.Body area hash size close) block body = Taking area hash size close body
-state_of stages.Closed block body = Closed
+abbrev pub session_state : Stage → List ℕ → List ℕ → SessionState
+session_state stages.Block block body = Reading block
+session_state (stages.Body area hash size close) block body = Taking area hash size close body
+session_state stages.Closed block body = Closed
 
 -- how many bytes of a block or of a body came
 abbrev pub held_bytes : SessionState → ℕ

@@ -1,7 +1,7 @@
 ghost use Rattle.std.specs.Prelude.{◌≡◌, ◌≢◌, ◌<◌, ◌↔◌, [], IsTrue, IsOk, Some};
 ghost use Rattle.std.specs.Io.{ReadsAtMost, WritesAtMost};
 ghost use Rattle.std.specs.Io.KnownBytes.{Keeps, ReadConsumes, WriteAppends};
-ghost use Rattle.http_core.specs.FailStream.{FailsCall, GivesNext, TakesFront, counted};
+ghost use Rattle.http_core.specs.FailStream.{FailsCall, GivesNext, TakesFront, with_a_call_counted};
 
 use std::alloc::Allocator;
 use std::io;
@@ -74,7 +74,7 @@ impl<A: Allocator> FailStream<A> {
     /// Counts a call, and tells whether it is the one that fails.
     fn is_due(&mut self) -> bool
         ensures due { IsTrue result ↔ (self.old.until_failure ≡ 1) }
-        ensures counted { self.new ≡ counted self.old }
+        ensures counted { self.new ≡ with_a_call_counted self.old }
     {
         let number = &mut self.until_failure;
         let is_due = *number == 1;

@@ -1,6 +1,6 @@
 ghost use Rattle.std.specs.Prelude.{◌≡◌, ◌↔◌, ◌==◌, IsTrue, IfOk, OnErr, IfSome, IsSome};
 ghost use Rattle.std.specs.List.{list_all, slice_split};
-ghost use Rattle.http_core.specs.Prefix.{is_unreserved, is_segment, are_segments, is_prefix};
+ghost use Rattle.http_core.specs.Prefix.{is_unreserved, is_prefix_segment, are_segments, is_prefix};
 
 use std::alloc::{AllocError, Allocator};
 use std::marker::Model;
@@ -39,13 +39,13 @@ fn are_unreserved(text: &[u8]) -> bool
 }
 
 fn is_segment(text: &[u8]) -> bool
-    ensures { result ≡ is_segment text.now }
+    ensures { result ≡ is_prefix_segment text.now }
 {
     !text.is_empty() && are_unreserved(text)
 }
 
 fn all_are_segments(text: &[u8]) -> bool
-    ensures { result ≡ list_all is_segment (slice_split (λ b. b == 47) text.now) }
+    ensures { result ≡ list_all is_prefix_segment (slice_split (λ b. b == 47) text.now) }
 {
     text.split(|b| *b == b'/').all(is_segment)
 }

@@ -7,7 +7,8 @@ ghost use Rattle.httparse.specs.Spans.{IsHeaderWithin, IsRequestAt, IsRequestWit
 ghost use Rattle.blob_digest.specs.DigestValue.{IsHash};
 ghost use Rattle.http_core.specs.Names.{same_name};
 ghost use Rattle.http_core.specs.Rules.{count_of, length_of, read_length, is_length, is_bad};
-ghost use Rattle.http_core.specs.Rules.{is_absent, size_of, refused_status, area_text, target_text};
+ghost use Rattle.http_core.specs.Rules.{is_absent, body_size, refused_status, area_text};
+ghost use Rattle.http_core.specs.Rules.{target_text};
 ghost use Rattle.http_core.specs.Rules.{Names, Targets, JudgesHead};
 
 use crate::connection::closes;
@@ -38,7 +39,7 @@ impl Length {
     }
 
     fn size(self) -> u64
-        ensures { result ≡ size_of self }
+        ensures { result ≡ body_size self }
     {
         match self {
             Length::Is(size) => size,

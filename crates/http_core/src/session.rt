@@ -40,13 +40,13 @@ pub struct Session<A: Allocator> {
 }
 
 impl<A: Allocator> Model for Session<A> {
-    ghost use Rattle.http_core.specs.Session.{SessionValue, HoldsNoMore, state_of};
+    ghost use Rattle.http_core.specs.Session.{SessionValue, HoldsNoMore, session_state};
 
     ghost Value = { SessionValue };
 
     ghost view = { λ s. record {
       prefix = s.prefix;
-      state = state_of s.stage s.block.items s.body;
+      state = session_state s.stage s.block.items s.body;
     } };
 
     ghost invariant = { λ s. HoldsNoMore s.stage s.block.items s.body };

@@ -55,7 +55,8 @@ IsNextInFault version steps good rest fault =
     × ((target : List (List ℕ)) (origin : WrittenOrigin)
     → ¬ BeginsWithLine (in_line target origin) rest))
     ⊎ ((target : List (List ℕ)) × (origin : WrittenOrigin)
-    × BeginsWithLine (in_line target origin) rest × IsInFault version steps good target origin fault)
+    × BeginsWithLine (in_line target origin) rest
+    × IsInFault version steps good target origin fault)
 
 -- The text begins with lines of a directory after these steps, of which the first has this number,
 -- and the next `in` line is at fault.

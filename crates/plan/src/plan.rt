@@ -1,4 +1,5 @@
-ghost use Rattle.std.specs.Prelude.{◌≡◌, ◌+◌, ◌<◌, ◌≤◌, ◌^◌, ◌++◌, [], Err, IfOk, IfErr, IsOk, OnOk};
+ghost use Rattle.std.specs.Prelude.{◌≡◌, ◌+◌, ◌<◌, ◌≤◌, ◌^◌, ◌++◌, [], Err};
+ghost use Rattle.std.specs.Prelude.{IfOk, IfErr, IsOk, OnOk};
 ghost use Rattle.std.specs.Prelude.{MatchOption, length, codes};
 ghost use Rattle.std.specs.List.{AllByRecursion, flat_map};
 ghost use Rattle.plan.specs.Faults.{HasNoHeader, IsFaultBehind, IsPlanFault};
@@ -110,7 +111,8 @@ fn read_lines<'a, A: Allocator + Copy>(
         × (text.now ≡ lines_text steps.now r.0.items ++ r.1.now)) }
     ensures apart { IfOk result (λ r. KeepApart version r.0.items) }
     ensures none { IfOk result (λ r. ¬ Begins (codes "in ") r.1.now) }
-    ensures fault { IfErr result (FaultyUnlessMemory (IsLinesFault version steps.now first text.now)) }
+    ensures fault { IfErr result
+        (FaultyUnlessMemory (IsLinesFault version steps.now first text.now)) }
 {
     let mut lines = Vec::new(alloc);
     let mut targets = Targets::new(alloc);

@@ -107,8 +107,8 @@ impl<'p, A: Allocator + Copy> Engine<'p, A> {
         self.put_together(alloc, self.plan().root(), memo, source)
     }
 
-    /// The tree in which the build ends: the digest of its root, and the Directories that putting it
-    /// together made. Refusals: `NotReady` while a step hasn't finished, `Origin`, `Source` and
+    /// The tree in which the build ends: the digest of its root, and the Directories that putting
+    /// it together made. Refusals: `NotReady` while a step hasn't finished, `Origin`, `Source` and
     /// `Conflict`. A Directory that the memo knows isn't fetched, and one that is fetched is kept.
     pub fn root_tree<S: BlobSource<A>>(
         &self,
