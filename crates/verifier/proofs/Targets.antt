@@ -7,8 +7,7 @@ use Rattle.blob_digest.specs.Digest.{DigestValue}
 use Rattle.messages.specs.Path.{IsPath, Overlap}
 use Rattle.plan.specs.declared.version.Version.TheVariants.{One}
 use Rattle.plan.specs.Values.{source, output, OriginValue, LineValue, StepValue, PlanValue, IsLine}
-use Rattle.plan.specs.Plan as plans
-use Rattle.plan.specs.Plan.{AreSteps, AllKeepApart, IsPlan}
+use Rattle.plan.specs.Plan.{NoTargetsOverlap, AreSteps, AllKeepApart, IsPlan}
 use Rattle.tree.specs.Tree.{Name, Tree, Leaf, Entry, whole, IsOrdered, IsOrderedEntry}
 use Rattle.tree.specs.Graft.{graft, expand, HaveApartTargets, IsApart}
 use Rattle.tree.specs.Merge.{AreMergeable, merge}
@@ -35,9 +34,9 @@ step_paths before [] h i s e = absurd cc
 step_paths before (x ∷ steps) h zero s e = let same : x ≡ s = cc in subst (λ y. ArePaths y.lines) same (paths_of (length before) x.lines h.0.lines.each)
 step_paths before (x ∷ steps) h (suc i) s e = step_paths (before ++ x ∷ []) steps h.1 i s e
 
-step_apart : (steps : List StepValue) → AllKeepApart One steps → (i : ℕ) (s : StepValue) → slice_get steps i ≡ Some s → plans.NoTargetsOverlap s.lines
+step_apart : (steps : List StepValue) → AllKeepApart One steps → (i : ℕ) (s : StepValue) → slice_get steps i ≡ Some s → NoTargetsOverlap s.lines
 step_apart [] h i s e = absurd cc
-step_apart (x ∷ steps) h zero s e = let same : x ≡ s = cc in subst (λ y. plans.NoTargetsOverlap y.lines) same (h.0 refl)
+step_apart (x ∷ steps) h zero s e = let same : x ≡ s = cc in subst (λ y. NoTargetsOverlap y.lines) same (h.0 refl)
 step_apart (x ∷ steps) h (suc i) s e = step_apart steps h.1 i s e
 
 pub lines_paths : (plan : PlanValue) (ls : List LineValue) → IsPlan plan → AreLinesOf plan ls → ArePaths ls
@@ -45,9 +44,9 @@ lines_paths plan ls valid (inl is) = subst ArePaths (sym is) (paths_of (length p
 lines_paths plan ls valid (inr (i, s, at, is)) = subst ArePaths (sym is) (step_paths [] plan.steps valid.steps i s at)
 
 -- in version 1 none overlaps another
-pub lines_apart : (plan : PlanValue) (ls : List LineValue) → IsPlan plan → plan.version ≡ One → AreLinesOf plan ls → plans.NoTargetsOverlap ls
-lines_apart plan ls valid one (inl is) = subst plans.NoTargetsOverlap (sym is) (valid.root_apart one)
-lines_apart plan ls valid one (inr (i, s, at, is)) = subst plans.NoTargetsOverlap (sym is) (step_apart plan.steps (subst (λ v. AllKeepApart v plan.steps) one valid.apart) i s at)
+pub lines_apart : (plan : PlanValue) (ls : List LineValue) → IsPlan plan → plan.version ≡ One → AreLinesOf plan ls → NoTargetsOverlap ls
+lines_apart plan ls valid one (inl is) = subst NoTargetsOverlap (sym is) (valid.root_apart one)
+lines_apart plan ls valid one (inr (i, s, at, is)) = subst NoTargetsOverlap (sym is) (step_apart plan.steps (subst (λ v. AllKeepApart v plan.steps) one valid.apart) i s at)
 
 -- ---- what has the lines' targets
 
@@ -69,7 +68,7 @@ module _ {X : Type 0} where
   others_apart p (l ∷ ls) [] h free = elim h [ ]
   others_apart p (l ∷ ls) (x ∷ xs) h free = (subst (IsApart p) (sym h.0) free.0, others_apart p ls xs h.1 free.1)
 
-  pub targets_apart : (ls : List LineValue) (xs : List (List Name × X)) → HaveTargets ls xs → ArePaths ls → plans.NoTargetsOverlap ls → HaveApartTargets xs
+  pub targets_apart : (ls : List LineValue) (xs : List (List Name × X)) → HaveTargets ls xs → ArePaths ls → NoTargetsOverlap ls → HaveApartTargets xs
   targets_apart [] [] h paths free = tt
   targets_apart [] (x ∷ xs) h paths free = elim h [ ]
   targets_apart (l ∷ ls) [] h paths free = elim h [ ]
@@ -137,7 +136,7 @@ module _ (t : Tree Leaf) (s : State) (ordered : IsOrdered t) (outcomes : AllByRe
   mergeable (l ∷ ls) (e ∷ es) h paths k = ((subst (λ p. p ≢ []) (sym h.0) (some_names l.target paths.0.some), k.0), mergeable ls es h.1 paths.1 k.1)
 
   -- where no target overlaps another, lines put together their graft
-  pub apart_grafted : (ls : List LineValue) → ArePaths ls → plans.NoTargetsOverlap ls → graft_of t s ls ≡ option_map (λ es. expand (graft es)) (origins t s ls)
+  pub apart_grafted : (ls : List LineValue) → ArePaths ls → NoTargetsOverlap ls → graft_of t s ls ≡ option_map (λ es. expand (graft es)) (origins t s ls)
   apart_grafted ls paths free = by (origins t s ls) refl
     where
       by : (q : Option (List (List Name × Entry Leaf))) → origins t s ls ≡ q → option_and_then merge q ≡ option_map (λ es. expand (graft es)) q
