@@ -1,14 +1,24 @@
--- What meets the premises of the laws: a tree of one file, a digest under which nothing is told, and one line.
+-- What meets the premises of the laws: a tree of one file, told and listed, a digest under which nothing is told, and one line.
 use Rattle.std.proofs.Common.{◌≡◌, ◌≢◌, ℕ, suc, List, [], ◌∷◌, refl, ap, sym, ◌∙◌, inl, inr, Bool}
-use Rattle.std.specs.Prelude.{◌⊎◌, None}
+use Rattle.std.specs.Prelude.{◌⊎◌, None, Some}
+use Rattle.std.specs.Str.{is_utf8, chars}
 use Rattle.blob_digest.specs.Digest.{NoClash, digest_of, empty_digest}
+use Rattle.messages.specs.Name.{IsName}
+use Rattle.messages.proofs.Names.{IsName-from}
 use Rattle.blob_source.specs.Source.{Blobs}
 use Rattle.blob_source.specs.Told.{missing, FailsDirectory}
 use Rattle.tree.specs.Tree.{Name, Tree, empty, leaf, Leaf, file, IsOrdered}
-use Rattle.tree.specs.Form.{form, top, IsBlobOf}
+use Rattle.tree.specs.declared.folding.Folded.{Folded}
+use Rattle.tree.specs.FlatTree.{IsListOf, IsFoldOfList, listed}
+use Rattle.tree.specs.Folded.{IsFoldOf}
+use Rattle.tree.specs.Form.{form, top, root, directory_of, no_children, IsBlobOf}
 use Rattle.tree.specs.Difference.{Finds, FindsFirst, unread}
 use Rattle.tree.specs.Graft.{HaveApartTargets}
-use Rattle.tree.proofs.TreeDigests.{only_empty}
+use Rattle.tree.specs.Unfolded.{IsUnfolded}
+use Rattle.tree.proofs.DirectoryBytes.{directory_bytes_injective}
+use Rattle.tree.proofs.MergeExample.{no_bytes}
+use Rattle.tree.proofs.TreeDigests.{only_empty, tree_digests, IsDigest-digest_of}
+use Rattle.tree.proofs.ValidTrees.{valid_directory}
 
 pub a : Name
 a = 97 ∷ []
@@ -62,6 +72,46 @@ one_unread = at 63
   where
     at : (k : ℕ) → Finds [] no_blobs (suc k) [] empty_digest (digest_of a) (unread (missing (digest_of a)))
     at k = inl (missing (digest_of a), (tt, one_missing), refl)
+
+-- ---- a tree that is told, and its list
+
+-- its Directory is told under every digest, right or wrong
+pub always_one : Bool → Blobs
+always_one x d = Some (top (form (one_file x)))
+
+a_name : IsName (97 ∷ [])
+unfolding is_utf8 chars lib.Utf8.encode
+a_name = IsName-from (97 ∷ []) refl
+
+one_list : (x : Bool) → IsListOf (listed (form (one_file x))) (form (one_file x))
+unfolding one_file
+one_list x = record { ordered = (tt, tt); listing = refl }
+
+one_some : (x : Bool) → top (form (one_file x)) ≢ []
+unfolding one_file
+one_some x none =
+    let same = directory_bytes_injective (directory_of (form (one_file x))) no_children (tree_digests (one_file x)) (tree_digests empty) (none ∙ sym no_bytes) in
+    let files = ap (λ m. m.files) same in
+    cc
+
+pub one_unfolded : (x : Bool) → IsUnfolded (always_one x) (root (form (one_file x))) (listed (form (one_file x)))
+unfolding one_file always_one a
+one_unfolded x = record {
+  tree = form (one_file x);
+  list = one_list x;
+  told = record {
+    root = refl;
+    top = record {
+      valid = valid_directory (form (one_file x)) (tt, tt) ((a_name, IsDigest-digest_of []), tt);
+      blob = record { held = inr ((λ same. one_some x (only_empty (top (form (one_file x))) same)), refl); right = refl };
+    };
+    below = tt;
+  };
+}
+
+-- and it is folded, in whatever memory
+pub one_folded : {A : Type 0} (x : Bool) (f : Folded A) → IsFoldOf (form (one_file x)) f → IsFoldOfList (listed (form (one_file x))) f
+one_folded x f fold = record { tree = form (one_file x); list = one_list x; fold = fold }
 
 -- ---- lines
 

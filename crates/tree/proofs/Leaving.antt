@@ -5,7 +5,7 @@ use Rattle.std.specs.List.{AllByRecursion}
 use Rattle.blob_digest.specs.Digest.{DigestValue, digest_of, empty_digest}
 use Rattle.blob_source.specs.Source.{Blobs, GrowsAt, Telling}
 use Rattle.tree.specs.Difference.{IsNoneOf, LeavesOwn}
-use Rattle.tree.specs.Memo.{Asked, blob, LeavesOthers, LooksAtBlob}
+use Rattle.tree.specs.Memo.{Asked, blob, AsksNoOther, LooksAtBlob}
 use Rattle.tree.proofs.Memos.{same_or_other}
 
 same_none : (own : List (List ℕ)) (B : Blobs) → AllByRecursion (λ b. B (digest_of b) ≡ B (digest_of b)) own
@@ -35,11 +35,15 @@ leaves_at {own} {d} {old} {new} none h = record { same = same_at own d old new n
 
 -- a call, and one after it
 pub others_then : {first next both : Asked → Type 0} {old mid new : Blobs} → ((a : Asked) → first a → both a) → ((a : Asked) → next a → both a)
-    → LeavesOthers first old mid → LeavesOthers next mid new → LeavesOthers both old new
+    → AsksNoOther first old mid → AsksNoOther next mid new → AsksNoOther both old new
 others_then to on h k = record { same = λ d not. k.same d (λ at. not (on (blob d) at)) ∙ h.same d (λ at. not (to (blob d) at)) }
 
+-- what looks at more asks for no other either
+pub others_more : {first both : Asked → Type 0} {old new : Blobs} → ((a : Asked) → first a → both a) → AsksNoOther first old new → AsksNoOther both old new
+others_more to h = record { same = λ d not. h.same d (λ at. not (to (blob d) at)) }
+
 -- a fetch of one blob
-pub others_at : {d : DigestValue} {old new : Telling} → GrowsAt d old.blobs new.blobs → (d ≡ empty_digest → new ≡ old) → LeavesOthers (LooksAtBlob d) old.blobs new.blobs
+pub others_at : {d : DigestValue} {old new : Telling} → GrowsAt d old.blobs new.blobs → (d ≡ empty_digest → new ≡ old) → AsksNoOther (LooksAtBlob d) old.blobs new.blobs
 others_at {d} {old} {new} grows unasked = record { same = λ e not. by e not (same_or_other e d) (same_or_other d empty_digest) }
   where
     by : (e : DigestValue) → (LooksAtBlob d (blob e) → ⊥) → (e ≡ d) ⊎ (e ≢ d) → (d ≡ empty_digest) ⊎ (d ≢ empty_digest) → new.blobs e ≡ old.blobs e

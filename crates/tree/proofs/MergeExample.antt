@@ -2,18 +2,18 @@
 use Rattle.std.specs.Prelude.{codes}
 use Rattle.std.proofs.Common.{[], ◌∷◌, ◌≡◌, ℕ, List, Some, refl, ap, sym, ◌∙◌, arith, inl, inr}
 use Rattle.wire.specs.Varint.{groups, varint}
-use Rattle.blob_digest.specs.Digest.{NoClash, digest_of}
+use Rattle.blob_digest.specs.Digest.{digest_of}
 use Rattle.messages.specs.Directory.{directory_bytes}
 use Rattle.blob_source.specs.Told.{TellsDirectory}
 use Rattle.tree.specs.Form.{no_children, form, root}
-use Rattle.tree.specs.Tree.{empty}
+use Rattle.tree.specs.Tree.{empty, Entry, whole, Leaf, IsOrderedEntry}
 use Rattle.tree.specs.Merge.{TreeLines}
 use Rattle.tree.specs.Merging.{conflict, merged}
-use Rattle.tree.specs.MergeAgrees.{IsOfMerge}
-use Rattle.tree.specs.MergeExample.{CanBeTold, always_empty, lines_of_entries, meeting_entries, met_tree, unlike_entries}
+use Rattle.tree.specs.MergeAgrees.{IsBlobOfOne, IsOfMerge}
+use Rattle.tree.specs.MergeExample.{MeetsPremises, always_empty, empty_file, lines_of_entries, meeting_entries, met_tree, unlike_entries}
 use Rattle.tree.specs.Stage.{◌and_then◌}
 
-no_bytes : directory_bytes no_children ≡ []
+pub no_bytes : directory_bytes no_children ≡ []
 unfolding directory_bytes groups varint
 no_bytes = refl
 
@@ -23,49 +23,39 @@ told = record {
   blob = record { held = inl (ap digest_of no_bytes, ap Some no_bytes); right = refl };
 }
 
--- the one blob that is concerned is the empty one
-module _ (es : TreeLines) (only : (b : List ℕ) → IsOfMerge always_empty (lines_of_entries es) es b → b ≡ []) where
-  pub one_blob : NoClash (IsOfMerge always_empty (lines_of_entries es) es)
-  one_blob x y left right same = only x left ∙ sym (only y right)
+-- An entry at `a` and an empty file at `a/b` meet the premises, where the entry has no blob but the empty one.
+module _ (e : Entry Leaf) (ordered : IsOrderedEntry e) (alone : (b : List ℕ) → IsBlobOfOne e b → b ≡ []) where
+  abbrev pub entries : TreeLines
+  entries = (codes "a" ∷ [], e) ∷ (codes "a" ∷ codes "b" ∷ [], empty_file) ∷ []
 
-pub meeting_told : CanBeTold always_empty (lines_of_entries meeting_entries) meeting_entries
-meeting_told = record {
-  held = (tt, (tt, tt));
-  stand = (
-    record { target = refl; node = refl; ordered = tt; some = λ e. absurd cc; few = omega arith },
-    (record { target = refl; node = refl; ordered = tt; some = λ e. absurd cc; few = omega arith }, tt),
-  );
-  apart = one_blob meeting_entries by;
-}
-  where
-    by : (b : List ℕ) → IsOfMerge always_empty (lines_of_entries meeting_entries) meeting_entries b → b ≡ []
-    by b (inl (d, held)) = cc
-    by b (inr (inl (inl none))) = absurd none
-    by b (inr (inl (inr (inl none)))) = absurd none
-    by b (inr (inl (inr (inr none)))) = absurd none
-    by b (inr (inr (inl (inl same)))) = same ∙ no_bytes
-    by b (inr (inr (inl (inr none)))) = absurd none
-    by b (inr (inr (inr (inl content)))) = content
-    by b (inr (inr (inr (inr none)))) = absurd none
+  only : (b : List ℕ) → IsOfMerge always_empty (lines_of_entries entries) entries b → b ≡ []
+  only b (inl (d, held)) = cc
+  only b (inr (inl (inl none))) = absurd none
+  only b (inr (inl (inr (inl none)))) = absurd none
+  only b (inr (inl (inr (inr none)))) = absurd none
+  only b (inr (inr (inl blob))) = alone b blob
+  only b (inr (inr (inr (inl content)))) = content
+  only b (inr (inr (inr (inr none)))) = absurd none
 
-pub unlike_told : CanBeTold always_empty (lines_of_entries unlike_entries) unlike_entries
-unlike_told = record {
-  held = (tt, (tt, tt));
-  stand = (
-    record { target = refl; node = refl; ordered = tt; some = λ e. absurd cc; few = omega arith },
-    (record { target = refl; node = refl; ordered = tt; some = λ e. absurd cc; few = omega arith }, tt),
-  );
-  apart = one_blob unlike_entries by;
-}
+  pub meets : MeetsPremises always_empty (lines_of_entries entries) entries
+  meets = record {
+    held = (tt, (tt, tt));
+    stand = (
+      record { target = refl; node = refl; ordered = ordered; some = λ e. absurd cc; few = omega arith },
+      (record { target = refl; node = refl; ordered = tt; some = λ e. absurd cc; few = omega arith }, tt),
+    );
+    apart = λ x y left right same. only x left ∙ sym (only y right);
+  }
+
+pub meeting_told : MeetsPremises always_empty (lines_of_entries meeting_entries) meeting_entries
+meeting_told = meets (whole empty) tt by
   where
-    by : (b : List ℕ) → IsOfMerge always_empty (lines_of_entries unlike_entries) unlike_entries b → b ≡ []
-    by b (inl (d, held)) = cc
-    by b (inr (inl (inl none))) = absurd none
-    by b (inr (inl (inr (inl none)))) = absurd none
-    by b (inr (inl (inr (inr none)))) = absurd none
-    by b (inr (inr (inl content))) = content
-    by b (inr (inr (inr (inl content)))) = content
-    by b (inr (inr (inr (inr none)))) = absurd none
+    by : (b : List ℕ) → IsBlobOfOne (whole empty) b → b ≡ []
+    by b (inl same) = same ∙ no_bytes
+    by b (inr none) = absurd none
+
+pub unlike_told : MeetsPremises always_empty (lines_of_entries unlike_entries) unlike_entries
+unlike_told = meets empty_file tt (λ b content. content)
 
 pub they_meet : (merged always_empty (lines_of_entries meeting_entries)).passes met_tree
 unfolding merged ◌and_then◌

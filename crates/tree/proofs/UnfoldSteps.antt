@@ -26,6 +26,9 @@ use Rattle.tree.specs.Unfolded.{TellsBelow, IsUnfolded, IsFineAt, AreFineBefore,
 use Rattle.tree.specs.Unfolding.{leaves, AreChildren, IsFull, ExplainsChild, prefixed, AreFine, Appends}
 use Rattle.tree.proofs.Children.{child-with_child, child-below, same_name}
 use Rattle.tree.proofs.Descent.{told_still}
+use Rattle.tree.specs.LooksAt.{UnfoldLooksAt}
+use Rattle.tree.specs.Memo.{Asked}
+use Rattle.tree.proofs.Ways.{unfold_child}
 use Rattle.tree.proofs.FirstFaults.{same_found, same_dir, same_some, looks_below, through, fine_still}
 use Rattle.tree.proofs.TreeLemmas.{name_itself, name_same, never_less, apart_cmp, one_or_two, below_trans}
 use Rattle.tree.proofs.Listings.{all_join}
@@ -369,6 +372,12 @@ pub child_fault : {A : Type 0} (B C : Blobs) (d e : DigestValue) (above path : L
 child_fault B C d e above path old new n rest why g h is few at =
     fault_below C d e h.read n above path why (told_still g h.read_told) (ap (child n) (sym h.directory) ∙ child_in h.done n (Dir e) (leaves rest) h.ordered) is few
     (λ k f less there. fine_still B C g f (above ++ k ∷ []) (h.fine k f (sym (child_before k n (Dir e) h.done (leaves rest) less h.ordered) ∙ ap (child k) h.directory ∙ there))) at
+
+-- what is looked at below a child
+pub child_looks : (B C : Blobs) (d e : DigestValue) (above : List Name) (old new : FlatValue) (n : Name) (rest : List (Name × NodeValue)) (a : Asked) → Grows B C
+    → Unfolds B d above old new ((n, Dir e) ∷ rest) → UnfoldLooksAt C e a → UnfoldLooksAt C d a
+child_looks B C d e above old new n rest a g h =
+    unfold_child C d e h.read n a (told_still g h.read_told) (ap (child n) (sym h.directory) ∙ child_in h.done n (Dir e) (leaves rest) h.ordered)
 
 -- ---- what the code keeps
 

@@ -1,5 +1,5 @@
 -- The Directories of a valid tree keep their rules.
-use Rattle.std.proofs.Common.{◌≡◌, ◌≢◌, ℕ, List, [], ◌∷◌, ◌++◌, refl, ap, sym, ◌∙◌, subst, true, false, cond, map, ◌+◌, ◌<◌, ◌≤◌}
+use Rattle.std.proofs.Common.{◌≡◌, ◌≢◌, ℕ, List, [], ◌∷◌, ◌++◌, refl, ap, sym, ◌∙◌, subst, true, false, cond, map}
 use Rattle.std.specs.Prelude.{bytes_eq}
 use Rattle.std.specs.List.{AllByRecursion, list_any}
 use Rattle.std.specs.declared.cmp.Ordering.TheVariants.{Less}
@@ -97,7 +97,7 @@ valid_child n (Dir d) m name node later h =
       };
     }
 
-valid_directory : (t : Tree NodeValue) → IsOrdered t → AreValid t → IsDirectory (directory_of t)
+pub valid_directory : (t : Tree NodeValue) → IsOrdered t → AreValid t → IsDirectory (directory_of t)
 valid_directory empty o h = record {
   files = tt;
   directories = tt;

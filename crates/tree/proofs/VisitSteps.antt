@@ -14,7 +14,7 @@ use Rattle.canonical.specs.Fields.{element_fields}
 use Rattle.wire.specs.Spelling.{spelling}
 use Rattle.messages.specs.Directory.{directory_bytes}
 use Rattle.tree.specs.Tree.{Name, Tree}
-use Rattle.tree.specs.Form.{NodeValue, no_children, with_child, directory_of, root}
+use Rattle.tree.specs.Form.{NodeValue, no_children, with_child, directory_of}
 use Rattle.tree.specs.Folded.{tops_below}
 use Rattle.tree.specs.declared.visiting.Line.{Line}
 use Rattle.tree.specs.declared.visiting.Visited.{Visited}

@@ -1,23 +1,26 @@
--- What a look-up and a comparison look at, while a source tells more and more.
-use Rattle.std.proofs.Common.{◌≡◌, ℕ, zero, suc, ◌+◌, ◌-◌, ◌<◌, List, [], ◌∷◌, length, drop, get_or, subst, sym, ◌∙◌, ap, arith, inl, inr, add-one, drop-cons}
+-- What a look-up, unfolding and a comparison look at, while a source tells more and more.
+use Rattle.std.proofs.Common.{◌≡◌, ℕ, zero, suc, ◌+◌, ◌-◌, ◌<◌, List, [], ◌∷◌, length, drop, get_or, subst, sym, ◌∙◌, refl, ap, arith, inl, inr, add-one, drop-cons}
 use Rattle.std.specs.Prelude.{Option, Some, None, option_map}
-use Rattle.blob_digest.specs.Digest.{DigestValue}
+use Rattle.blob_digest.specs.Digest.{DigestValue, empty_digest}
 use Rattle.messages.specs.declared.node.Node.{Node}
 use Rattle.messages.specs.declared.node.Node.TheVariants.{File, Link, Dir}
 use Rattle.messages.specs.DirectoryRules.{DirectoryValue}
 use Rattle.messages.specs.Node.{child}
 use Rattle.tree.specs.Tree.{Name}
 use Rattle.tree.specs.Form.{NodeValue, node_value}
-use Rattle.blob_source.specs.Source.{Blobs, Telling, Grows}
-use Rattle.blob_source.specs.Told.{TellsDirectory}
+use Rattle.blob_source.specs.Source.{Blobs, Telling, Grows, GrowsAt}
+use Rattle.blob_source.specs.Told.{TellsDirectory, FailsDirectory}
 use Rattle.tree.specs.Difference.{ReadsDirectory, child_of}
 use Rattle.tree.specs.declared.difference.Unlike.TheVariants.{Directories}
 use Rattle.tree.specs.Comparing.{IsUnlike}
-use Rattle.tree.specs.Memo.{Asked, Known, LooksAtBlob, Learns}
-use Rattle.tree.specs.LooksAt.{OnWayFrom, OnWay, LooksAtOther, ComparesBoth, Compares}
+use Rattle.tree.specs.Memo.{Asked, AsksNoOther, Known, LooksAtBlob, Learns}
+use Rattle.tree.specs.LooksAt.{OnWayFrom, OnWay, UnfoldLooksAt, LooksAtOther, ComparesBoth, Compares}
+use Rattle.tree.specs.Lookup.{LooksFrom, found}
 use Rattle.tree.proofs.Children.{child_value}
 use Rattle.tree.proofs.Descent.{told_still}
+use Rattle.tree.proofs.FirstFaults.{looks_below}
 use Rattle.tree.proofs.Learning.{learns_then, learns_more}
+use Rattle.tree.proofs.Leaving.{others_at, others_then}
 use Rattle.tree.proofs.DifferenceSteps.{ReadsBoth, reads_still}
 
 -- ---- look-ups
@@ -58,6 +61,34 @@ module _ (B C : Blobs) (d e : DigestValue) (p : List Name) (i : ℕ) (lt : i < l
   -- the child that was found, or none
   pub way_child : {A : Type 0} (x : Name) (m : DirectoryValue) (o : Option (Node A)) → TellsDirectory C e m → x ≡ get_or p i x → o ≡ child x m → WayGoesOn C d p (option_map node_value o) (drop (i + 1) p)
   way_child {A} x m o told is child_is = way_at x m (option_map node_value o) told (ap (option_map node_value) child_is ∙ child_value A x m ∙ ap (λ n. child n m) is)
+
+-- a fetch of the directory at which the way goes on
+pub others_on_way : {A : Type 0} {old : Blobs} {mid new : Telling} (d e : DigestValue) (p : List Name) (i : ℕ) (x : Node A) → i < length p → x ≡ Dir e → WayGoesOn mid.blobs d p (Some (node_value x)) (drop i p)
+    → AsksNoOther (OnWay mid.blobs d p) old mid.blobs → GrowsAt e mid.blobs new.blobs → (e ≡ empty_digest → new ≡ mid) → AsksNoOther (OnWay new.blobs d p) old new.blobs
+others_on_way {mid = mid} {new = new} d e p i x lt is way only grows unasked =
+    let here = way_dir mid.blobs d e p (drop i p) x is way in
+    others_then (λ a. way_still mid.blobs new.blobs d p a grows.kept) (way_here mid.blobs new.blobs d e p i lt here grows.kept) only (others_at grows unasked)
+
+-- ---- unfolding
+
+-- a node that was found is found still
+found_still : {B C : Blobs} → Grows B C → (p : List Name) (o : Option NodeValue) (x : NodeValue) → LooksFrom (TellsDirectory B) (FailsDirectory B) p o (found x) → LooksFrom (TellsDirectory C) (FailsDirectory C) p o (found x)
+found_still grows p None x h = h
+found_still grows [] (Some y) x h = h
+found_still grows (n ∷ p) (Some (File d e)) x h = h
+found_still grows (n ∷ p) (Some (Link t)) x h = h
+found_still grows (n ∷ p) (Some (Dir d)) x (inl h) = inl (h.0, told_still grows h.1, found_still grows p (child n h.0) x h.2)
+found_still grows (n ∷ p) (Some (Dir d)) x (inr h) = absurd (let is = h.2 in cc)
+
+pub unfold_still : {B C : Blobs} (d : DigestValue) (a : Asked) → Grows B C → UnfoldLooksAt B d a → UnfoldLooksAt C d a
+unfold_still d a grows h = (h.0, h.1, found_still grows h.0 (Some (Dir d)) (Dir h.1) h.2, h.3)
+
+-- the root, and what is below a child
+pub unfold_here : {B : Blobs} (d : DigestValue) (a : Asked) → LooksAtBlob d a → UnfoldLooksAt B d a
+unfold_here d a h = ([], d, refl, h)
+
+pub unfold_child : (B : Blobs) (d e : DigestValue) (m : DirectoryValue) (n : Name) (a : Asked) → TellsDirectory B d m → child {A = Unit {0}} n m ≡ Some (Dir e) → UnfoldLooksAt B e a → UnfoldLooksAt B d a
+unfold_child B d e m n a told is h = (n ∷ h.0, h.1, looks_below B d e m n h.0 (found (Dir h.1)) told is h.2, h.3)
 
 -- ---- comparisons
 

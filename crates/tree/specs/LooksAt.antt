@@ -1,4 +1,5 @@
--- What a look-up and a comparison look at: by what a source tells, the Directories on their way.
+-- What a look-up, unfolding and a comparison look at: by what a source tells, the Directories on
+-- their way.
 use Rattle.std.specs.Prelude.{◌⊎◌, ℕ, zero, suc, List, [], ◌∷◌, Option, Some, None}
 use Rattle.blob_digest.specs.Digest.{DigestValue}
 use Rattle.messages.specs.declared.node.Node.TheVariants.{File, Link, Dir}
@@ -9,6 +10,7 @@ use Rattle.tree.specs.Form.{NodeValue}
 use Rattle.blob_source.specs.Source.{Blobs}
 use Rattle.blob_source.specs.Told.{TellsDirectory}
 use Rattle.tree.specs.Difference.{IsNoneOf, ReadsDirectory, child_of, IsFirstName}
+use Rattle.tree.specs.Lookup.{Looks, found}
 use Rattle.tree.specs.Memo.{Asked, LooksAtBlob}
 
 -- on the way of a look-up of names from a node: each directory that has a name below it
@@ -23,6 +25,11 @@ OnWayFrom B (n ∷ p) (Some (Dir d)) a =
 -- from the directory with a digest
 abbrev pub OnWay : Blobs → DigestValue → List Name → Asked → Type 0
 OnWay B d p a = OnWayFrom B p (Some (Dir d)) a
+
+-- unfolding: each directory that a look-up finds
+abbrev pub UnfoldLooksAt : Blobs → DigestValue → Asked → Type 0
+UnfoldLooksAt B d a =
+    (p : List Name) × (e : DigestValue) × Looks B d p (found (Dir e)) × LooksAtBlob e a
 
 -- A Directory that the graft made is its own, and no source is looked at for it.
 abbrev pub LooksAtOther : List (List ℕ) → DigestValue → Asked → Type 0

@@ -23,7 +23,7 @@ LooksAtResult d a = a ≡ result d
 
 -- No other blob is asked for than those that are looked at: each is told as before. A call that
 -- asks for one may tell more, so none does.
-pub record LeavesOthers (Looks : Asked → Type 0) (old new : Blobs) : Type 0 where
+pub record AsksNoOther (Looks : Asked → Type 0) (old new : Blobs) : Type 0 where
   pub same : (d : DigestValue) → (Looks (blob d) → ⊥) → new d ≡ old d
 
 -- the bytes that are known of what may be asked for

@@ -38,7 +38,7 @@ unlike_entries =
     (codes "a" ∷ [], empty_file) ∷ (codes "a" ∷ codes "b" ∷ [], empty_file) ∷ []
 
 -- what is asked of lines and of the entries that they stand for
-pub record CanBeTold (B : Blobs) (ls : MergeLines) (es : TreeLines) : Type 0 where
+pub record MeetsPremises (B : Blobs) (ls : MergeLines) (es : TreeLines) : Type 0 where
   pub held : AreHeld ls
   pub stand : GiveNodesOf ls es
   pub apart : NoClash (IsOfMerge B ls es)

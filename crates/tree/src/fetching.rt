@@ -1,4 +1,4 @@
-ghost use Rattle.std.specs.Prelude.{◌≡◌, IfOk, IfErr, IsErrOf};
+ghost use Rattle.std.specs.Prelude.{◌≡◌, IfOk, IfErr, IsErrOf, IsOk};
 ghost use Rattle.blob_digest.specs.Digest.{empty_digest};
 ghost use Rattle.blob_source.specs.Source.{Asks, GrowsAt, IsBlobUnder};
 ghost use Rattle.blob_source.specs.Called.{Calls};
@@ -44,6 +44,7 @@ pub fn fetch_content<A: Allocator + Copy, S: BlobSource<A>>(
         (IsErrOf result TreeError.Fetch) }
     ensures only { GrowsAt digest.now (S.tells source.old).blobs (S.tells source.new).blobs }
     ensures unasked { digest.now ≡ empty_digest → S.tells source.new ≡ S.tells source.old }
+    ensures empty { digest.now ≡ empty_digest → IsOk result }
 {
     match fetch_blob(alloc, source, digest)? {
         Fetched::Missing => Err(TreeError::BlobMissing(*digest)),

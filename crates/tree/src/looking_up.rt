@@ -1,10 +1,10 @@
-ghost use Rattle.std.specs.Prelude.{◌≡◌, IfOk, IfErr, IsErrOf, length, option_map};
+ghost use Rattle.std.specs.Prelude.{◌≡◌, IfOk, IfErr, IsErrOf, IsNone, Ok, length, option_map};
 ghost use Rattle.blob_source.specs.Source.{Asks};
 ghost use Rattle.blob_source.specs.Called.{Calls};
 ghost use Rattle.tree.specs.Form.{node_value};
 ghost use Rattle.tree.specs.Lookup.{Looks, TellsOfTrees, found, nothing, names_in, looked};
 ghost use Rattle.tree.specs.LooksAt.{OnWay};
-ghost use Rattle.tree.specs.Memo.{LeavesOthers};
+ghost use Rattle.tree.specs.Memo.{AsksNoOther};
 ghost use Rattle.tree.specs.TreeError.{ExplainsLookup, IsAbsent};
 
 use crate::error::TreeError;
@@ -29,6 +29,8 @@ pub fn lookup<A: Allocator + Copy, S: BlobSource<A>>(
         (names_in (option_map (λ p. p.now) path.entry)) (found (node_value x))) }
     ensures refused { IfErr result (ExplainsLookup (S.tells source.new).blobs root.now
         (names_in (option_map (λ p. p.now) path.entry))) }
+    // The root itself takes no memory.
+    ensures root { IsNone path.entry → result ≡ Ok (Node.Dir root.now) }
     // What that says of every tree with this root.
     ensures of_trees { IfOk result (λ x. TellsOfTrees (S.tells source.new).blobs root.now
         (names_in (option_map (λ p. p.now) path.entry)) (found (node_value x))) }
@@ -37,7 +39,7 @@ pub fn lookup<A: Allocator + Copy, S: BlobSource<A>>(
     ensures called { Calls (Asks (length (names_in (option_map (λ p. p.now) path.entry))))
         (S.tells source.old) (S.tells source.new) (IsErrOf result TreeError.Fetch) }
     // Nothing is asked for but the Directories on the way.
-    ensures only { LeavesOthers (OnWay (S.tells source.new).blobs root.now
+    ensures only { AsksNoOther (OnWay (S.tells source.new).blobs root.now
         (names_in (option_map (λ p. p.now) path.entry)))
         (S.tells source.old).blobs (S.tells source.new).blobs }
 {
@@ -59,7 +61,7 @@ fn look_up<A: Allocator + Copy, S: BlobSource<A>>(
         (ExplainsLookup (S.tells source.new).blobs root.now path.now) }
     ensures called { Calls (Asks (length path.now)) (S.tells source.old) (S.tells source.new)
         (IsErrOf result TreeError.Fetch) }
-    ensures only { LeavesOthers (OnWay (S.tells source.new).blobs root.now path.now)
+    ensures only { AsksNoOther (OnWay (S.tells source.new).blobs root.now path.now)
         (S.tells source.old).blobs (S.tells source.new).blobs }
 {
     let names = path.to_names(alloc)?;
@@ -82,7 +84,7 @@ fn descend<A: Allocator + Copy, S: BlobSource<A>>(
         (ExplainsLookup (S.tells source.new).blobs root.now names.now) }
     ensures called { Calls (Asks (length names.now)) (S.tells source.old) (S.tells source.new)
         (IsErrOf result TreeError.Fetch) }
-    ensures only { LeavesOthers (OnWay (S.tells source.new).blobs root.now names.now)
+    ensures only { AsksNoOther (OnWay (S.tells source.new).blobs root.now names.now)
         (S.tells source.old).blobs (S.tells source.new).blobs }
 {
     let mut node = Node::Dir(*root);

@@ -7,7 +7,7 @@ ghost use Rattle.tree.specs.Merge.{IsMergeOf, TreeLines, TellsMerge};
 ghost use Rattle.tree.specs.Merging.{NodeWithin, MergeFault, MergeLines, AreHeld, nodes_in};
 ghost use Rattle.tree.specs.Merging.{conflict, merged};
 ghost use Rattle.tree.specs.MergeAgrees.{TellsOfMerges};
-ghost use Rattle.tree.specs.MergeExample.{CanBeTold, always_empty, lines_of_entries, met_tree};
+ghost use Rattle.tree.specs.MergeExample.{MeetsPremises, always_empty, lines_of_entries, met_tree};
 ghost use Rattle.tree.specs.MergeExample.{meeting_entries, unlike_entries};
 ghost use Rattle.tree.specs.MergeLooks.{MergeLooksAt};
 ghost use Rattle.tree.specs.Memo.{Asked};
@@ -57,9 +57,9 @@ pub fn merges_tell_of_trees()
 /// Lines that meet, and lines that conflict, meet the premises of `merges_tell_of_trees`. A law: it
 /// does nothing.
 pub fn merges_meet_the_premises()
-    ensures meet { CanBeTold always_empty (lines_of_entries meeting_entries) meeting_entries }
+    ensures meet { MeetsPremises always_empty (lines_of_entries meeting_entries) meeting_entries }
     ensures met { (merged always_empty (lines_of_entries meeting_entries)).passes met_tree }
-    ensures unlike { CanBeTold always_empty (lines_of_entries unlike_entries) unlike_entries }
+    ensures unlike { MeetsPremises always_empty (lines_of_entries unlike_entries) unlike_entries }
     ensures refused { (merged always_empty (lines_of_entries unlike_entries)).fails
         (conflict (codes "a" ∷ [])) }
 {}

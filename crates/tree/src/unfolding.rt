@@ -8,6 +8,8 @@ ghost use Rattle.messages.specs.Path.{IsPath};
 ghost use Rattle.blob_source.specs.Called.{Called};
 ghost use Rattle.tree.specs.FlatTree.{IsFlatTree, flat_value};
 ghost use Rattle.tree.specs.Lookup.{names_in};
+ghost use Rattle.tree.specs.LooksAt.{UnfoldLooksAt};
+ghost use Rattle.tree.specs.Memo.{AsksNoOther};
 ghost use Rattle.tree.specs.Unfolded.{IsUnfolded, ExplainsUnfold, directories_in};
 ghost use Rattle.tree.specs.Unfolding.{child_values, made, AreChildren, ExplainsChild, Appends};
 
@@ -139,6 +141,8 @@ fn unfold_below<A: Allocator + Copy, S: BlobSource<A>>(
         (ExplainsUnfold (S.tells source.new).blobs digest.now (names_in above.now)) }
     ensures called { Called (S.tells source.old) (S.tells source.new)
         (IsErrOf result TreeError.Fetch) }
+    ensures only { AsksNoOther (UnfoldLooksAt (S.tells source.new).blobs digest.now)
+        (S.tells source.old).blobs (S.tells source.new).blobs }
     ensures few { OnOk result
         ((S.tells source.new).calls + directories_in (flat_value entries.old.items)
         ≤ (S.tells source.old).calls + 1 + directories_in (flat_value entries.new.items)) }
@@ -185,6 +189,9 @@ pub fn unfold<A: Allocator + Copy, S: BlobSource<A>>(
     ensures refused { IfErr result (ExplainsUnfold (S.tells source.new).blobs root.now []) }
     ensures called { Called (S.tells source.old) (S.tells source.new)
         (IsErrOf result TreeError.Fetch) }
+    // Nothing is asked for but the Directories of the tree.
+    ensures only { AsksNoOther (UnfoldLooksAt (S.tells source.new).blobs root.now)
+        (S.tells source.old).blobs (S.tells source.new).blobs }
     // At most one call for the root and for each directory in it.
     ensures few { IfOk result (λ tree.
         (S.tells source.new).calls ≤ (S.tells source.old).calls + 1 + directories_in tree) }

@@ -1,4 +1,4 @@
-ghost use Rattle.std.specs.Prelude.{◌≡◌, IfOk, IfErr, IsErrOf, length, option_map};
+ghost use Rattle.std.specs.Prelude.{◌≡◌, IfOk, IfErr, IsErrOf, IsNone, Ok, length, option_map};
 ghost use Rattle.blob_source.specs.Source.{Asks};
 ghost use Rattle.blob_source.specs.Called.{Calls};
 ghost use Rattle.tree.specs.Form.{node_value};
@@ -31,6 +31,8 @@ impl<A: Allocator + Copy> Memo<A> {
             (names_in (option_map (λ p. p.now) path.entry)) (found (node_value x))) }
         ensures refused { IfErr result (ExplainsLookup (S.tells source.new).blobs root.now
             (names_in (option_map (λ p. p.now) path.entry))) }
+        // The root itself takes no memory.
+        ensures root { IsNone path.entry → result ≡ Ok (Node.Dir root.now) }
         ensures of_trees { IfOk result (λ x. TellsOfTrees (S.tells source.new).blobs root.now
             (names_in (option_map (λ p. p.now) path.entry)) (found (node_value x))) }
         ensures absent { IfErr result (λ e. IsAbsent e → TellsOfTrees (S.tells source.new).blobs

@@ -6,8 +6,7 @@ use Rattle.messages.specs.Node.{child}
 use Rattle.blob_source.proofs.Asking.{asks_more, asks_then, ok_no_error}
 use Rattle.blob_source.proofs.Calling.{called_exit, called_no, calls_on}
 use Rattle.tree.proofs.Descent.{goes_dir, goes_child, goes_nowhere, goes_wrong}
-use Rattle.tree.proofs.Leaving.{others_at, others_then}
-use Rattle.tree.proofs.Ways.{way_dir, way_still, way_here, way_child}
+use Rattle.tree.proofs.Ways.{way_dir, way_child, others_on_way}
 use Rattle.tree.proofs.looking_up.descend.Goals as goal
 
 pub returns-in_err-directory-clause-refused : goal.returns-in_err-directory-clause-refused
@@ -37,27 +36,15 @@ returns-in-None-clause-called g c =
 
 pub returns-in_err-directory-clause-only : goal.returns-in_err-directory-clause-only
 returns-in_err-directory-clause-only g c =
-    let grows = c.fetch_message.ensures.called.asked.some.blobs in
-    let way = way_dir _ c.args.root.now c.in-Dir.digest c.args.names.now _ c.loop-name.node c.in-Dir.is c.loop-name.invariant.way in
-    others_then (λ a. way_still _ _ c.args.root.now c.args.names.now a grows)
-    (way_here _ _ c.args.root.now c.in-Dir.digest c.args.names.now c.loop-name.name-index c.loop-name-test.true way grows) c.loop-name.invariant.only
-    (others_at c.fetch_message.ensures.only c.fetch_message.ensures.unasked)
+    others_on_way c.args.root.now c.in-Dir.digest c.args.names.now c.loop-name.name-index c.loop-name.node c.loop-name-test.true c.in-Dir.is c.loop-name.invariant.way c.loop-name.invariant.only c.fetch_message.ensures.only c.fetch_message.ensures.unasked
 
 pub returns-in_err-next-clause-only : goal.returns-in_err-next-clause-only
 returns-in_err-next-clause-only g c =
-    let grows = c.fetch_message.ensures.called.asked.some.blobs in
-    let way = way_dir _ c.args.root.now c.in-Dir.digest c.args.names.now _ c.loop-name.node c.in-Dir.is c.loop-name.invariant.way in
-    others_then (λ a. way_still _ _ c.args.root.now c.args.names.now a grows)
-    (way_here _ _ c.args.root.now c.in-Dir.digest c.args.names.now c.loop-name.name-index c.loop-name-test.true way grows) c.loop-name.invariant.only
-    (others_at c.fetch_message.ensures.only c.fetch_message.ensures.unasked)
+    others_on_way c.args.root.now c.in-Dir.digest c.args.names.now c.loop-name.name-index c.loop-name.node c.loop-name-test.true c.in-Dir.is c.loop-name.invariant.way c.loop-name.invariant.only c.fetch_message.ensures.only c.fetch_message.ensures.unasked
 
 pub returns-in-None-clause-only : goal.returns-in-None-clause-only
 returns-in-None-clause-only g c =
-    let grows = c.fetch_message.ensures.called.asked.some.blobs in
-    let way = way_dir _ c.args.root.now c.in-Dir.digest c.args.names.now _ c.loop-name.node c.in-Dir.is c.loop-name.invariant.way in
-    others_then (λ a. way_still _ _ c.args.root.now c.args.names.now a grows)
-    (way_here _ _ c.args.root.now c.in-Dir.digest c.args.names.now c.loop-name.name-index c.loop-name-test.true way grows) c.loop-name.invariant.only
-    (others_at c.fetch_message.ensures.only c.fetch_message.ensures.unasked)
+    others_on_way c.args.root.now c.in-Dir.digest c.args.names.now c.loop-name.name-index c.loop-name.node c.loop-name-test.true c.in-Dir.is c.loop-name.invariant.way c.loop-name.invariant.only c.fetch_message.ensures.only c.fetch_message.ensures.unasked
 
 pub loop-name-preserved : goal.loop-name-preserved
 loop-name-preserved g c =
@@ -70,7 +57,5 @@ loop-name-preserved g c =
           (sym c.in-Some.is ∙ (c.in_ok-next.ensures {u = tt}).exact ∙ ap (λ n. child n c.in_ok-directory.directory) c.as_bytes.ensures.value);
       way = way_child _ _ c.args.root.now c.in-Dir.digest c.args.names.now c.loop-name.name-index c.loop-name-test.true way grows c.name-item.result _ (Some c.in-Some.next) c.in_ok-directory.ensures.told c.name-item.is
           (sym c.in-Some.is ∙ (c.in_ok-next.ensures {u = tt}).exact ∙ ap (λ n. child n c.in_ok-directory.directory) c.as_bytes.ensures.value);
-      only = others_then (λ a. way_still _ _ c.args.root.now c.args.names.now a grows)
-          (way_here _ _ c.args.root.now c.in-Dir.digest c.args.names.now c.loop-name.name-index c.loop-name-test.true way grows) c.loop-name.invariant.only
-          (others_at c.fetch_message.ensures.only c.fetch_message.ensures.unasked);
+      only = others_on_way c.args.root.now c.in-Dir.digest c.args.names.now c.loop-name.name-index c.loop-name.node c.loop-name-test.true c.in-Dir.is c.loop-name.invariant.way c.loop-name.invariant.only c.fetch_message.ensures.only c.fetch_message.ensures.unasked;
     }

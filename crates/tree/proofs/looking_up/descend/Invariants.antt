@@ -4,7 +4,7 @@ use Rattle.tree.specs.Form.{node_value}
 use Rattle.blob_source.specs.Source.{Asks}
 use Rattle.blob_source.specs.Called.{Calls}
 use Rattle.tree.specs.LooksAt.{OnWay}
-use Rattle.tree.specs.Memo.{LeavesOthers}
+use Rattle.tree.specs.Memo.{AsksNoOther}
 use Rattle.tree.proofs.Descent.{GoesOn}
 use Rattle.tree.proofs.Ways.{WayGoesOn}
 use Rattle.tree.proofs.looking_up.descend.Given as goal
@@ -16,5 +16,5 @@ invariant-loop-name g l =
       called : Calls (Asks l.name-index) (tells l.fn.source) (tells l.source) ⊥;
       goes : GoesOn (tells l.source).blobs l.root l.names (Some (node_value l.node)) (drop l.name-index l.names);
       way : WayGoesOn (tells l.source).blobs l.root l.names (Some (node_value l.node)) (drop l.name-index l.names);
-      only : LeavesOthers (OnWay (tells l.source).blobs l.root l.names) (tells l.fn.source).blobs (tells l.source).blobs;
+      only : AsksNoOther (OnWay (tells l.source).blobs l.root l.names) (tells l.fn.source).blobs (tells l.source).blobs;
     }
