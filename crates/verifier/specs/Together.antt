@@ -112,7 +112,8 @@ resolved blobs sources earlier lines = record {
 abbrev pub put_together : Blobs → DigestValue → Earlier → List LineValue
     → Stage LinesFault (Tree NodeValue)
 put_together blobs sources earlier lines =
-    resolved blobs sources earlier lines and_then λ nodes. with_faults_named of_merge (merged blobs nodes)
+    resolved blobs sources earlier lines and_then λ nodes.
+    with_faults_named of_merge (merged blobs nodes)
 
 -- Why lines weren't put together: their first fault, unless the source failed or memory ran out.
 abbrev pub ExplainsLines : {A : Type 0} → (LinesFault → Type 0) → TreeError A → Type 0
