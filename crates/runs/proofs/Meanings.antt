@@ -1,20 +1,22 @@
 -- The frames and commands of steps, one after another, while the source tells more and more.
 use Rattle.std.proofs.Common.{◌≡◌, ℕ, zero, suc, ◌+◌, ◌*◌, ◌<◌, ◌≤◌, false, List, [], ◌∷◌, ◌++◌, length, get_or, Some, refl, ap, sym, ◌∙◌, subst, arith, inl, inr}
 use Rattle.std.specs.Prelude.{◌⊎◌, slice_get}
+use Rattle.std.proofs.lemmas.Bool.{cases_lt}
 use Rattle.std.proofs.lemmas.List.{length-append}
 use Rattle.std.proofs.lemmas.Option.{slice_get_within}
 use Rattle.blob_digest.specs.Digest.{DigestValue}
 use Rattle.action_messages.specs.Command.{CommandValue, IsCommand, command_bytes}
 use Rattle.action_messages.specs.Frame.{FrameValue, IsFrame, frame_bytes}
 use Rattle.plan.specs.Values.{StepValue}
-use Rattle.blob_source.specs.Source.{Blobs, Grows}
+use Rattle.blob_source.specs.Source.{Blobs, Grows, Telling}
 use Rattle.blob_source.specs.Told.{IsTold, Fault, IsFault}
 use Rattle.tree.specs.declared.error.TreeError.{TreeError}
 use Rattle.tree.specs.declared.error.TreeError.TheVariants as tree
 use Rattle.tree.proofs.Descent.{told_still}
+use Rattle.tree.proofs.LookupOnce.{told_or_fault}
 use Rattle.runs.specs.declared.error.OpenError.{OpenError}
 use Rattle.runs.specs.declared.error.OpenError.TheVariants as opening
-use Rattle.runs.specs.Calls.{TellsStep, AreToldBefore, IsUntold, IsOpeningFault, IsOpenFault, opening_calls}
+use Rattle.runs.specs.Calls.{TellsStep, AreToldBefore, IsUntold, IsOpeningFault, IsOpenFault, StopsAtFrame, opening_calls}
 use Rattle.verifier.proofs.FreshRuns.{one_answer}
 use Rattle.runs.proofs.Places.{element_at, has_one}
 
@@ -68,6 +70,13 @@ told_next B C steps i fs cs s f c lt is so g told cached =
         let one : r ≡ s = one_answer (slice_get steps i) r s (subst (λ n. slice_get steps n ≡ Some r) number at) (element_at steps i s lt is) in
         subst (λ (x : FrameValue). TellsStep C r x y × (x.do_not_cache ≡ false)) (sym h.1) (subst (λ y. TellsStep C r f y × (f.do_not_cache ≡ false)) (sym j.1) (subst (λ r. TellsStep C r f c × (f.do_not_cache ≡ false)) (sym one) (told, cached)))
 
+so_still : (B C : Blobs) (steps : List StepValue) (i : ℕ) (fs : List FrameValue) (cs : List CommandValue) → Grows B C → ToldSoFar B steps i fs cs → ToldSoFar C steps i fs cs
+so_still B C steps i fs cs g so = record {
+  frames_count = so.frames_count;
+  commands_count = so.commands_count;
+  each = λ k s f c a b d. let told = so.each k s f c a b d in (step_still B C s f c g told.0, told.1);
+}
+
 -- ---- the first fault
 
 told_before : (B C : Blobs) (steps : List StepValue) (i : ℕ) (fs : List FrameValue) (cs : List CommandValue) → ToldSoFar B steps i fs cs → Grows B C → AreToldBefore C steps i
@@ -108,3 +117,35 @@ opening_last B steps i s (opening.DoNotCache j) old mid new lt first step frame 
 opening_last B steps i s (opening.DoNotCache j) old mid new lt first step frame (inr (f, told, inl h)) =
     let same : j ≡ i = let is = h.1 in cc in let one = frame j refl in omega (arith, same, first, one)
 opening_last B steps i s (opening.DoNotCache j) old mid new lt first step frame (inr (f, told, inr h)) = absurd h.1
+
+-- ---- where a frame isn't told
+
+-- the steps so far are told: a later one is at fault
+behind : (C : Blobs) (steps : List StepValue) (n : ℕ) (fs : List FrameValue) (cs : List CommandValue) → ToldSoFar C steps n fs cs → (i : ℕ) (s : StepValue) (f : Fault) → slice_get steps i ≡ Some s → IsFault IsFrame frame_bytes C s.frame f → n ≤ i
+behind C steps n fs cs so i s f at fault = elim (cases_lt i n) [
+  | inl early ↦
+      let told = told_before C C steps n fs cs so (λ d b is. is) i s early at in
+      absurd (told_or_fault IsFrame frame_bytes C s.frame told.0 f told.2.frame fault)
+  | inr late ↦ late
+]
+
+pub stops_behind : (steps : List StepValue) (n : ℕ) (fs : List FrameValue) (cs : List CommandValue) (old new : Telling) → ToldSoFar new.blobs steps n fs cs → new.calls ≤ old.calls + 2 * n → StopsAtFrame steps old new
+stops_behind steps n fs cs old new so few = record {
+  few = λ i s f at before fault. let late = behind new.blobs steps n fs cs so i s f at fault in omega (arith, few, late);
+}
+
+-- the next step isn't told, and its frame was the last
+pub stops_here : (steps : List StepValue) (n : ℕ) (fs : List FrameValue) (cs : List CommandValue) (s : StepValue) (old mid new : Telling) → n < length steps → s ≡ get_or steps n s → ToldSoFar mid.blobs steps n fs cs → Grows mid.blobs new.blobs
+    → mid.calls ≤ old.calls + 2 * n → new.calls ≤ mid.calls + 2 → ((f : Fault) → IsFault IsFrame frame_bytes new.blobs s.frame f → new.calls ≤ mid.calls + 1) → StopsAtFrame steps old new
+stops_here steps n fs cs s old mid new lt is so g first step frame = record {
+  few = λ i r f at before fault.
+      let late = behind new.blobs steps n fs cs (so_still mid.blobs new.blobs steps n fs cs g so) i r f at fault in
+      elim (cases_lt n i) [
+        | inl later ↦ omega (arith, first, step, later)
+        | inr here ↦
+            let same : i ≡ n = omega (arith, late, here) in
+            let one : r ≡ s = one_answer (slice_get steps n) r s (subst (λ k. slice_get steps k ≡ Some r) same at) (element_at steps n s lt is) in
+            let own = frame f (subst (λ (r : StepValue). IsFault IsFrame frame_bytes new.blobs r.frame f) one fault) in
+            omega (arith, first, own, same)
+      ];
+}

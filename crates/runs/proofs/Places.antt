@@ -6,7 +6,8 @@ use Rattle.std.specs.Option.{option_copied}
 use Rattle.std.specs.Map.{lookup, remove_entry}
 use Rattle.std.proofs.lemmas.Bool.Decides.{Decides-eqb}
 use Rattle.actions.specs.Outcome.{OutcomeValue}
-use Rattle.runs.specs.Engine.{FinishedValue, at_number}
+use Rattle.plan.specs.Values.{StepValue}
+use Rattle.runs.specs.Engine.{EngineValue, FinishedValue, at_number}
 use Rattle.runs.specs.Looking.{outcomes_in}
 
 pub some_none : {X : Type 0} (o : Option X) (x : X) → o ≡ Some x → o ≡ None → ⊥
@@ -152,3 +153,9 @@ finished_of fs i o = by (at_number fs i) refl
     by : (q : Option FinishedValue) → at_number fs i ≡ q → option_map (λ (f : FinishedValue). f.outcome) q ≡ Some o → (f : FinishedValue) × (at_number fs i ≡ Some f) × (f.outcome ≡ o)
     by None is h = cc
     by (Some f) is h = (f, is, cc)
+
+-- a step of an engine's plan, by its number
+pub step_at : {inside e : EngineValue} {i : ℕ} {s : StepValue} {steps : List StepValue} → inside ≡ e → i < length e.plan.steps → s ≡ get_or steps i s → steps ≡ inside.plan.steps → slice_get e.plan.steps i ≡ Some s
+step_at {inside} {e} {i} {s} view lt is same =
+    let within = subst (λ (e : EngineValue). i < length e.plan.steps) (sym view) lt in
+    ap (λ (e : EngineValue). slice_get e.plan.steps i) (sym view) ∙ element_at inside.plan.steps i s within (is ∙ ap (λ ss. get_or ss i s) same)

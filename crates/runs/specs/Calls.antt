@@ -1,7 +1,7 @@
 -- What each call of an engine does, by digests alone.
-use Rattle.std.specs.Prelude.{zero, suc, ◌≡◌, ◌≢◌, ◌⊎◌, ℕ, ◌+◌, ◌*◌, ◌<◌, ◌==◌, if◌then◌else◌, pos}
-use Rattle.std.specs.Prelude.{true, false, List, [], ◌∷◌, length, Option, Some, None, option_map}
-use Rattle.std.specs.Prelude.{slice_get, set, IsSome, Contains}
+use Rattle.std.specs.Prelude.{zero, suc, ◌≡◌, ◌≢◌, ◌⊎◌, ℕ, ◌+◌, ◌*◌, ◌<◌, ◌≤◌, ◌==◌, if◌then◌else◌}
+use Rattle.std.specs.Prelude.{pos, true, false, List, [], ◌∷◌, length, Option, Some, None}
+use Rattle.std.specs.Prelude.{option_map, slice_get, set, IsSome, Contains}
 use Rattle.std.specs.List.{AllByRecursion}
 use Rattle.blob_digest.specs.Digest.{DigestValue, digest_of}
 use Rattle.action_messages.specs.Action.{action_bytes}
@@ -13,7 +13,7 @@ use Rattle.plan.specs.Values.{StepValue, PlanValue}
 use Rattle.tree.specs.Tree.{Tree}
 use Rattle.tree.specs.Form.{NodeValue, root}
 use Rattle.tree.specs.Folded.{IsFoldOf}
-use Rattle.blob_source.specs.Source.{Blobs}
+use Rattle.blob_source.specs.Source.{Blobs, Telling}
 use Rattle.blob_source.specs.Told.{IsTold, Fault, IsFault}
 use Rattle.runs.specs.declared.error.RunsError.{RunsError}
 use Rattle.runs.specs.declared.error.RunsError.TheVariants as errors
@@ -86,6 +86,12 @@ abbrev pub opening_calls : {A : Type 0} → ℕ → OpenError A → ℕ
 opening_calls steps (opening.Source i why) = 2 * i + 2
 opening_calls steps (opening.DoNotCache i) = 2 * i + 1
 opening_calls steps opening.Memory = 2 * steps
+
+-- a step's frame that isn't told is the last that is asked for
+pub record StopsAtFrame (steps : List StepValue) (old new : Telling) : Type 0 where
+  pub few : (i : ℕ) (s : StepValue) (f : Fault) → slice_get steps i ≡ Some s
+      → AreToldBefore new.blobs steps i → IsFault IsFrame frame_bytes new.blobs s.frame f
+      → new.calls ≤ old.calls + (2 * i + 1)
 
 -- ---- losing
 

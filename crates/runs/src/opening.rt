@@ -5,9 +5,9 @@ ghost use Rattle.runs.specs.Ties.{IsOpening};
 ghost use Rattle.action_messages.specs.Command.{IsCommand, command_bytes};
 ghost use Rattle.action_messages.specs.Frame.{IsFrame, frame_bytes};
 ghost use Rattle.blob_source.specs.Called.{Called};
-ghost use Rattle.blob_source.specs.Told.{IsTold, IsFault};
+ghost use Rattle.blob_source.specs.Told.{IsTold, Fault, IsFault};
 ghost use Rattle.runs.specs.Calls.{TellsStep, AreTold, IsUntold, IsOpeningFault, IsOpened};
-ghost use Rattle.runs.specs.Calls.{IsOpenFault, opening_calls};
+ghost use Rattle.runs.specs.Calls.{IsOpenFault, StopsAtFrame, opening_calls};
 
 use crate::engine::{Engine, Finished};
 use crate::error::OpenError;
@@ -64,6 +64,9 @@ fn read_step<A: Allocator + Copy, S: BlobSource<A>>(
     ensures few { (S.tells source.new).calls ≤ (S.tells source.old).calls + 2 }
     ensures frame { (i : ℕ) → IsErrOf result (OpenError.DoNotCache i)
         → (S.tells source.new).calls ≤ (S.tells source.old).calls + 1 }
+    ensures untold { (f : Fault)
+        → IsFault IsFrame frame_bytes (S.tells source.new).blobs step.now.frame f
+        → (S.tells source.new).calls ≤ (S.tells source.old).calls + 1 }
 {
     let frame: Frame<A> = read_message(alloc, number, &step.frame, source)?;
     if frame.do_not_cache() {
@@ -95,6 +98,7 @@ fn read_steps<A: Allocator + Copy, S: BlobSource<A>>(
         ≤ (S.tells source.old).calls + 2 * length steps.now }
     ensures last { IfErr result (λ e. (S.tells source.new).calls
         ≤ (S.tells source.old).calls + opening_calls (length steps.now) e) }
+    ensures frame { StopsAtFrame steps.now (S.tells source.old) (S.tells source.new) }
 {
     let mut frames = Vec::new(alloc);
     let mut commands = Vec::new(alloc);
@@ -143,6 +147,7 @@ impl<'p, A: Allocator + Copy> Engine<'p, A> {
             ≤ (S.tells source.old).calls + 2 * length plan.now.steps }
         ensures last { IfErr result (λ e. (S.tells source.new).calls
             ≤ (S.tells source.old).calls + opening_calls (length plan.now.steps) e) }
+        ensures frame { StopsAtFrame plan.now.steps (S.tells source.old) (S.tells source.new) }
     {
         let meanings = read_steps(alloc, plan.steps(), source)?;
         let finished = none_finished(alloc, plan.steps().len())?;

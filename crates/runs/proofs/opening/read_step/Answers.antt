@@ -4,6 +4,7 @@ use Rattle.action_messages.specs.Command.{IsCommand, command_bytes}
 use Rattle.action_messages.specs.Frame.{IsFrame, frame_bytes}
 use Rattle.plan.specs.Values.{StepValue}
 use Rattle.blob_source.specs.Told.{IsTold, IsFault}
+use Rattle.tree.proofs.LookupOnce.{told_or_fault}
 use Rattle.runs.proofs.Meanings.{frame_still}
 use Rattle.blob_source.proofs.Asking.{ok_no_error}
 use Rattle.blob_source.proofs.Calling.{called_no}
@@ -32,3 +33,11 @@ returns-clause-told g c = record {
 
 pub returns-clause-called : goal.returns-clause-called
 returns-clause-called g c = opening_ok c.in_ok-frame.ensures.called (called_no (λ f. ok_no_error f.1) (λ f. ok_no_error f.1) c.in_ok-command.ensures.called)
+
+pub returns-in_err-command-clause-untold : goal.returns-in_err-command-clause-untold
+returns-in_err-command-clause-untold g c f fault = absurd (told_or_fault IsFrame frame_bytes (g.S.BlobSource.tells c.read_message-2.new.source).blobs c.args.step.now.frame c.in_ok-frame.frame f
+    (frame_still (g.S.BlobSource.tells c.read_message.new.source).blobs (g.S.BlobSource.tells c.read_message-2.new.source).blobs c.args.step.now.frame c.in_ok-frame.frame c.read_message-2.ensures.called.asked.blobs (subst (λ (s : StepValue). IsTold IsFrame frame_bytes (g.S.BlobSource.tells c.read_message.new.source).blobs s.frame c.in_ok-frame.frame) c.step.view_is c.in_ok-frame.ensures.told)) fault)
+
+pub returns-clause-untold : goal.returns-clause-untold
+returns-clause-untold g c f fault = absurd (told_or_fault IsFrame frame_bytes (g.S.BlobSource.tells c.read_message-2.new.source).blobs c.args.step.now.frame c.in_ok-frame.frame f
+    (frame_still (g.S.BlobSource.tells c.read_message.new.source).blobs (g.S.BlobSource.tells c.read_message-2.new.source).blobs c.args.step.now.frame c.in_ok-frame.frame c.read_message-2.ensures.called.asked.blobs (subst (λ (s : StepValue). IsTold IsFrame frame_bytes (g.S.BlobSource.tells c.read_message.new.source).blobs s.frame c.in_ok-frame.frame) c.step.view_is c.in_ok-frame.ensures.told)) fault)

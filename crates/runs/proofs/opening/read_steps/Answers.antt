@@ -1,10 +1,10 @@
-use Rattle.std.proofs.Common.{◌≡◌, ◌∷◌, [], ◌++◌, ap, rules, arith}
+use Rattle.std.proofs.Common.{◌≡◌, ◌+◌, ◌∷◌, [], ◌++◌, ap, rules, arith}
 use Rattle.std.specs.Prelude.{Err}
 use Rattle.std.proofs.lemmas.Result.{err_from_is_err_and}
 use Rattle.blob_source.proofs.Asking.{ok_no_error}
 use Rattle.blob_source.proofs.Calling.{called_none, called_no, called_on}
 use Rattle.runs.proofs.Fetching.{opening_on, opening_exit, opening_memory}
-use Rattle.runs.proofs.Meanings.{told_none, told_next, open_fault, opening_last}
+use Rattle.runs.proofs.Meanings.{told_none, told_next, open_fault, opening_last, stops_here, stops_behind}
 use Rattle.runs.proofs.opening.read_steps.Goals as goal
 
 pub returns-in_err-meaning-clause-faulty : goal.returns-in_err-meaning-clause-faulty
@@ -50,3 +50,30 @@ returns-in_err-meaning-clause-last g c =
     let p = err_from_is_err_and c.from_residual.result c.from_residual.ensures.1 in
     let tells = g.S.BlobSource.tells in
     rw (p.1, p.2) (opening_last (tells c.read_step.new.source).blobs c.args.steps.now c.loop-number.number c.index-steps-number.result c.in_err-meaning.field-0.0 (tells c.args.source.now).calls (tells c.loop-number.source).calls (tells c.read_step.new.source).calls c.loop-number-test.true c.loop-number.invariant.few c.in_err-meaning.ensures.few (λ j e. c.in_err-meaning.ensures.frame j (ap Err e)) c.in_err-meaning.ensures.faulty)
+
+pub returns-in_err-meaning-clause-frame : goal.returns-in_err-meaning-clause-frame
+returns-in_err-meaning-clause-frame g c =
+    let tells = g.S.BlobSource.tells in
+    stops_here c.args.steps.now c.loop-number.number c.loop-number.frames.items c.loop-number.commands.items c.index-steps-number.result (tells c.args.source.now) (tells c.loop-number.source) (tells c.read_step.new.source)
+    c.loop-number-test.true c.index-steps-number.is c.loop-number.invariant.told c.read_step.ensures.called.asked.blobs c.loop-number.invariant.few c.in_err-meaning.ensures.few c.in_err-meaning.ensures.untold
+
+pub returns-in_err-push-clause-frame : goal.returns-in_err-push-clause-frame
+returns-in_err-push-clause-frame g c =
+    let tells = g.S.BlobSource.tells in
+    stops_behind c.args.steps.now (c.loop-number.number + 1) (c.loop-number.frames.items ++ c.in_ok-meaning.meaning.frame ∷ []) (c.loop-number.commands.items ++ c.in_ok-meaning.meaning.command ∷ []) (tells c.args.source.now) (tells c.read_step.new.source)
+    (told_next (tells c.loop-number.source).blobs (tells c.read_step.new.source).blobs c.args.steps.now c.loop-number.number c.loop-number.frames.items c.loop-number.commands.items c.index-steps-number.result c.in_ok-meaning.meaning.frame c.in_ok-meaning.meaning.command
+    c.loop-number-test.true c.index-steps-number.is c.loop-number.invariant.told c.read_step.ensures.called.asked.blobs c.in_ok-meaning.ensures.told c.in_ok-meaning.ensures.cached)
+    (omega (arith, c.loop-number.invariant.few, c.in_ok-meaning.ensures.few))
+
+pub returns-in_err-push-2-clause-frame : goal.returns-in_err-push-2-clause-frame
+returns-in_err-push-2-clause-frame g c =
+    let tells = g.S.BlobSource.tells in
+    stops_behind c.args.steps.now (c.loop-number.number + 1) (c.loop-number.frames.items ++ c.in_ok-meaning.meaning.frame ∷ []) (c.loop-number.commands.items ++ c.in_ok-meaning.meaning.command ∷ []) (tells c.args.source.now) (tells c.read_step.new.source)
+    (told_next (tells c.loop-number.source).blobs (tells c.read_step.new.source).blobs c.args.steps.now c.loop-number.number c.loop-number.frames.items c.loop-number.commands.items c.index-steps-number.result c.in_ok-meaning.meaning.frame c.in_ok-meaning.meaning.command
+    c.loop-number-test.true c.index-steps-number.is c.loop-number.invariant.told c.read_step.ensures.called.asked.blobs c.in_ok-meaning.ensures.told c.in_ok-meaning.ensures.cached)
+    (omega (arith, c.loop-number.invariant.few, c.in_ok-meaning.ensures.few))
+
+pub returns-clause-frame : goal.returns-clause-frame
+returns-clause-frame g c =
+    let tells = g.S.BlobSource.tells in
+    stops_behind c.args.steps.now c.loop-number.number c.loop-number.frames.items c.loop-number.commands.items (tells c.args.source.now) (tells c.loop-number.source) c.loop-number.invariant.told c.loop-number.invariant.few
