@@ -1,5 +1,5 @@
 -- What is said of a stream: which connection it is, what was read of it, and what was sent to it.
-use Rattle.std.specs.Prelude.{◌≡◌, ℕ, ◌+◌, List, ◌++◌, Result}
+use Rattle.std.specs.Prelude.{◌≡◌, ℕ, zero, suc, ◌+◌, List, ◌++◌, Result}
 use Rattle.std.specs.IoError.{error_kind}
 use Rattle.std.specs.declared.io.Error.{Error}
 use Rattle.std.specs.declared.io.ErrorKind.TheVariants.{Interrupted, OutOfMemory, WouldBlock}
@@ -47,6 +47,15 @@ TakesPlace places old new = (free : ℕ) → places old (free + 1) → places ne
 -- one more is free
 abbrev pub GivesPlace : {N : Type 0} → (N → ℕ → Type 0) → N → N → Type 0
 GivesPlace places old new = (free : ℕ) → places old free → places new (free + 1)
+
+-- so long no byte has moved there as before
+abbrev pub StaysQuiet : {S : Type 0} → (S → ℕ → Type 0) → S → S → Type 0
+StaysQuiet quiet old new = (since : ℕ) → quiet old since → quiet new since
+
+-- after a call at this time that moved so many bytes
+abbrev pub IsQuietAfter : {S : Type 0} → (S → ℕ → Type 0) → ℕ → S → S → ℕ → Type 0
+IsQuietAfter quiet now old new zero = StaysQuiet quiet old new
+IsQuietAfter quiet now old new (suc count) = quiet new now
 
 -- no byte comes to be at hand there
 abbrev pub StaysDry : {S : Type 0} → (S → Type 0) → S → S → Type 0

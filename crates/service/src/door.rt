@@ -73,10 +73,10 @@ impl<S: Peer + Drop> Together<S> {
         ensures none { OnErr result (self.new.members.entries ≡ []) }
     {
         let number = *accepted;
-        let Some((stream, peer)) = self.next(rt, sockets, number)? else {
+        let now = self.timer.now(rt);
+        let Some((stream, peer)) = self.next(rt, sockets, number, now)? else {
             return Ok(());
         };
-        let now = self.timer.now(rt);
         match self.enter(rt.alloc(), number, stream, peer, now) {
             Ok(()) => *accepted = number + 1,
             Err(stream) => {
@@ -97,9 +97,11 @@ impl<S: Peer + Drop> Together<S> {
         rt: &R,
         sockets: &mut N,
         number: u64,
+        now: u64,
     ) -> io::Result<Option<(S, SocketAddr)>>
         ensures same { self.new.members.entries ≡ self.old.members.entries }
         ensures said { IfOk result (λ found. IfSome found (λ it. S.spoke number it.0 [] [])) }
+        ensures quiet { IfOk result (λ found. IfSome found (λ it. S.quiet it.0 now)) }
         ensures takes { IfOk result (λ found. IfSome found (λ it.
             TakesPlace N.places sockets.old sockets.new)) }
         ensures keeps { IfOk result (λ found.
@@ -109,7 +111,7 @@ impl<S: Peer + Drop> Together<S> {
         ensures stays { OnErr result (KeepsPlaces N.places sockets.old sockets.new) }
     {
         for failed in 0..TRIES {
-            let fault = match sockets.accept(number) {
+            let fault = match sockets.accept(number, now) {
                 Ok(accepted) => return Ok(Some(accepted)),
                 Err(fault) => fault,
             };
@@ -140,6 +142,7 @@ impl<S: Peer + Drop> Together<S> {
         peer: SocketAddr,
         now: u64,
     ) -> Result<(), S>
+        requires { S.quiet stream now }
         ensures ok { OnOk result (EntersAt number stream
             self.old.members.entries self.new.members.entries) }
         ensures err { OnErr result (AreSame self.old.members.entries self.new.members.entries) }

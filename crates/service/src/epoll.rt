@@ -49,25 +49,34 @@ impl Peer for TcpStream {
 
     ghost dry = { λ _. Unit {0} };
 
-    fn read(&mut self, buffer: &mut [u8]) -> io::Result<usize> {
+    ghost quiet = { λ _ _. Unit {0} };
+
+    fn read(&mut self, buffer: &mut [u8], now: u64) -> io::Result<usize> {
+        let _now = now;
         let mut stream = &*self;
         Read::read(&mut stream, buffer)
     }
 
-    fn write(&mut self, bytes: &[u8]) -> io::Result<usize> {
+    fn write(&mut self, bytes: &[u8], now: u64) -> io::Result<usize> {
+        let _now = now;
         let mut stream = &*self;
         Write::write(&mut stream, bytes)
     }
 
-    fn is_silent(&self, silent: u64, allowed: u64) -> bool {
-        silent >= allowed
+    fn hold(&mut self, now: u64) {
+        let _now = now;
+    }
+
+    fn is_silent(&self, moved: u64, now: u64, allowed: u64) -> bool {
+        now.saturating_sub(moved) >= allowed
     }
 
     fn shut(&mut self) {
         let _ended = self.shutdown(Shutdown::Write);
     }
 
-    fn discard(&mut self, buffer: &mut [u8]) -> io::Result<usize> {
+    fn discard(&mut self, buffer: &mut [u8], now: u64) -> io::Result<usize> {
+        let _now = now;
         let mut stream = &*self;
         Read::read(&mut stream, buffer)
     }
@@ -88,7 +97,8 @@ impl Sockets for Epoll {
 
     ghost broken = { λ _. Unit {0} };
 
-    fn accept(&mut self, number: u64) -> io::Result<(TcpStream, SocketAddr)> {
+    fn accept(&mut self, number: u64, now: u64) -> io::Result<(TcpStream, SocketAddr)> {
+        let _now = now;
         let (stream, peer) = self.listener.accept()?;
         let mut stream = stream;
         let _set = stream.set_nodelay(true);

@@ -24,6 +24,7 @@ mod timer;
 mod together;
 mod turn;
 mod turns;
+mod watched;
 
 pub use error::NotAccepted;
 pub use serving::serve;

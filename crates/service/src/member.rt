@@ -11,10 +11,10 @@ use crate::error::finds_none;
 use crate::lingering::{Lingering, deadline_of, limit_of};
 use crate::load::{Leave, Load};
 use crate::part::{gather, next_of, sent_with};
-use crate::silence::was_silent;
 use crate::sockets::Peer;
 use crate::telling::Traffic;
 use crate::turn::{Turn, after_fault};
+use crate::watched::Watched;
 use cache_server::{Answer, ConnError, Server};
 use std::alloc::Global;
 use std::io::ErrorKind;
@@ -32,7 +32,7 @@ const HEAVY: u64 = 65_536;
 /// server, and what of the answers isn't sent.
 #[derive(Drop)]
 pub(crate) struct Member<S: Peer> {
-    stream: S,
+    stream: Watched<S>,
     peer: SocketAddr,
     traffic: Traffic,
     // What was read and isn't taken, from `at` on.
@@ -48,8 +48,6 @@ pub(crate) struct Member<S: Peer> {
     read_closed: bool,
     // Its writing side was ended.
     lingering: Option<Lingering>,
-    // When a byte was moved last.
-    moved: u64,
     is_queued: bool,
     is_held: bool,
 }
@@ -73,10 +71,11 @@ impl<S: Peer> Model for Member<S> {
 
 impl<S: Peer + Drop> Member<S> {
     pub(crate) fn new(alloc: Global, stream: S, peer: SocketAddr, now: u64) -> Member<S>
+        requires { S.quiet stream now }
         ensures { result ≡ new_member stream }
     {
         Member {
-            stream,
+            stream: Watched::new(stream, now),
             peer,
             traffic: Traffic::none(),
             input: Vec::new(alloc),
@@ -87,7 +86,6 @@ impl<S: Peer + Drop> Member<S> {
             readable: true,
             read_closed: false,
             lingering: None,
-            moved: now,
             is_queued: false,
             is_held: false,
         }
@@ -97,7 +95,7 @@ impl<S: Peer + Drop> Member<S> {
     pub(crate) fn into_parts(self) -> (S, SocketAddr, Traffic)
         ensures { result.0 ≡ self.stream }
     {
-        (self.stream, self.peer, self.traffic)
+        (self.stream.into_inner(), self.peer, self.traffic)
     }
 
     /// What it holds.
@@ -157,7 +155,7 @@ impl<S: Peer + Drop> Member<S> {
         deadline_of(
             self.lingering,
             self.is_held,
-            self.moved,
+            self.stream.moved(),
             limit_of(idle, is_pressed),
         )
     }
@@ -177,7 +175,7 @@ impl<S: Peer + Drop> Member<S> {
         ensures known { IfSome result (λ why. why ≡ Err ConnError.Memory → ⊥) }
     {
         let deadline = self.deadline(idle, pressed)?;
-        if !was_silent(&self.stream, self.moved, deadline, now) {
+        if !self.stream.was_silent(deadline, now) {
             return None;
         }
         if !self.is_sent() {
@@ -190,7 +188,7 @@ impl<S: Peer + Drop> Member<S> {
     }
 
     /// Does what can be done without waiting and with this leave, up to so many steps.
-    #[tactic(auto, using(crate::proofs::Talking::moves_nowhere, crate::proofs::Talking::moves_further))]
+    #[tactic(auto, using(crate::proofs::Talking::moves_nowhere, crate::proofs::Talking::moves_further, crate::proofs::Talking::stays_moves))]
     pub(crate) fn turn(
         &mut self,
         number: u64,
@@ -206,8 +204,7 @@ impl<S: Peer + Drop> Member<S> {
             match self.step(number, server, desk, leave, now) {
                 Turn::Again => self.is_held = false,
                 Turn::Held => {
-                    self.is_held = true;
-                    self.moved = now;
+                    self.hold(now);
                     return Turn::Held;
                 }
                 Turn::Waits => {
@@ -256,18 +253,28 @@ impl<S: Peer + Drop> Member<S> {
         self.receive(number, server, desk, now)
     }
 
+    /// It waits for others.
+    fn hold(&mut self, now: u64)
+        ensures left { self.new.left ≡ self.old.left }
+        ensures unsent { self.new.unsent ≡ self.old.unsent }
+        ensures stays { Stays S.spoke self.old.stream self.new.stream }
+    {
+        self.stream.hold(now);
+        self.is_held = true;
+    }
+
     /// Sends some of the answer.
     fn send(&mut self, desk: &mut Desk, now: u64) -> Turn
         ensures { Passes (end_of result) S.spoke S.over self.old self.new }
     {
-        match self.write_some(desk) {
-            Ok(count) => self.pass(count, now),
+        match self.write_some(desk, now) {
+            Ok(count) => self.pass(count),
             Err(fault) => after_fault(&fault, ConnError::WriteFault),
         }
     }
 
     /// Writes some of what isn't sent.
-    fn write_some(&mut self, desk: &mut Desk) -> io::Result<usize>
+    fn write_some(&mut self, desk: &mut Desk, now: u64) -> io::Result<usize>
         ensures left { self.new.left ≡ self.old.left }
         ensures unsent { self.new.unsent ≡ self.old.unsent }
         ensures sent { IfOk result (λ count.
@@ -284,15 +291,17 @@ impl<S: Peer + Drop> Member<S> {
         };
         let head = answer.head().len();
         if self.sent >= head {
-            return self.stream.write(next_of(answer.body(), self.sent - head));
+            return self
+                .stream
+                .write(next_of(answer.body(), self.sent - head), now);
         }
         gather(answer, self.sent, &mut desk.gathered)?;
-        self.stream.write(desk.gathered.as_slice())
+        self.stream.write(desk.gathered.as_slice(), now)
     }
 
     /// So much more of the answer is sent.
     #[tactic(auto, using(crate::proofs::Talking::sends_over, crate::proofs::Talking::sends_more))]
-    fn pass(&mut self, count: usize, now: u64) -> Turn
+    fn pass(&mut self, count: usize) -> Turn
         requires within { count ≤ length self.old.unsent }
         requires over { count ≡ 0 → S.over self.old.stream (Failed ConnError.WriteFault) }
         ensures passes { PassesSent (end_of result) S.spoke S.over count self.old self.new }
@@ -304,7 +313,6 @@ impl<S: Peer + Drop> Member<S> {
         }
         let sent = sent_with(&self.answer, self.sent, count);
         self.traffic.written = self.traffic.written.saturating_add(count as u64);
-        self.moved = now;
         self.sent = sent;
         if self.is_sent() {
             self.finish();
@@ -361,14 +369,13 @@ impl<S: Peer + Drop> Member<S> {
         if !self.readable {
             return Turn::Waits;
         }
-        match self.stream.discard(desk.buffer.as_mut_slice()) {
+        match self.stream.discard(desk.buffer.as_mut_slice(), now) {
             Ok(0) => Turn::Ends(Ok(())),
             Ok(_) => {
                 let Some(lingering) = lingering.read_again() else {
                     return Turn::Ends(Ok(()));
                 };
                 self.lingering = Some(lingering);
-                self.moved = now;
                 Turn::Again
             }
             Err(fault) => match fault.kind() {
@@ -419,7 +426,7 @@ impl<S: Peer + Drop> Member<S> {
             server.old self.old server.new self.new }
     {
         let buffer = desk.buffer.as_mut_slice();
-        let count = match self.stream.read(buffer) {
+        let count = match self.stream.read(buffer, now) {
             Ok(count) => count,
             Err(fault) => {
                 self.readable = !finds_none(&fault);
@@ -431,7 +438,6 @@ impl<S: Peer + Drop> Member<S> {
             return Turn::Ends(Ok(()));
         }
         self.traffic.read = self.traffic.read.saturating_add(count as u64);
-        self.moved = now;
         let (piece, _) = buffer.split_at(count);
         let before = server.counts();
         match server.next(desk.alloc, number, piece) {

@@ -1,6 +1,5 @@
 //! Which connections were silent for too long.
-ghost use Rattle.std.specs.Prelude.{◌≡◌, ◌-◌, ◌≤◌, ◌↔◌, IfSome, IsTrue};
-ghost use Rattle.service.specs.Sockets.{Silent};
+ghost use Rattle.std.specs.Prelude.{◌≡◌, IfSome};
 ghost use Rattle.service.specs.Together.{LeavesPlaced, LeavesTogether, MayEndAt};
 
 use crate::load::GREATEST;
@@ -93,12 +92,4 @@ impl<S: Peer + Drop> Together<S> {
             None => None,
         }
     }
-}
-
-/// Whether the stream was silent for too long: since it moved a byte, to its deadline.
-pub(crate) fn was_silent<S: Peer>(stream: &S, moved: u64, deadline: u64, now: u64) -> bool
-    ensures is { IsTrue result ↔ (deadline - moved ≤ now - moved) }
-    ensures found { IsTrue result → S.over stream.now Silent }
-{
-    stream.is_silent(now.saturating_sub(moved), deadline.saturating_sub(moved))
 }

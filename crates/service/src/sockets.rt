@@ -1,4 +1,4 @@
-ghost use Rattle.std.specs.Prelude.{◌≡◌, ◌<◌, ◌≤◌, ◌↔◌, ℕ, List, [], length, take, IfErr, IfOk};
+ghost use Rattle.std.specs.Prelude.{◌≡◌, ◌-◌, ◌<◌, ◌≤◌, ◌↔◌, ℕ, List, [], length, take, IfErr, IfOk};
 ghost use Rattle.std.specs.Prelude.{IsTrue, OnErr, OnOk};
 ghost use Rattle.cache_server.specs.declared.error.ConnError.{ConnError};
 ghost use Rattle.std.specs.Io.{ReadsAtMost, WritesAtMost};
@@ -6,8 +6,9 @@ ghost use Rattle.std.specs.IoError.{error_kind};
 ghost use Rattle.std.specs.declared.io.Error.{Error};
 ghost use Rattle.std.specs.declared.io.ErrorKind.TheVariants.{WouldBlock};
 ghost use Rattle.service.specs.Sockets.{Cause, EndsAs, Failed, Finished, GivesPlace, IsBroken};
-ghost use Rattle.service.specs.Sockets.{KeepsPlaces, ReadsFrom, SendsTo, Shut, Silent, Stays};
-ghost use Rattle.service.specs.Sockets.{StaysDry, StaysShut, TakesPlace, Why};
+ghost use Rattle.service.specs.Sockets.{IsQuietAfter, KeepsPlaces, ReadsFrom, SendsTo, Shut};
+ghost use Rattle.service.specs.Sockets.{Silent, Stays, StaysDry, StaysQuiet, StaysShut};
+ghost use Rattle.service.specs.Sockets.{TakesPlace, Why};
 ghost use Rattle.service.specs.Turns.{FailsAfter};
 
 use cache_server::ConnError;
@@ -37,8 +38,12 @@ pub(crate) trait Peer {
     /// That no byte is at hand there, until an event tells of some.
     ghost dry: { Self → Type 0 };
 
+    /// That no byte has moved there since this time. Only the calls that open it and move bytes, or
+    /// begin to count anew, say so.
+    ghost quiet: { Self → ℕ → Type 0 };
+
     /// Reads some bytes into a buffer that has room, none only at the end.
-    fn read(&mut self, buffer: &mut [u8]) -> io::Result<usize>
+    fn read(&mut self, buffer: &mut [u8], now: u64) -> io::Result<usize>
         ensures bound { ReadsAtMost result buffer.new }
         ensures read { IfOk result (λ count.
             ReadsFrom spoke self.old (take count buffer.new) self.new) }
@@ -47,35 +52,51 @@ pub(crate) trait Peer {
         ensures end { IfOk result (λ count. count ≡ 0 → over self.new Finished) }
         ensures short { IfOk result (λ count. count < length buffer.new → dry self.new) }
         ensures nothing { IfErr result (λ e. error_kind e ≡ WouldBlock → dry self.new) }
+        ensures moved { IfOk result (IsQuietAfter quiet now self.old self.new) }
+        ensures still { OnErr result (StaysQuiet quiet self.old self.new) }
         ensures broken { IfErr result (λ e. IsBroken e
             → over self.new (Failed ConnError.ReadFault)) };
 
     /// Sends some of the bytes, of which there are some, and none only where it is over.
-    fn write(&mut self, bytes: &[u8]) -> io::Result<usize>
+    fn write(&mut self, bytes: &[u8], now: u64) -> io::Result<usize>
         ensures bound { WritesAtMost result bytes.now }
         ensures sent { IfOk result (λ count.
             SendsTo spoke self.old (take count bytes.now) self.new) }
         ensures fault { OnErr result (Stays spoke self.old self.new) }
         ensures shut { StaysShut over self.old self.new }
         ensures waits { StaysDry dry self.old self.new }
+        ensures moved { IfOk result (IsQuietAfter quiet now self.old self.new) }
+        ensures still { OnErr result (StaysQuiet quiet self.old self.new) }
         ensures end { IfOk result (λ count. count ≡ 0
             → over self.new (Failed ConnError.WriteFault)) }
         ensures broken { IfErr result (λ e. IsBroken e
             → over self.new (Failed ConnError.WriteFault)) };
 
-    /// Whether it was silent for too long: for so many milliseconds, where so many are allowed.
-    fn is_silent(&self, silent: u64, allowed: u64) -> bool
-        ensures is { IsTrue result ↔ (allowed ≤ silent) }
+    /// Begins to count anew how long it is silent: it waits for others.
+    fn hold(&mut self, now: u64)
+        ensures stays { Stays spoke self.old self.new }
+        ensures shut { StaysShut over self.old self.new }
+        ensures waits { StaysDry dry self.old self.new }
+        ensures quiet { quiet self.new now };
+
+    /// Whether it was silent for too long: since it moved a byte, where so many milliseconds are
+    /// allowed.
+    fn is_silent(&self, moved: u64, now: u64, allowed: u64) -> bool
+        requires { quiet self.now moved }
+        ensures is { IsTrue result ↔ (allowed ≤ now - moved) }
         ensures found { IsTrue result → over self.now Silent };
 
     /// Ends the writing side.
     fn shut(&mut self)
         ensures stays { Stays spoke self.old self.new }
+        ensures still { StaysQuiet quiet self.old self.new }
         ensures shut { over self.new Shut };
 
     /// Drops some of what still comes, none only at the end or with no room.
-    fn discard(&mut self, buffer: &mut [u8]) -> io::Result<usize>
+    fn discard(&mut self, buffer: &mut [u8], now: u64) -> io::Result<usize>
         ensures stays { Stays spoke self.old self.new }
+        ensures moved { IfOk result (IsQuietAfter quiet now self.old self.new) }
+        ensures still { OnErr result (StaysQuiet quiet self.old self.new) }
         ensures shut { StaysShut over self.old self.new }
         ensures nothing { IfErr result (λ e. error_kind e ≡ WouldBlock → dry self.new) };
 }
@@ -104,8 +125,9 @@ pub(crate) trait Sockets {
     ghost broken: { Error → Type 0 };
 
     /// The next connection, under this number, or `WouldBlock` where none waits.
-    fn accept(&mut self, number: u64) -> io::Result<(Self::Stream, SocketAddr)>
+    fn accept(&mut self, number: u64, now: u64) -> io::Result<(Self::Stream, SocketAddr)>
         ensures said { IfOk result (λ accepted. Self.Stream.spoke number accepted.0 [] []) }
+        ensures quiet { IfOk result (λ accepted. Self.Stream.quiet accepted.0 now) }
         ensures fails { IfErr result (λ e. (error_kind e ≡ WouldBlock → ⊥)
             → FailsAfter failed 0 1 self.old self.new) }
         ensures last { IfErr result (refused self.new) }
