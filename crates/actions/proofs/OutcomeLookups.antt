@@ -38,12 +38,15 @@ module _ {A : Type 0} where
   pub within : (es : List (List (List ℕ) × Output A)) (place : ℕ) (above : List (List ℕ)) → slice_get (paths_in es) place ≡ Some above → place < length es
   within es place above e = omega (arith, slice_get_within (paths_in es) place above e, length-map es (λ (d : List (List ℕ) × Output A). d.0))
 
-  pub none_over : (o : OutcomeValue) (path : List (List ℕ)) (es : List (List (List ℕ) × Output A)) → outputs_in es ≡ o.outputs → AllByRecursion (λ above. ¬ StandsOver above path) (paths_in es) → LooksIn o path nothing
-  none_over o path es e h = inr (subst (AllByRecursion (λ d. ¬ StandsOver d.0 path)) e (each es h), refl)
+  pub no_output_over : (o : OutcomeValue) (path : List (List ℕ)) (es : List (List (List ℕ) × Output A)) → outputs_in es ≡ o.outputs → AllByRecursion (λ above. ¬ StandsOver above path) (paths_in es) → AllByRecursion (λ d. ¬ StandsOver d.0 path) o.outputs
+  no_output_over o path es e h = subst (AllByRecursion (λ d. ¬ StandsOver d.0 path)) e (each es h)
     where
       each : (ds : List (List (List ℕ) × Output A)) → AllByRecursion (λ above. ¬ StandsOver above path) (paths_in ds) → AllByRecursion (λ d. ¬ StandsOver d.0 path) (outputs_in ds)
       each [] k = tt
       each (d ∷ ds) k = (k.0, each ds k.1)
+
+  pub none_over : (o : OutcomeValue) (path : List (List ℕ)) (es : List (List (List ℕ) × Output A)) → outputs_in es ≡ o.outputs → AllByRecursion (λ above. ¬ StandsOver above path) (paths_in es) → LooksIn o path nothing
+  none_over o path es e h = inr (no_output_over o path es e h, refl)
 
   -- a file or a link has nothing below it
   pub looks_nowhere : (x : Output A) (below : Option (Bor (List ℕ))) → ((t : TreeValue) → x ≡ Tree t → ⊥) → is_some below ≡ true → LooksBelow (output_value x) (names_left below) nothing

@@ -54,11 +54,13 @@ row_same path paths h = each paths (has_none (texts_of paths) (path_text path) h
     each [] k = tt
     each (other ∷ others) k = ((λ e. k.0 (ap path_text e)), each others k.1)
 
-pub over_none : (paths : List (List (List ℕ))) (path : List (List ℕ)) (text : List ℕ) (n : ℕ) → ArePaths paths → text ≡ path_text path → NoneListed (texts_of paths) text (length text) → IsPlace (texts_of paths) text (Err n) → IsOver paths path None
-over_none paths path text n all is none there = both paths (row_none path paths all under) (row_same path paths same)
+-- no path is at or above one that isn't listed and lies under none
+pub none_stands_over : (paths : List (List (List ℕ))) (path : List (List ℕ)) (text : List ℕ) (n : ℕ) → ArePaths paths → text ≡ path_text path → lies_under_some (texts_of paths) text ≡ false → IsPlace (texts_of paths) text (Err n)
+    → AllByRecursion (λ above. ¬ StandsOver above path) paths
+none_stands_over paths path text n all is free there = both paths (row_none path paths all under) (row_same path paths same)
   where
     under : lies_under_some (texts_of paths) (path_text path) ≡ false
-    under = subst (λ t. lies_under_some (texts_of paths) t ≡ false) is (under_not_found (texts_of paths) text none)
+    under = subst (λ t. lies_under_some (texts_of paths) t ≡ false) is free
 
     same : has_name (texts_of paths) (path_text path) ≡ false
     same = subst (λ t. has_name (texts_of paths) t ≡ false) is (not_listed (texts_of paths) text n there)
@@ -70,6 +72,9 @@ over_none paths path text n all is none there = both paths (row_none path paths 
     both : (others : List (List (List ℕ))) → AllByRecursion (λ other. LiesUnder path other → ⊥) others → AllByRecursion (λ above. path ≢ above) others → AllByRecursion (λ above. ¬ StandsOver above path) others
     both [] h k = tt
     both (other ∷ others) h k = ((λ s. neither other s.0 h.0 k.0 s.1), both others h.1 k.1)
+
+pub over_none : (paths : List (List (List ℕ))) (path : List (List ℕ)) (text : List ℕ) (n : ℕ) → ArePaths paths → text ≡ path_text path → NoneListed (texts_of paths) text (length text) → IsPlace (texts_of paths) text (Err n) → IsOver paths path None
+over_none paths path text n all is none there = none_stands_over paths path text n all is (under_not_found (texts_of paths) text none) there
 
 -- ---- as the loop has it
 

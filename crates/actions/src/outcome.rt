@@ -1,4 +1,4 @@
-ghost use Rattle.std.specs.Prelude.{◌≡◌, [], map, IfOk, IfErr, OnOk, OnErr};
+ghost use Rattle.std.specs.Prelude.{◌≡◌, [], map, IfOk, IfErr, IfSome, IsErrOf, OnOk, OnErr};
 ghost use Rattle.std.specs.List.{AllByRecursion, list_any};
 ghost use Rattle.messages.specs.Order.{bytes_cmp};
 ghost use Rattle.messages.specs.Path.{IsPath};
@@ -6,6 +6,7 @@ ghost use Rattle.action_messages.specs.Ascending.{IsAscendingBy};
 ghost use Rattle.action_messages.specs.Overlaps.{ArePathsApart, is_under, texts_of};
 ghost use Rattle.actions.specs.Outcome.{IsOutcome, AddsOutput, ExplainsAdd, HasRoom, output_value};
 ghost use Rattle.actions.specs.Outcome.{outputs_in};
+ghost use Rattle.actions.specs.OutcomeLookup.{StandsOver};
 
 use action_messages::{Listed, lies_under_some, place_of};
 use blob_digest::Digest;
@@ -114,7 +115,11 @@ fn room_for<A: Allocator + Copy>(
     requires ascend { IsAscendingBy bytes_cmp (texts_of (map (λ e. e.0) outputs.now)) }
     requires valid { AllByRecursion IsPath (map (λ e. e.0) outputs.now) }
     requires apart { ArePathsApart (map (λ e. e.0) outputs.now) }
-    ensures { IfOk result (HasRoom (map (λ e. e.0) outputs.now) path.now) }
+    ensures room { IfOk result (HasRoom (map (λ e. e.0) outputs.now) path.now) }
+    ensures above { IfOk result (λ o. IfSome o (λ _.
+        AllByRecursion (λ above. ¬ StandsOver above path.now) (map (λ e. e.0) outputs.now))) }
+    ensures memory { OnErr result
+        (AllByRecursion (λ above. ¬ StandsOver above path.now) (map (λ e. e.0) outputs.now)) }
 {
     let text = path.as_bytes();
     let Err(place) = place_of(outputs, text) else {
@@ -136,6 +141,9 @@ impl<A: Allocator + Copy> Outcome<A> {
     pub fn add(&mut self, alloc: A, path: Path<A>, output: Output<A>) -> Result<(), AddError<A>>
         ensures added { OnOk result (AddsOutput self.old path (output_value output) self.new) }
         ensures refused { IfErr result (λ e. ExplainsAdd self.old path e) }
+        // A path at or under one that is there takes no memory to refuse.
+        ensures memory { IsErrOf result AddError.Memory
+            → AllByRecursion (λ e. ¬ StandsOver e.0 path) self.old.outputs }
         ensures unchanged { OnErr result (self.new ≡ self.old) }
     {
         match room_for(alloc, &self.outputs, &path)? {

@@ -1,17 +1,22 @@
 -- What was told of a tree, and what wasn't made.
-use Rattle.std.proofs.Common.{ℕ, List, subst}
-use Rattle.std.specs.Prelude.{Result, IfErr}
+use Rattle.std.proofs.Common.{◌≡◌, ℕ, List, ◌∷◌, ◌++◌, refl, subst, sym, arith, inl}
+use Rattle.std.specs.Prelude.{Result, IfErr, Contains}
+use Rattle.std.proofs.lemmas.List.Elements.{Contains-append_right}
 use Rattle.std.specs.declared.io.Error.{Error}
 use Rattle.blob_digest.specs.Digest.{DigestValue}
 use Rattle.blob_source.specs.Source.{Blobs, Grows}
-use Rattle.tree.specs.Tree.{Tree, empty, leaf, folder}
+use Rattle.tree.specs.Tree.{Name, Standing, Tree, empty, leaf, folder}
+use Rattle.tree.specs.LooksAt.{UnfoldLooksAt}
+use Rattle.tree.specs.Memo.{Asked, AsksNoOther}
 use Rattle.tree.specs.Form.{NodeValue}
 use Rattle.tree.specs.FlatTree.{FlatValue}
 use Rattle.tree.proofs.Descent.{told_still}
+use Rattle.tree.proofs.Ways.{unfold_still}
 use Rattle.checkout.specs.declared.error.CheckoutError.{CheckoutError}
 use Rattle.checkout.specs.declared.error.CheckoutError.TheVariants as errors
 use Rattle.tree.specs.Unfolded.{IsUnfolded, TellsBelow}
 use Rattle.checkout.specs.Refused.{Refuses, FailsAt, FailsPlace}
+use Rattle.checkout.specs.Written.{EntryLooksAt, EntriesLookAt, CheckoutLooksAt}
 
 below_still : {B C : Blobs} → Grows B C → (t : Tree NodeValue) → TellsBelow B t → TellsBelow C t
 below_still grows empty h = h
@@ -25,6 +30,20 @@ unfolded_still grows h = record {
   list = h.list;
   told = record { root = h.told.root; top = told_still grows h.told.top; below = below_still grows h.tree h.told.below };
 }
+
+-- ---- what isn't asked for
+
+pub asks_nothing : {looks : Asked → Type 0} {B : Blobs} → AsksNoOther looks B B
+asks_nothing = record { same = λ d not. refl }
+
+-- the content of an entry that stands among others
+pub entry_looks : (done left : FlatValue) (p : List Name) (s : Standing NodeValue) (all : FlatValue) (a : Asked) → all ≡ done ++ (p, s) ∷ left → EntryLooksAt s a → EntriesLookAt all a
+entry_looks done left p s all a split h =
+    ((p, s), subst (λ es. Contains es (p, s)) (sym split) (Contains-append_right done ((p, s) ∷ left) (p, s) (0, omega arith, refl)), h)
+
+-- the tree's Directories, while the source tells more
+pub directories_looked : {B C : Blobs} (d : DigestValue) (a : Asked) → Grows B C → UnfoldLooksAt B d a → CheckoutLooksAt C d a
+directories_looked d a grows h = inl (unfold_still d a grows h)
 
 -- ---- refusals
 

@@ -1,5 +1,5 @@
 -- A folder that was empty, and what was written into it since.
-use Rattle.std.specs.Prelude.{ℕ, List, [], ◌∷◌, ◌++◌, Bool}
+use Rattle.std.specs.Prelude.{ℕ, ◌≤◌, List, [], ◌∷◌, ◌++◌, map, length, Bool}
 use Rattle.std.specs.declared.io.Error.{Error}
 
 -- what was written at a path: a folder, a file with its bytes and whether it is a program, or a
@@ -38,6 +38,26 @@ abbrev pub Gains : {F : Type 0} → FolderWorks F → F → F → List ℕ → W
 Gains works old new path w =
     (v : FolderValue) → works.has old v → works.has new (with_written ((path, w) ∷ []) v)
 
+-- ---- calls, made or refused
+
+-- The writer was called for these paths besides, in this order, and for nothing else.
+abbrev pub Tries : {W : Type 0} → (W → List (List ℕ) → Type 0) → W → W → List (List ℕ) → Type 0
+Tries tried old new more = (paths : List (List ℕ)) → tried old paths → tried new (paths ++ more)
+
+-- Each call wrote one of these things, but for one more call at most, the last.
+pub record WritesTillLast (has : List (List ℕ × Written) → Type 0)
+    (tries : List (List ℕ) → Type 0) : Type 0 where
+  pub written : List (List ℕ × Written)
+  pub holds : has written
+  pub last : List (List ℕ)
+  pub one : length last ≤ 1
+  pub calls : tries (map (λ w. w.0) written ++ last)
+
+-- ---- the system
+
 -- nothing is known of what was done and told
 abbrev pub nothing_known : {F : Type 0} → FolderWorks F
 nothing_known = record { has = λ _ _. Unit {0}; refuses = λ _ _. Unit {0} }
+
+abbrev pub unknown_calls : {W : Type 0} → W → List (List ℕ) → Type 0
+unknown_calls writer paths = Unit {0}

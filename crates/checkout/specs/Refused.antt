@@ -15,7 +15,7 @@ use Rattle.tree.specs.Tree.{Name, Standing, a_leaf}
 use Rattle.tree.specs.Form.{NodeValue}
 use Rattle.tree.specs.FlatTree.{FlatValue}
 use Rattle.tree.specs.Unfolded.{IsUnfolded, IsDeep, IsFaultBelow}
-use Rattle.checkout.specs.Folder.{FolderValue, Written}
+use Rattle.checkout.specs.Folder.{FolderValue, Written, WritesTillLast}
 use Rattle.checkout.specs.Written.{place_below, AreWritten}
 use Rattle.checkout.specs.declared.error.CheckoutError.{CheckoutError}
 use Rattle.checkout.specs.declared.error.CheckoutError.TheVariants.{Missing, Wrong, Malformed}
@@ -93,3 +93,10 @@ FailsCheckout has refuses B d folder e = FailsTree B d e
     ⊎ ((entries : FlatValue) × IsUnfolded B d entries
     × (FailsPlace refuses folder e ⊎ FailsEntries
     (λ written. has (record { path = folder; written = written })) refuses B folder entries e))
+
+-- Nothing is tried after a refusal: there was no call; or one, for the folder; or then each call
+-- wrote one thing, but for the last.
+abbrev pub StopsAtRefusal : (FolderValue → Type 0) → (List (List ℕ) → Type 0) → List ℕ → Type 0
+StopsAtRefusal has tries folder = tries [] ⊎ (tries (folder ∷ [])
+    ⊎ WritesTillLast (λ written. has (record { path = folder; written = written }))
+    (λ paths. tries (folder ∷ paths)))

@@ -1,10 +1,12 @@
 -- What is written of the tree that a source tells.
-use Rattle.std.specs.Prelude.{◌≡◌, ℕ, ◌+◌, ◌≤◌, List, [], ◌∷◌, ◌++◌, length}
+use Rattle.std.specs.Prelude.{◌≡◌, ◌⊎◌, ℕ, ◌+◌, ◌≤◌, List, [], ◌∷◌, ◌++◌, length, Contains}
 use Rattle.blob_digest.specs.Digest.{DigestValue}
 use Rattle.messages.specs.Path.{path_text}
 use Rattle.messages.specs.declared.node.Node.TheVariants.{File, Link}
 use Rattle.blob_source.specs.Source.{Blobs, IsBlobUnder, Telling}
-use Rattle.tree.specs.Tree.{Standing, a_leaf, a_directory}
+use Rattle.tree.specs.LooksAt.{UnfoldLooksAt}
+use Rattle.tree.specs.Memo.{Asked, LooksAtBlob}
+use Rattle.tree.specs.Tree.{Name, Standing, a_leaf, a_directory}
 use Rattle.tree.specs.Form.{NodeValue}
 use Rattle.tree.specs.FlatTree.{FlatValue}
 use Rattle.tree.specs.Unfolded.{IsUnfolded}
@@ -42,6 +44,20 @@ pub record HoldsTree (has : FolderValue → Type 0) (B : Blobs) (d : DigestValue
 -- a tree is told under the digest
 abbrev pub IsToldTree : Blobs → DigestValue → Type 0
 IsToldTree B d = (entries : FlatValue) × IsUnfolded B d entries
+
+-- what is looked at for an entry: a file's content
+abbrev pub EntryLooksAt : Standing NodeValue → Asked → Type 0
+EntryLooksAt (a_leaf (File d x)) a = LooksAtBlob d a
+EntryLooksAt s a = ⊥
+
+abbrev pub EntriesLookAt : FlatValue → Asked → Type 0
+EntriesLookAt entries a =
+    (e : List Name × Standing NodeValue) × Contains entries e × EntryLooksAt e.1 a
+
+-- for a tree: its Directories, and the contents of its files where it is told
+abbrev pub CheckoutLooksAt : Blobs → DigestValue → Asked → Type 0
+CheckoutLooksAt B d a = UnfoldLooksAt B d a
+    ⊎ ((entries : FlatValue) × IsUnfolded B d entries × EntriesLookAt entries a)
 
 -- At most one call for the tree's root and each of its entries.
 pub record AsksEachOnce (d : DigestValue) (old new : Telling) : Type 0 where

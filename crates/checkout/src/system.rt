@@ -36,9 +36,11 @@ fn is_empty<T: Drop>(first: Option<io::Result<T>>) -> io::Result<bool>
 impl<'r, R: Files + Alloc> FolderWriter for SystemWriter<'r, R> {
     type Folder = SystemFolder;
 
-    ghost use Rattle.checkout.specs.Folder.{nothing_known};
+    ghost use Rattle.checkout.specs.Folder.{nothing_known, unknown_calls};
 
     ghost works = { nothing_known };
+
+    ghost tried = { unknown_calls };
 
     fn take(&mut self, path: &str) -> io::Result<SystemFolder> {
         match fs::create_dir(self.0, path) {
@@ -53,12 +55,12 @@ impl<'r, R: Files + Alloc> FolderWriter for SystemWriter<'r, R> {
         }
     }
 
-    fn make_folder(&self, _folder: &mut SystemFolder, path: &str) -> io::Result<()> {
+    fn make_folder(&mut self, _folder: &mut SystemFolder, path: &str) -> io::Result<()> {
         fs::create_dir(self.0, path)
     }
 
     fn write_file(
-        &self,
+        &mut self,
         _folder: &mut SystemFolder,
         path: &str,
         bytes: &[u8],
@@ -71,7 +73,12 @@ impl<'r, R: Files + Alloc> FolderWriter for SystemWriter<'r, R> {
         file.write_all(bytes)
     }
 
-    fn make_link(&self, _folder: &mut SystemFolder, path: &str, target: &str) -> io::Result<()> {
+    fn make_link(
+        &mut self,
+        _folder: &mut SystemFolder,
+        path: &str,
+        target: &str,
+    ) -> io::Result<()> {
         symlink(self.0, target, path)
     }
 }

@@ -1,4 +1,4 @@
-ghost use Rattle.std.specs.Prelude.{IfErr, IfOk, OnOk};
+ghost use Rattle.std.specs.Prelude.{ℕ, List, [], ◌∷◌, IfErr, IfOk, OnOk};
 
 use std::io;
 
@@ -7,26 +7,31 @@ pub trait FolderWriter {
     /// A folder that was empty, and all that was written into it since.
     type Folder: Drop;
 
-    ghost use Rattle.checkout.specs.Folder.{FolderWorks, Gains, empty_folder};
+    ghost use Rattle.checkout.specs.Folder.{FolderWorks, Gains, Tries, empty_folder};
     ghost use Rattle.checkout.specs.Folder.Written.{a_file, a_folder, a_link};
 
     /// What may be said of what it did and told.
     ghost works: { FolderWorks Self.Folder };
 
+    /// That it was called for these paths, in this order, and for nothing else.
+    ghost tried: { Self → List (List ℕ) → Type 0 };
+
     /// Takes a folder in which nothing stands. Where nothing stands at the path, it is made. That a
-    /// writer is as it was says that it wasn't called so.
+    /// writer is as it was says that it wasn't called.
     fn take(&mut self, path: &str) -> io::Result<Self::Folder>
         ensures taken { IfOk result (λ folder. works.has folder (empty_folder path.now)) }
-        ensures refused { IfErr result (works.refuses path.now) };
+        ensures refused { IfErr result (works.refuses path.now) }
+        ensures tries { Tries tried self.old self.new (path.now ∷ []) };
 
     /// Makes a folder where nothing stands.
-    fn make_folder(&self, folder: &mut Self::Folder, path: &str) -> io::Result<()>
+    fn make_folder(&mut self, folder: &mut Self::Folder, path: &str) -> io::Result<()>
         ensures made { OnOk result (Gains works folder.old folder.new path.now a_folder) }
-        ensures refused { IfErr result (works.refuses path.now) };
+        ensures refused { IfErr result (works.refuses path.now) }
+        ensures tries { Tries tried self.old self.new (path.now ∷ []) };
 
     /// Writes a file where nothing stands.
     fn write_file(
-        &self,
+        &mut self,
         folder: &mut Self::Folder,
         path: &str,
         bytes: &[u8],
@@ -34,11 +39,13 @@ pub trait FolderWriter {
     ) -> io::Result<()>
         ensures made { OnOk result
             (Gains works folder.old folder.new path.now (a_file bytes.now executable)) }
-        ensures refused { IfErr result (works.refuses path.now) };
+        ensures refused { IfErr result (works.refuses path.now) }
+        ensures tries { Tries tried self.old self.new (path.now ∷ []) };
 
     /// Makes a symbolic link where nothing stands.
-    fn make_link(&self, folder: &mut Self::Folder, path: &str, target: &str) -> io::Result<()>
+    fn make_link(&mut self, folder: &mut Self::Folder, path: &str, target: &str) -> io::Result<()>
         ensures made { OnOk result
             (Gains works folder.old folder.new path.now (a_link target.now)) }
-        ensures refused { IfErr result (works.refuses path.now) };
+        ensures refused { IfErr result (works.refuses path.now) }
+        ensures tries { Tries tried self.old self.new (path.now ∷ []) };
 }

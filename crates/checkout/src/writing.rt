@@ -1,16 +1,19 @@
-ghost use Rattle.std.specs.Prelude.{◌≡◌, ◌↔◌, ◌⊎◌, ◌+◌, ◌≤◌, [], IfErr, IfOk, IsErrOf, OnErr, OnOk};
+ghost use Rattle.std.specs.Prelude.{◌≡◌, ◌↔◌, ◌⊎◌, ◌+◌, ◌≤◌, [], ◌∷◌, IfErr, IfOk, IsErrOf, OnErr, OnOk};
 ghost use Rattle.std.specs.Prelude.{length, string_bytes};
 ghost use Rattle.blob_digest.specs.Digest.{DigestValue};
 ghost use Rattle.blob_source.specs.Called.{Called, Calls};
 ghost use Rattle.blob_source.specs.Source.{Asks, Blobs, IsBlobUnder};
 ghost use Rattle.tree.specs.FlatTree.{entry_value, path_values};
+ghost use Rattle.tree.specs.LooksAt.{UnfoldLooksAt};
+ghost use Rattle.tree.specs.Memo.{AsksNoOther, LooksAtBlob};
 ghost use Rattle.tree.specs.TreeError.{Explains, FailsBlob};
 ghost use Rattle.tree.specs.Unfolded.{ExplainsUnfold, IsUnfolded, directories_at, directories_in};
-ghost use Rattle.checkout.specs.Folder.{IsHad, empty_folder};
+ghost use Rattle.checkout.specs.Folder.{IsHad, Tries, WritesTillLast, empty_folder};
 ghost use Rattle.checkout.specs.Written.{HoldsTree, IsGained, MakesEntry, MakesEntries};
-ghost use Rattle.checkout.specs.Written.{AsksEachOnce, IsToldTree, place_below};
+ghost use Rattle.checkout.specs.Written.{AsksEachOnce, CheckoutLooksAt, EntriesLookAt};
+ghost use Rattle.checkout.specs.Written.{EntryLooksAt, IsToldTree, place_below};
 ghost use Rattle.checkout.specs.Refused.{FailsAt, FailsContent, FailsOneEntry, FailsEntries};
-ghost use Rattle.checkout.specs.Refused.{FailsTree, FailsCheckout, StopsUnfold};
+ghost use Rattle.checkout.specs.Refused.{FailsTree, FailsCheckout, StopsAtRefusal, StopsUnfold};
 
 use crate::error::CheckoutError;
 use crate::writer::FolderWriter;
@@ -51,6 +54,8 @@ fn read_content<A: Allocator + Copy, S: BlobSource<A>>(
     ensures refused { IfErr result (FailsContent (S.tells source.new).blobs digest.now) }
     ensures called { Calls (Asks 1) (S.tells source.old) (S.tells source.new)
         (IsErrOf result CheckoutError.Fetch) }
+    ensures only { AsksNoOther (LooksAtBlob digest.now)
+        (S.tells source.old).blobs (S.tells source.new).blobs }
 {
     match fetch_content(alloc, source, digest) {
         Ok(content) => Ok(content),
@@ -91,6 +96,8 @@ fn read_tree<A: Allocator + Copy, S: BlobSource<A>>(
     ensures refused { IfErr result (FailsTree (S.tells source.new).blobs root.now) }
     ensures called { Called (S.tells source.old) (S.tells source.new)
         (IsErrOf result CheckoutError.Fetch) }
+    ensures only { AsksNoOther (UnfoldLooksAt (S.tells source.new).blobs root.now)
+        (S.tells source.old).blobs (S.tells source.new).blobs }
 {
     match unfold(alloc, root, source) {
         Ok(tree) => Ok(tree),
@@ -108,7 +115,7 @@ fn place_below<A: Allocator>(alloc: A, folder: &str, path: &str) -> Result<Strin
 /// Writes what stands at a path of a tree.
 fn write_entry<A: Allocator + Copy, S: BlobSource<A>, W: FolderWriter>(
     alloc: A,
-    writer: &W,
+    writer: &mut W,
     folder: &mut W::Folder,
     place: &str,
     entry: &FlatEntry<A>,
@@ -120,8 +127,13 @@ fn write_entry<A: Allocator + Copy, S: BlobSource<A>, W: FolderWriter>(
         ≤ (S.tells source.old).calls + 1) }
     ensures refused { IfErr result (FailsOneEntry W.works.refuses (S.tells source.new).blobs
         place.now (entry_value entry.now)) }
+    ensures tries { OnOk result (Tries W.tried writer.old writer.new (place.now ∷ [])) }
+    ensures once { Tries W.tried writer.old writer.new []
+        ⊎ Tries W.tried writer.old writer.new (place.now ∷ []) }
     ensures called { Called (S.tells source.old) (S.tells source.new)
         (IsErrOf result CheckoutError.Fetch) }
+    ensures only { AsksNoOther (EntryLooksAt (entry_value entry.now))
+        (S.tells source.old).blobs (S.tells source.new).blobs }
 {
     match entry {
         FlatEntry::Dir => made_at(alloc, place, writer.make_folder(folder, place)),
@@ -140,7 +152,7 @@ fn write_entry<A: Allocator + Copy, S: BlobSource<A>, W: FolderWriter>(
 /// Writes the entries of a tree below a folder, each directory before what is in it.
 fn write_entries<A: Allocator + Copy, S: BlobSource<A>, W: FolderWriter>(
     alloc: A,
-    writer: &W,
+    writer: &mut W,
     folder: &mut W::Folder,
     path: &str,
     entries: Vec<(Path<A>, FlatEntry<A>), A>,
@@ -153,8 +165,12 @@ fn write_entries<A: Allocator + Copy, S: BlobSource<A>, W: FolderWriter>(
         ≤ (S.tells source.old).calls + length entries.items) }
     ensures refused { IfErr result (FailsEntries (IsGained W.works folder.old) W.works.refuses
         (S.tells source.new).blobs path.now (path_values entries.items)) }
+    ensures stops { WritesTillLast (IsGained W.works folder.old)
+        (Tries W.tried writer.old writer.new) }
     ensures called { Called (S.tells source.old) (S.tells source.new)
         (IsErrOf result CheckoutError.Fetch) }
+    ensures only { AsksNoOther (EntriesLookAt (path_values entries.items))
+        (S.tells source.old).blobs (S.tells source.new).blobs }
 {
     for (below, entry) in entries {
         let place = place_below(alloc, path, below.as_str())?;
@@ -185,8 +201,13 @@ pub fn check_out<A: Allocator + Copy, S: BlobSource<A>, W: FolderWriter>(
     ensures refused { IfErr result
         (FailsCheckout (IsHad W.works) W.works.refuses (S.tells source.new).blobs
         root.now path.now) }
+    // Once something isn't taken or written, nothing more is tried.
+    ensures stops { StopsAtRefusal (IsHad W.works) (Tries W.tried writer.old writer.new) path.now }
     ensures called { Called (S.tells source.old) (S.tells source.new)
         (IsErrOf result CheckoutError.Fetch) }
+    // Nothing is asked for but the tree's Directories and its files' contents.
+    ensures only { AsksNoOther (CheckoutLooksAt (S.tells source.new).blobs root.now)
+        (S.tells source.old).blobs (S.tells source.new).blobs }
 {
     let tree = read_tree(alloc, root, source)?;
     let entries = tree.into_entries(alloc)?;

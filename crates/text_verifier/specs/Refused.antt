@@ -4,6 +4,7 @@ use Rattle.blob_digest.specs.Digest.{DigestValue}
 use Rattle.blob_digest.specs.Text.{BeginsWithHash}
 use Rattle.blob_digest.specs.declared.error.DigestError.{DigestError}
 use Rattle.blob_digest.specs.declared.error.DigestError.TheVariants.{BadHex}
+use Rattle.plan.specs.declared.error.Fault.TheVariants.{BadHeader}
 use Rattle.plan.specs.declared.error.PlanError.{PlanError}
 use Rattle.plan.specs.Faults.{IsPlanFault}
 use Rattle.plan.specs.Record.{IsRecordFault}
@@ -63,7 +64,11 @@ IsNoFault (Record fault) = ⊥
 IsNoFault Fetch = Unit {0}
 IsNoFault Memory = Unit {0}
 
+-- line 1 is no header
+abbrev pub no_header : PlanError
+no_header = record { line = 1; fault = BadHeader }
+
 -- this is answered, unless memory ran out
-abbrev pub GivesUnlessMemory : {X : Type 0} → Result X TextError → X → Type 0
-GivesUnlessMemory (Ok x) y = x ≡ y
-GivesUnlessMemory (Err e) y = e ≡ Memory
+abbrev pub AnswersUnlessMemory : {X : Type 0} → Result X TextError → X → Type 0
+AnswersUnlessMemory (Ok x) y = x ≡ y
+AnswersUnlessMemory (Err e) y = e ≡ Memory

@@ -1,7 +1,8 @@
-ghost use Rattle.std.specs.Prelude.{◌≡◌, IfErr, IfOk};
-ghost use Rattle.plan.specs.Record.{names_of};
-ghost use Rattle.text_verifier.specs.Refused.{IsRecordRefusal};
-ghost use Rattle.text_verifier.specs.Texts.{HasRecord};
+ghost use Rattle.std.specs.Prelude.{◌≡◌, Err, IfErr, IfOk};
+ghost use Rattle.plan.specs.Line.{Begins};
+ghost use Rattle.plan.specs.Record.{RecordValue, names_of, record_header};
+ghost use Rattle.text_verifier.specs.Refused.{AnswersUnlessMemory, IsRecordRefusal, no_header};
+ghost use Rattle.text_verifier.specs.Texts.{HasRecord, question_of};
 
 use crate::error::TextError;
 use crate::reading::{Digests, read_record};
@@ -41,6 +42,13 @@ impl<A: Allocator + Copy> Case<A> {
         ensures claim { IfOk result (λ case. case.claim ≡ digests.claim) }
         ensures plan { IfOk result (λ case. case.plan ≡ plan) }
         ensures noted { IfOk result (λ case. HasRecord plan noted.now case.noted) }
+        // The case of the record whose text it is is answered.
+        ensures only { (record_of : RecordValue) → HasRecord plan noted.now record_of
+            → AnswersUnlessMemory result
+            (question_of digests.sources digests.claim plan record_of) }
+        // A text without the header takes no memory to refuse.
+        ensures header { ¬ Begins record_header noted.now
+            → result ≡ Err (TextError.Record no_header) }
         ensures fault { IfErr result (IsRecordRefusal (names_of plan) noted.now) }
     {
         let noted = read_record(alloc, noted, &plan)?;

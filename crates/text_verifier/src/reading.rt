@@ -1,10 +1,13 @@
-ghost use Rattle.std.specs.Prelude.{◌≡◌, IfOk, IfErr, Ok};
+ghost use Rattle.std.specs.Prelude.{◌≡◌, IfOk, IfErr, Ok, Err};
 ghost use Rattle.blob_digest.specs.Digest.{DigestValue};
+ghost use Rattle.plan.specs.Faults.{HasNoHeader};
+ghost use Rattle.plan.specs.Line.{Begins};
 ghost use Rattle.plan.specs.Plan.{IsPlan, plan_text};
 ghost use Rattle.plan.specs.Record.{IsRecord, Fits, RecordValue, names_of, build_record_text};
+ghost use Rattle.plan.specs.Record.{record_header};
 ghost use Rattle.plan.specs.Values.{PlanValue};
-ghost use Rattle.text_verifier.specs.Refused.{GivesUnlessMemory, IsDigestRefusal, IsPlanRefusal};
-ghost use Rattle.text_verifier.specs.Refused.{IsRecordRefusal};
+ghost use Rattle.text_verifier.specs.Refused.{AnswersUnlessMemory, IsDigestRefusal, IsPlanRefusal};
+ghost use Rattle.text_verifier.specs.Refused.{IsRecordRefusal, no_header};
 ghost use Rattle.text_verifier.specs.Texts.{IsDigestText};
 
 use crate::error::TextError;
@@ -43,7 +46,9 @@ pub fn read_plan<A: Allocator + Copy>(alloc: A, text: &[u8]) -> Result<Plan<A>, 
     ensures found { IfOk result (λ plan. text.now ≡ plan_text plan) }
     // The plan whose text it is is answered.
     ensures only { (plan : PlanValue) → IsPlan plan → text.now ≡ plan_text plan
-        → GivesUnlessMemory result plan }
+        → AnswersUnlessMemory result plan }
+    // A text without a header takes no memory to refuse.
+    ensures header { HasNoHeader text.now → result ≡ Err (TextError.Plan no_header) }
     ensures fault { IfErr result (IsPlanRefusal text.now) }
 {
     match Plan::read(alloc, text) {
@@ -64,7 +69,9 @@ pub(crate) fn read_record<A: Allocator + Copy>(
     ensures found { IfOk result (λ noted. text.now ≡ build_record_text noted) }
     // The record whose text it is is answered.
     ensures only { (noted : RecordValue) → IsRecord noted → Fits noted plan.now
-        → text.now ≡ build_record_text noted → GivesUnlessMemory result noted }
+        → text.now ≡ build_record_text noted → AnswersUnlessMemory result noted }
+    // A text without the header takes no memory to refuse.
+    ensures header { ¬ Begins record_header text.now → result ≡ Err (TextError.Record no_header) }
     ensures fault { IfErr result (IsRecordRefusal (names_of plan.now) text.now) }
 {
     match Record::read(alloc, text, plan) {

@@ -1,5 +1,5 @@
 -- A look-up name by name, while the source tells more and more.
-use Rattle.std.proofs.Common.{◌≡◌, ℕ, suc, ◌+◌, ◌<◌, ◌≤◌, List, [], ◌∷◌, length, drop, get_or, refl, subst, sym, ◌∙◌, ap, inl, inr, add-one, drop-cons}
+use Rattle.std.proofs.Common.{◌≡◌, ℕ, suc, ◌+◌, ◌<◌, List, [], ◌∷◌, length, drop, get_or, refl, subst, sym, ◌∙◌, ap, inl, inr, add-one, drop-cons}
 use Rattle.std.specs.Prelude.{Option, Some, None, option_map}
 use Rattle.blob_digest.specs.Digest.{DigestValue}
 use Rattle.messages.specs.declared.node.Node.{Node}

@@ -1,5 +1,5 @@
 -- What comes before the first fault of a tree that is unfolded.
-use Rattle.std.proofs.Common.{◌≡◌, List, [], ◌∷◌, ◌++◌, refl, sym, ◌∙◌, subst, append_assoc, inl, inr}
+use Rattle.std.proofs.Common.{◌≡◌, List, [], ◌∷◌, ◌++◌, refl, sym, subst, append_assoc, inl, inr}
 use Rattle.std.specs.Prelude.{Option, Some, None}
 use Rattle.blob_digest.specs.Digest.{DigestValue}
 use Rattle.messages.specs.declared.node.Node.TheVariants.{File, Link, Dir}
@@ -9,7 +9,7 @@ use Rattle.tree.specs.Tree.{Name}
 use Rattle.tree.specs.Form.{NodeValue}
 use Rattle.blob_source.specs.Source.{Blobs, Grows}
 use Rattle.blob_source.specs.Told.{TellsDirectory, FailsDirectory}
-use Rattle.tree.specs.Lookup.{Looked, found, nothing, LooksFrom, Looks}
+use Rattle.tree.specs.Lookup.{Looked, found, LooksFrom, Looks}
 use Rattle.tree.specs.Unfolded.{IsFineAt}
 use Rattle.tree.specs.Unfolding.{AreFine}
 use Rattle.tree.proofs.Descent.{told_still}

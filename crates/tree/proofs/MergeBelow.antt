@@ -2,13 +2,13 @@
 use Rattle.std.proofs.Common.{◌≡◌, ℕ, zero, suc, ◌-◌, ◌<◌, List, [], ◌∷◌, ◌++◌, map, refl, ap, sym, ◌∙◌, subst, arith}
 use Rattle.std.specs.Prelude.{Option, Some, None, is_some, true, false, length, slice_index_or}
 use Rattle.std.specs.List.{AllByRecursion}
-use Rattle.blob_source.specs.Source.{Blobs, Grows}
+use Rattle.blob_source.specs.Source.{Blobs, Grows, Telling}
 use Rattle.tree.specs.declared.error.TreeError.{TreeError}
 use Rattle.tree.specs.declared.error.TreeError.TheVariants.{Absent, BlobMissing, BlobWrong, BlobMalformed, TooDeep, Conflict, Fetch, Memory}
 use Rattle.tree.specs.declared.merging.Part.{Part}
 use Rattle.tree.specs.Tree.{Name, Tree, Entry, single, whole}
 use Rattle.tree.specs.Form.{NodeValue, node_value}
-use Rattle.tree.specs.Memo.{Asked}
+use Rattle.tree.specs.Memo.{Asked, Known, Learns}
 use Rattle.tree.specs.Stage.{Stage}
 use Rattle.tree.specs.Unfolding.{ExplainsChild, IsFull}
 use Rattle.tree.specs.Lookup.{names_in}
@@ -16,7 +16,8 @@ use Rattle.tree.specs.Merging.{WithinValue, NodeWithin, MergeLines, MergeFault, 
 use Rattle.tree.specs.MergeLooks.{StandsOrLooksAt, MetLooksAt, OpenedLooksAt, EachLooksAt, MergeLooksIn, MergeLooksAt}
 use Rattle.tree.specs.MergeParts.{part_values, lines_met, MeetingLooksAt}
 use Rattle.tree.proofs.StageLaws.{looks_here, looks_next}
-use Rattle.tree.proofs.MergeLooking.{steady_opened}
+use Rattle.tree.proofs.Learning.{learns_then}
+use Rattle.tree.proofs.MergeLooking.{LooksOn, looks_at, steady_merged_in, steady_opened}
 use Rattle.tree.proofs.MergeStages.{all_lines_at, all_counted, stable_opened, stable_entry, stable_merged_in}
 use Rattle.tree.proofs.MergeSteps.{lone_stands, comes_below, fails_below}
 
@@ -76,6 +77,14 @@ module _ (k : ℕ) (path : List Name) (n : Name) (given kept : MergeLines) (same
     name_looks a h =
         let there = subst (λ p. MeetingLooksAt B k p (counted [] given) a) here (subst (λ l. MeetingLooksAt B k child l a) same h) in
         subst (λ o. StandsOrLooksAt o (MeetingLooksAt B k (path ++ n ∷ []) (counted [] given) a)) (sym (ap lone (sym same) ∙ none)) there
+
+-- what the lines of a name look at, after what those of earlier names did
+module _ (d : ℕ) (path : List Name) (ls : MergeLines) (some : 0 < d) (n : Name) (given kept : MergeLines) (left : List (Name × MergeLines)) (same : kept ≡ counted [] given) (none : lone kept ≡ None) (child : List Name) (here : child ≡ path ++ n ∷ []) where
+  pub learns_below : {refused : Type 0} {old mid new : Known} {t0 t1 t2 : Telling} → Grows t1.blobs t2.blobs → LooksOn (at_name (d - 1) path) (look_name (d - 1) path) t1.blobs ((n, given) ∷ left) (grouped ls)
+      → Learns (MergeLooksIn t1.blobs d path ls) ⊥ old mid t0 t1 → Learns (MeetingLooksAt t2.blobs (d - 1) child kept) refused mid new t1 t2 → Learns (MergeLooksIn t2.blobs d path ls) refused old new t0 t2
+  learns_below {t1 = t1} {t2 = t2} more looking before next =
+      learns_then {t1 = t1} (λ a. (steady_merged_in d path ls).still t1.blobs t2.blobs more a)
+      (λ a h. whole_looks d path ls some t2.blobs a (looks_at (at_name (d - 1) path) (look_name (d - 1) path) n given left (grouped ls) more looking a (name_looks (d - 1) path n given kept same none child here t2.blobs a h))) (λ n. n) before next
 
 -- ---- lines that meet
 

@@ -7,9 +7,10 @@ use Rattle.blob_source.proofs.Asking.{ok_no_error}
 use Rattle.tree.specs.Unfolded.{directories_in}
 use Rattle.checkout.specs.Folder.{empty_folder}
 use Rattle.checkout.specs.Refused.{FailsEntries}
-use Rattle.checkout.specs.Written.{AreWritten, IsGained}
-use Rattle.checkout.proofs.Entries.{fails_had, listed_length, told_anyway}
-use Rattle.checkout.proofs.Telling.{unfolded_still, place_fails}
+use Rattle.checkout.specs.Written.{AreWritten, EntriesLookAt, IsGained}
+use Rattle.checkout.proofs.Entries.{fails_had, listed_length, stops_after, told_anyway, tries_none}
+use Rattle.checkout.proofs.Telling.{directories_looked, unfolded_still, place_fails}
+use Rattle.tree.proofs.Leaving.{others_more, others_then}
 use Rattle.checkout.proofs.writing.check_out.Goals as goal
 
 pub returns-in_err-folder-clause-refused : goal.returns-in_err-folder-clause-refused
@@ -58,6 +59,50 @@ returns-in_err-folder-clause-unwritten g c = told_anyway _ (inl (c.in_ok-tree.tr
 pub returns-in_err-write_entries-clause-unwritten : goal.returns-in_err-write_entries-clause-unwritten
 returns-in_err-write_entries-clause-unwritten g c =
     told_anyway _ (inl (c.in_ok-tree.tree, unfolded_still c.write_entries.ensures.called.asked.blobs c.in_ok-tree.ensures.told))
+
+pub returns-in_err-tree-clause-stops : goal.returns-in_err-tree-clause-stops
+returns-in_err-tree-clause-stops g c = inl (tries_none g.W.FolderWriter.tried c.args.writer.now)
+
+pub returns-in_err-entries-clause-stops : goal.returns-in_err-entries-clause-stops
+returns-in_err-entries-clause-stops g c = inl (tries_none g.W.FolderWriter.tried c.args.writer.now)
+
+pub returns-in_err-folder-clause-stops : goal.returns-in_err-folder-clause-stops
+returns-in_err-folder-clause-stops g c = inr (inl c.take.ensures.tries)
+
+pub returns-in_err-write_entries-clause-stops : goal.returns-in_err-write_entries-clause-stops
+returns-in_err-write_entries-clause-stops g c =
+    let works = g.W.FolderWriter.works in
+    let taken = subst (λ r. IfOk r (λ f. works.has f (empty_folder c.args.path.now))) c.in_ok-folder.ensures.same c.take.ensures.taken in
+    stops_after works g.W.FolderWriter.tried c.args.writer.now c.take.new.self c.write_entries.new.writer c.in_ok-folder.folder c.args.path.now c.take.ensures.tries taken c.write_entries.ensures.stops
+
+pub returns-clause-stops : goal.returns-clause-stops
+returns-clause-stops g c =
+    let works = g.W.FolderWriter.works in
+    let taken = subst (λ r. IfOk r (λ f. works.has f (empty_folder c.args.path.now))) c.in_ok-folder.ensures.same c.take.ensures.taken in
+    stops_after works g.W.FolderWriter.tried c.args.writer.now c.take.new.self c.write_entries.new.writer c.in_ok-folder.folder c.args.path.now c.take.ensures.tries taken c.write_entries.ensures.stops
+
+pub returns-in_err-tree-clause-only : goal.returns-in_err-tree-clause-only
+returns-in_err-tree-clause-only g c = others_more (λ a h. inl h) c.read_tree.ensures.only
+
+pub returns-in_err-entries-clause-only : goal.returns-in_err-entries-clause-only
+returns-in_err-entries-clause-only g c = others_more (λ a h. inl h) c.read_tree.ensures.only
+
+pub returns-in_err-folder-clause-only : goal.returns-in_err-folder-clause-only
+returns-in_err-folder-clause-only g c = others_more (λ a h. inl h) c.read_tree.ensures.only
+
+pub returns-in_err-write_entries-clause-only : goal.returns-in_err-write_entries-clause-only
+returns-in_err-write_entries-clause-only g c =
+    let blobs = (g.S.BlobSource.tells c.write_entries.new.source).blobs in
+    let grows = c.write_entries.ensures.called.asked.blobs in
+    others_then (λ a. directories_looked c.args.root.now a grows)
+    (λ a h. inr (c.in_ok-tree.tree, unfolded_still grows c.in_ok-tree.ensures.told, subst (λ es. EntriesLookAt es a) c.in_ok-entries.ensures.value h)) c.read_tree.ensures.only c.write_entries.ensures.only
+
+pub returns-clause-only : goal.returns-clause-only
+returns-clause-only g c =
+    let blobs = (g.S.BlobSource.tells c.write_entries.new.source).blobs in
+    let grows = c.write_entries.ensures.called.asked.blobs in
+    others_then (λ a. directories_looked c.args.root.now a grows)
+    (λ a h. inr (c.in_ok-tree.tree, unfolded_still grows c.in_ok-tree.ensures.told, subst (λ es. EntriesLookAt es a) c.in_ok-entries.ensures.value h)) c.read_tree.ensures.only c.write_entries.ensures.only
 
 pub returns-clause-few : goal.returns-clause-few
 returns-clause-few g c =

@@ -3,7 +3,10 @@ use Rattle.tree.specs.FlatTree.{entry_value}
 use Rattle.checkout.specs.Folder.{Gains}
 use Rattle.checkout.specs.Folder.Written.{a_file, a_link}
 use Rattle.checkout.specs.Written.{MakesEntry}
+use Rattle.checkout.specs.Written.{EntryLooksAt}
+use Rattle.tree.specs.Memo.{AsksNoOther}
 use Rattle.checkout.proofs.Entries.{where_ok}
+use Rattle.checkout.proofs.Telling.{asks_nothing}
 use Rattle.checkout.proofs.writing.write_entry.Goals as goal
 
 pub returns-in-Link-clause-made : goal.returns-in-Link-clause-made
@@ -27,3 +30,19 @@ returns-in_ok-content-in-File-clause-made g c =
       of_entry = (c.in_ok-content-in-File.ensures.told, refl);
       gains = subst (λ b. Gains works old new c.args.place.now (a_file b c.in-File.executable)) c.deref.ensures.value gains;
     }))
+
+pub returns-in-Dir-clause-only : goal.returns-in-Dir-clause-only
+returns-in-Dir-clause-only g c = asks_nothing
+
+pub returns-in-Link-clause-only : goal.returns-in-Link-clause-only
+returns-in-Link-clause-only g c = asks_nothing
+
+pub returns-in_err-content-in-File-clause-only : goal.returns-in_err-content-in-File-clause-only
+returns-in_err-content-in-File-clause-only g c =
+    let tells = g.S.BlobSource.tells in
+    subst (λ e. AsksNoOther (EntryLooksAt (entry_value e)) (tells c.args.source.now).blobs (tells c.read_content.new.source).blobs) (sym c.in-File.is) c.read_content.ensures.only
+
+pub returns-in_ok-content-in-File-clause-only : goal.returns-in_ok-content-in-File-clause-only
+returns-in_ok-content-in-File-clause-only g c =
+    let tells = g.S.BlobSource.tells in
+    subst (λ e. AsksNoOther (EntryLooksAt (entry_value e)) (tells c.args.source.now).blobs (tells c.read_content.new.source).blobs) (sym c.in-File.is) c.read_content.ensures.only

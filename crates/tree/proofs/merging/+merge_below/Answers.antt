@@ -18,9 +18,9 @@ use Rattle.tree.specs.MergeParts.{part_values, group_values, within_of, lines_me
 use Rattle.tree.specs.Unfolding.{ExplainsChild}
 use Rattle.tree.specs.Visiting.{children_directory, items_of, with_children, tops_in}
 use Rattle.tree.proofs.Learning.{learns_none, learns_then, learns_refused, refused_exit}
-use Rattle.tree.proofs.MergeBelow.{at_name, look_name, GroupsHeld, grouped_held, counted_held, whole_passes, whole_fails, whole_looks, name_stands, name_meets, name_fails, name_looks, opening_looks, below_passes, below_fails, below_looks, can_more, no_lone, lone_some, lone_first, has_room}
+use Rattle.tree.proofs.MergeBelow.{at_name, look_name, GroupsHeld, grouped_held, counted_held, whole_passes, whole_fails, learns_below, name_stands, name_meets, name_fails, opening_looks, below_passes, below_fails, below_looks, can_more, no_lone, lone_some, lone_first, has_room}
 use Rattle.tree.proofs.MergeHeld.{opened_held}
-use Rattle.tree.proofs.MergeLooking.{LooksOn, looks_first, looks_on, looks_at, steady_merged_in}
+use Rattle.tree.proofs.MergeLooking.{LooksOn, looks_first, looks_on}
 use Rattle.tree.proofs.MergeOpens.{merge_explained}
 use Rattle.tree.proofs.MergeSteps.{MergesOn, merges_first, merges_leaf, merges_folder, merges_fault, merges_end, conflicts, fails_opening}
 use Rattle.tree.proofs.merging.+merge_below.Goals as goal
@@ -201,22 +201,14 @@ merge_below-returns-in_err-below-clause-learned g t c =
     let W = within_of c.args.lines.now in
     let path = names_in c.args.above.now in
     let ls = part_values W c.args.parts.items in
-    let at = at_name (c.args.deeper - 1) path in
-    let look = look_name (c.args.deeper - 1) path in
-    let n = c.in-Some.name in
     let given = part_values W c.in-Some.parts.items in
-    let left = group_values W c.next.new.self in
-    let B = (g.S.BlobSource.tells c.loop-name.source).blobs in
     let steps = rest_more (λ x. x) c.loop-name.name-iterator c.next.new.self c.next.result (c.in-Some.name, c.in-Some.parts) c.in-Some.is c.next.ensures.steps in
-    let looking = subst (λ l. LooksOn at look B (group_values W l) (grouped ls)) steps c.loop-name.invariant.looking in
+    let looking = subst (λ l. LooksOn (at_name (c.args.deeper - 1) path) (look_name (c.args.deeper - 1) path) (g.S.BlobSource.tells c.loop-name.source).blobs (group_values W l) (grouped ls)) steps c.loop-name.invariant.looking in
     let kept = part_values W c.in_ok-parts.parts.items in
     let same = c.in_ok-parts.ensures {u = tt} W in
     let none = no_lone (lone kept) (ap (λ ps. is_some (lone (part_values W ps))) (sym c.deref.ensures.value) ∙ sym (c.is_lone.ensures W) ∙ c.if-is_lone.false) in
-    let D = (g.S.BlobSource.tells c.meet.new.source).blobs in
-    let more = c.meet.ensures.called.asked.blobs in
-    learns_then {t1 = g.S.BlobSource.tells c.loop-name.source} (λ a. (steady_merged_in c.args.deeper path ls).still B D more a)
-    (λ a h. whole_looks c.args.deeper path ls c.requires.some D a (looks_at at look n given left (grouped ls) more looking a
-    (name_looks (c.args.deeper - 1) path n given kept same none c.in_ok-path.path (c.in_ok-path.ensures.path ∙ ap (λ o. names_in o ++ n ∷ []) c.as_ref.ensures.value) D a h))) (λ n. n) c.loop-name.invariant.learned
+    let here = c.in_ok-path.ensures.path ∙ ap (λ o. names_in o ++ c.in-Some.name ∷ []) c.as_ref.ensures.value in
+    learns_below c.args.deeper path ls c.requires.some c.in-Some.name given kept (group_values W c.next.new.self) same none c.in_ok-path.path here c.meet.ensures.called.asked.blobs looking c.loop-name.invariant.learned
     (learns_refused (λ a h. h) (refused_exit _ _ c.from_residual-in_err-below.ensures.1) c.in_err-below.ensures.learned)
 
 pub merge_below-returns-in_err-push_folder-clause-called : goal.merge_below-returns-in_err-push_folder-clause-called
@@ -228,24 +220,15 @@ merge_below-returns-in_err-push_folder-clause-learned g t c =
     let W = within_of c.args.lines.now in
     let path = names_in c.args.above.now in
     let ls = part_values W c.args.parts.items in
-    let at = at_name (c.args.deeper - 1) path in
-    let look = look_name (c.args.deeper - 1) path in
-    let n = c.in-Some.name in
     let given = part_values W c.in-Some.parts.items in
-    let left = group_values W c.next.new.self in
-    let B = (g.S.BlobSource.tells c.loop-name.source).blobs in
     let steps = rest_more (λ x. x) c.loop-name.name-iterator c.next.new.self c.next.result (c.in-Some.name, c.in-Some.parts) c.in-Some.is c.next.ensures.steps in
-    let looking = subst (λ l. LooksOn at look B (group_values W l) (grouped ls)) steps c.loop-name.invariant.looking in
+    let looking = subst (λ l. LooksOn (at_name (c.args.deeper - 1) path) (look_name (c.args.deeper - 1) path) (g.S.BlobSource.tells c.loop-name.source).blobs (group_values W l) (grouped ls)) steps c.loop-name.invariant.looking in
     let kept = part_values W c.in_ok-parts.parts.items in
     let same = c.in_ok-parts.ensures {u = tt} W in
     let none = no_lone (lone kept) (ap (λ ps. is_some (lone (part_values W ps))) (sym c.deref.ensures.value) ∙ sym (c.is_lone.ensures W) ∙ c.if-is_lone.false) in
-    let D = (g.S.BlobSource.tells c.meet.new.source).blobs in
-    let more = c.meet.ensures.called.asked.blobs in
-    learns_refused {few = MergeLooksIn D c.args.deeper path ls} (λ a h. h) (refused_exit _ _ c.from_residual-in_err-push_folder.ensures.1)
-    (learns_then {t1 = g.S.BlobSource.tells c.loop-name.source} (λ a. (steady_merged_in c.args.deeper path ls).still B D more a)
-    (λ a h. whole_looks c.args.deeper path ls c.requires.some D a (looks_at at look n given left (grouped ls) more looking a
-    (name_looks (c.args.deeper - 1) path n given kept same none c.in_ok-path.path (c.in_ok-path.ensures.path ∙ ap (λ o. names_in o ++ n ∷ []) c.as_ref.ensures.value) D a h))) (λ n. n) c.loop-name.invariant.learned
-    (c.in_ok-below.ensures {u = tt}).learned)
+    let here = c.in_ok-path.ensures.path ∙ ap (λ o. names_in o ++ c.in-Some.name ∷ []) c.as_ref.ensures.value in
+    learns_refused {few = MergeLooksIn (g.S.BlobSource.tells c.meet.new.source).blobs c.args.deeper path ls} (λ a h. h) (refused_exit _ _ c.from_residual-in_err-push_folder.ensures.1)
+    (learns_below c.args.deeper path ls c.requires.some c.in-Some.name given kept (group_values W c.next.new.self) same none c.in_ok-path.path here c.meet.ensures.called.asked.blobs looking c.loop-name.invariant.learned (c.in_ok-below.ensures {u = tt}).learned)
 
 pub merge_below-loop-name-preserved-then-is_lone : goal.merge_below-loop-name-preserved-then-is_lone
 merge_below-loop-name-preserved-then-is_lone g t c =
@@ -319,9 +302,7 @@ merge_below-loop-name-preserved g t c =
           (merges_folder at n given left (grouped ls) made tops more merges below.met.0 v.root (items_of v.encodings.items) below.met.2.root below.met.2.encodings meets));
       looking = looks_on at look n given left (grouped ls) more looking (whole below.met.0) meets;
       held = held.1;
-      learned = learns_then {t1 = g.S.BlobSource.tells c.loop-name.source} (λ a. (steady_merged_in c.args.deeper path ls).still B D more a)
-          (λ a h. whole_looks c.args.deeper path ls c.requires.some D a (looks_at at look n given left (grouped ls) more looking a
-          (name_looks (c.args.deeper - 1) path n given kept same none c.in_ok-path.path here D a h))) (λ n. n) c.loop-name.invariant.learned below.learned;
+      learned = learns_below c.args.deeper path ls c.requires.some n given kept left same none c.in_ok-path.path here more looking c.loop-name.invariant.learned below.learned;
     }
 
 pub merge_below-returns-in_err-close-clause-called : goal.merge_below-returns-in_err-close-clause-called
