@@ -270,6 +270,11 @@ def try_bad_folders(rows, program, folder, server):
             told = harness.run(program, "put", *server, f"{it}/a" if name == "nothing there" else it)
         right = (told.returncode, told.stdout) == (3, b"") and is_error(told.stderr) and f'"{it}/{bad}"'.encode() in told.stderr
         rows.tell(f"{name} isn't put: status 3, and it is named", right, told)
+    with tempfile.TemporaryDirectory(dir=folder) as it:
+        os.mkdir(os.fsencode(it) + b"/\xff")
+        told = harness.run(program, "put", *server, it)
+    right = (told.returncode, told.stdout, told.stderr) == (3, b"", f'error: "{it}": a name in it is no UTF-8\n'.encode())
+    rows.tell("a name that is no UTF-8 isn't put: status 3, and its folder and why are told", right, told)
 
 
 def try_outputs(rows, program, folder):

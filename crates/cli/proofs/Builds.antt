@@ -75,9 +75,9 @@ module _ (sees : Sight) (below : Below) (options : List Row) where
     -- the server couldn't be reached
     pub connect_fails : (e : CommandError) → OrMemory (FailsToConnect sees (string_bytes asked.server.address)) e → FailsBuild sees below options e
     connect_fails e (inl memory) = in_memory memory
-    connect_fails e (inr fails) = in_server asked.plan asked.sources read.asks ∣ inl (subst (λ a. FailsToConnect sees a e) read.server.address fails) ∣₁
+    connect_fails e (inr fails) = in_server asked.plan asked.sources read.asks ∣ (asked.server, read.server, inl fails) ∣₁
 
-    module _ (start : ConnectionValue) (opened : IsConnected sees (string_bytes asked.server.address) asked.server.host asked.server.prefix start) where
+    module _ (start : ConnectionValue) (opened : IsConnected sees asked.server start) where
       pub reaches : ReachesServer sees options
       reaches = record { plan = asked.plan; sources = asked.sources; asks = read.asks; start = start; opened = opened_to sees options asked.server start read.server opened }
 
@@ -105,4 +105,4 @@ module _ (sees : Sight) (below : Below) (options : List Row) where
         telling_fails e (inr (inl process)) = in_process asked.plan asked.sources starts
             (stops_by by below (string_bytes asked.work) (option_text options (codes "work")) read.work asked.jobs (jobs_asked options) read.jobs asked.plan asked.sources e process)
         telling_fails e (inr (inr over)) = in_server asked.plan asked.sources read.asks
-            (∥∥₁_map over (λ fails. inr (start, opened_to sees options asked.server start read.server opened, subst (λ a. FailsOver start a e) read.server.address fails)))
+            (∥∥₁_map over (λ fails. (asked.server, read.server, inr (start, opened, fails))))

@@ -3,9 +3,9 @@ use Rattle.std.proofs.Common.{◌≡◌, ◌∙◌, ◌⊎◌, ◌<◌, ◌≤�
 use Rattle.std.specs.Prelude.{codes, ◌↔◌, IsTrue, Option, Some, None, option_map, unwrap_or}
 use Rattle.std.specs.Option.{option_map_or}
 use Rattle.std.proofs.lemmas.Bool.{iff_false}
-use Rattle.clap.specs.Words.{Row, Text}
+use Rattle.clap.specs.Words.{Row, Text, fault_of, subcommand_of}
 use Rattle.verifier.specs.Verdict.{IsYes}
-use Rattle.command_lines.specs.CommandLine.{CallsCommand, options_of}
+use Rattle.command_lines.specs.CommandLine.{CallsCommand, options_of, program_line}
 use Rattle.cli.specs.Built.{BeginsBuild, Below, PrintsBuild}
 use Rattle.cli.specs.Refused.{FailsBuild}
 use Rattle.cli.specs.Ended.{BeginsAsked, EndsNo, Fails, IsDone}
@@ -32,12 +32,20 @@ use Rattle.commands.specs.declared.error.CommandError.TheVariants.{Server, Wrong
 use Rattle.commands.specs.declared.error.CommandError.TheVariants.{Output, Memory, Process}
 
 -- the rows of the subcommand that was found are those of the one that the words call
-pub options_found : (found called : Option (Text × List Row)) (rows : List Row) → found ≡ called → Some rows ≡ option_map (λ p. p.1) found → rows ≡ option_map_or (λ p. p.1) called []
+options_found : (found called : Option (Text × List Row)) (rows : List Row) → found ≡ called → Some rows ≡ option_map (λ p. p.1) found → rows ≡ option_map_or (λ p. p.1) called []
 options_found None called rows is e = absurd (never e)
   where
     never : ◌≡◌ {A = Option (List Row)} (Some rows) None → ⊥
     never h = cc
 options_found (Some p) called rows is e = ap (λ (o : Option (List Row)). unwrap_or o []) e ∙ ap (λ (o : Option (Text × List Row)). option_map_or (λ q. q.1) o []) is
+
+-- the words call the command of that name, and its rows are those
+pub called_by : (words : List Text) (name : Text) (found : Option (Text × List Row)) (rows : List Row) → fault_of program_line words ≡ [] → found ≡ subcommand_of program_line words
+    → option_map (λ p. p.0) found ≡ Some name → Some rows ≡ option_map (λ p. p.1) found → CallsCommand words name × (rows ≡ options_of words)
+called_by words name found rows faultless is named e = (
+  record { faultless = faultless; command_is = ap (λ (o : Option (Text × List Row)). option_map (λ p. p.0) o) (sym is) ∙ named },
+  options_found found (subcommand_of program_line words) rows is e,
+)
 
 -- words that call a command name one
 pub none_called : (found called : Option (Text × List Row)) (name : Text) → found ≡ called → ◌≡◌ {A = Option (List Row)} None (option_map (λ p. p.1) found)

@@ -1,5 +1,5 @@
 -- What `--help` and `--version` print.
-use Rattle.std.specs.Prelude.{ℕ, List, [], ◌∷◌, bytes_eq, codes, if◌then◌else◌}
+use Rattle.std.specs.Prelude.{ℕ, Bool, false, List, [], ◌∷◌, bytes_eq, codes, if◌then◌else◌}
 use Rattle.clap.specs.Words.{Text}
 use Rattle.cli.specs.declared.help.TheConstants.{BUILD, GET, PROGRAM, PUT, SERVE, VERIFY}
 
@@ -16,6 +16,11 @@ help_on name =
 abbrev pub help_asked : List Text → List ℕ
 help_asked [] = PROGRAM.now
 help_asked (name ∷ rest) = help_on name
+
+-- the words begin with `verify`
+abbrev pub are_of_verify : List Text → Bool
+are_of_verify [] = false
+are_of_verify (name ∷ rest) = bytes_eq name (codes "verify")
 
 abbrev pub version_line : List ℕ
 version_line = codes "buildcache 0.2.0\n"

@@ -15,6 +15,7 @@ use Rattle.builder.specs.declared.telling.Told.{Told}
 use Rattle.clap.specs.Words.{Row}
 use Rattle.command_lines.specs.CommandLine.{option_text}
 use Rattle.commands.specs.Faults.{IsDigestFault, IsFaultAtPath, OrMemory, error_of_file}
+use Rattle.commands.specs.Options.{OnNamedServer}
 use Rattle.commands.specs.Places.{FailsOver, IsToldOver}
 use Rattle.commands.specs.Printed.{IsOfOptions, IsConnectedTo}
 use Rattle.commands.specs.Refusal.{FailsPlan, FailsServer, IsPrintFault}
@@ -109,8 +110,8 @@ pub data FailsBuild (sees : Sight) (below : Below) (options : List Row) (e : Com
   in_plan : AllValid (build_words options) → IsSpelled (option_text options (codes "sources"))
       → FailsPlan sees options e → FailsBuild sees below options e
   in_server : (plan : PlanValue) (sources : DigestValue) → AsksBuild sees options plan sources
-      → ∥ FailsServer sees (option_text options (codes "server"))
-      (option_text options (codes "prefix")) e ∥₁ → FailsBuild sees below options e
+      → ∥ OnNamedServer options (λ server. FailsServer sees server e) ∥₁
+      → FailsBuild sees below options e
   in_folder : ReachesServer sees options → FailsFolder sees (option_text options (codes "work")) e
       → FailsBuild sees below options e
   in_place : ReachesServer sees options → sees.lists (option_text options (codes "work")) []

@@ -1,7 +1,9 @@
-ghost use Rattle.std.specs.Prelude.{◌≡◌, IfErr, OnErr, OnOk, map, string_bytes};
+ghost use Rattle.std.specs.Prelude.{◌≡◌, ◌≢◌, ◌++◌, ℕ, List, [], IfErr, IfOk, OnErr, OnOk};
+ghost use Rattle.std.specs.Prelude.{codes, false, map, string_bytes, true};
 ghost use Rattle.std.specs.Io.KnownBytes.{Appends};
 ghost use Rattle.clap.specs.Words.{HasKind, fault_of};
 ghost use Rattle.cli.specs.Ended.{BeginsShown, FailsInWords, ShowsAsked, WantsHelp, WantsVersion};
+ghost use Rattle.cli.specs.Help.{are_of_verify};
 ghost use Rattle.command_lines.specs.CommandLine.{program_line};
 ghost use Rattle.commands.specs.Refusal.{IsPrintFault};
 ghost use Rattle.commands.specs.Status.{exit_status};
@@ -37,9 +39,10 @@ pub(crate) fn show<O: Write>(
         ErrorKind::OutOfMemory => Err(CommandError::Memory),
         ErrorKind::DisplayHelp => print(help_asked(words), out),
         ErrorKind::DisplayVersion => print(VERSION_LINE, out),
-        _ => {
+        kind => {
             let text = error.to_string(alloc)?;
-            Err(CommandError::Words(mistake_line(alloc, text.as_str())?))
+            let told = mistake_line(alloc, text.as_str(), tip_on(kind, words))?;
+            Err(CommandError::Words(told))
         }
     }
 }
@@ -55,8 +58,42 @@ fn print<O: Write>(text: &str, out: &mut O) -> Result<(), CommandError>
     print_all(out, text.as_bytes())
 }
 
-/// The mistake in one line: clap's text without its usage, and what it takes for meant.
-fn mistake_line(alloc: Global, text: &str) -> Result<String, AllocError> {
+/// Whether the words begin with `verify`.
+fn are_of_verify(words: &[String]) -> bool
+    ensures { result ≡ are_of_verify (map string_bytes words.now) }
+{
+    match words.first() {
+        Some(word) => word.as_str() == "verify",
+        None => false,
+    }
+}
+
+/// What clap doesn't say: where the commands are told, and that `verify` needs one of two options,
+/// each of which it can do without.
+fn tip_on(kind: ErrorKind, words: &[String]) -> &'static str
+    ensures command { kind ≡ ErrorKind.InvalidSubcommand
+        → result.now ≡ codes "; tip: '--help' prints the commands" }
+    ensures place { kind ≡ ErrorKind.MissingRequiredArgument
+        → are_of_verify (map string_bytes words.now) ≡ true
+        → result.now ≡ codes "; tip: --server <ADDR> or --store <FOLDER> is needed too" }
+    ensures command_there { kind ≢ ErrorKind.InvalidSubcommand
+        → kind ≢ ErrorKind.MissingRequiredArgument → result.now ≡ [] }
+    ensures place_there { kind ≡ ErrorKind.MissingRequiredArgument
+        → are_of_verify (map string_bytes words.now) ≡ false → result.now ≡ [] }
+{
+    if kind == ErrorKind::InvalidSubcommand {
+        "; tip: '--help' prints the commands"
+    } else if kind == ErrorKind::MissingRequiredArgument && are_of_verify(words) {
+        "; tip: --server <ADDR> or --store <FOLDER> is needed too"
+    } else {
+        ""
+    }
+}
+
+/// The mistake in one line: clap's text without its usage, what it takes for meant, and the tip.
+fn mistake_line(alloc: Global, text: &str, tip: &str) -> Result<String, AllocError>
+    ensures { IfOk result (λ told. (front : List ℕ) × (string_bytes told ≡ front ++ tip.now)) }
+{
     let mut told = String::new(alloc);
     let text = text.strip_prefix("error: ").unwrap_or(text);
     for line in text.lines().take_while(|line| !line.starts_with("Usage: ")
@@ -71,5 +108,6 @@ fn mistake_line(alloc: Global, text: &str) -> Result<String, AllocError> {
         }
         told.push_str(line)?;
     }
+    told.push_str(tip)?;
     Ok(told)
 }

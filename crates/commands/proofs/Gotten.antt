@@ -36,36 +36,32 @@ tree_fails sees start address digest folder told error e over fails (inr tells) 
 
 -- ---- by the options
 
-module _ (sees : Sight) (options : List Row) (start : ConnectionValue) (digest : DigestValue) where
-  pub starts_get : (server : ServerOptions) → IsServerOf options server → AllValid (server_words options)
-      → IsDigestText (option_text options (codes "digest")) digest
-      → IsConnected sees (string_bytes server.address) server.host server.prefix start → StartsGet sees options digest start
-  starts_get server is words spelled opened = record { words = words; spelled = spelled; opened = opened_to sees options server start is opened }
+module _ (sees : Sight) (options : List Row) (start : ConnectionValue) (digest : DigestValue) (server : ServerOptions) (named : IsServerOf options server)
+    (words : AllValid (server_words options)) (spelled : IsDigestText (option_text options (codes "digest")) digest) (opened : IsConnected sees server start)
+    (into : Option (List ℕ)) (is : first_of (codes "into") options ≡ into) (result : Result Ended CommandError) where
+  starts : StartsGet sees options digest start
+  starts = record { words = words; spelled = spelled; opened = opened_to sees options server start named opened }
 
-  module _ (starts : StartsGet sees options digest start) (into : Option (List ℕ)) (is : first_of (codes "into") options ≡ into)
-      (result : Result Ended CommandError) where
-    pub asked_by : (address : List ℕ) → address ≡ option_text options (codes "server") → (old new : Option (List ℕ))
-        → IfOk result (IsGot sees into start address digest old new) → IfOk result (GetsAsked sees options old new)
-    asked_by address same old new got = by result got
-      where
-        by : (r : Result Ended CommandError) → IfOk r (IsGot sees into start address digest old new) → IfOk r (GetsAsked sees options old new)
-        by (Ok ended) h = record {
-          digest = digest;
-          start = start;
-          starts = starts;
-          got = subst (λ o. IsGot sees o start (option_text options (codes "server")) digest old new ended) (sym is)
-              (subst (λ a. IsGot sees into start a digest old new ended) same h);
-        }
-        by (Err e) h = tt
+  pub asked_by : (old new : Option (List ℕ)) → IfOk result (IsGot sees into start (string_bytes server.address) digest old new) → IfOk result (GetsAsked sees options old new)
+  asked_by old new got = by result got
+    where
+      by : (r : Result Ended CommandError) → IfOk r (IsGot sees into start (string_bytes server.address) digest old new) → IfOk r (GetsAsked sees options old new)
+      by (Ok ended) h = record {
+        digest = digest;
+        start = start;
+        starts = starts;
+        got = subst (λ o. IsGot sees o start (option_text options (codes "server")) digest old new ended) (sym is)
+            (subst (λ a. IsGot sees into start a digest old new ended) named.address h);
+      }
+      by (Err e) h = tt
 
-    pub refused_by : (address : List ℕ) → address ≡ option_text options (codes "server") → IfErr result (FailsGot sees into start address digest)
-        → IfErr result (FailsGet sees options)
-    refused_by address same fails = by result fails
-      where
-        by : (r : Result Ended CommandError) → IfErr r (FailsGot sees into start address digest) → IfErr r (FailsGet sees options)
-        by (Ok ended) h = tt
-        by (Err e) h = in_work digest start starts
-            (subst (λ o. FailsGot sees o start (option_text options (codes "server")) digest e) (sym is) (subst (λ a. FailsGot sees into start a digest e) same h))
+  pub refused_by : IfErr result (FailsGot sees into start (string_bytes server.address) digest) → IfErr result (FailsGet sees options)
+  refused_by fails = by result fails
+    where
+      by : (r : Result Ended CommandError) → IfErr r (FailsGot sees into start (string_bytes server.address) digest) → IfErr r (FailsGet sees options)
+      by (Ok ended) h = tt
+      by (Err e) h = in_work digest start starts
+          (subst (λ o. FailsGot sees o start (option_text options (codes "server")) digest e) (sym is) (subst (λ a. FailsGot sees into start a digest e) named.address h))
 
-    pub begun_by : (old new : Option (List ℕ)) → OnErr result (BeginsGot sees into start digest old new) → OnErr result (GetsPart sees options old new)
-    begun_by old new h = on_err result h (λ begins. inr (digest, start, starts, subst (λ o. BeginsGot sees o start digest old new) (sym is) begins))
+  pub begun_by : (old new : Option (List ℕ)) → OnErr result (BeginsGot sees into start digest old new) → OnErr result (GetsPart sees options old new)
+  begun_by old new h = on_err result h (λ begins. inr (digest, start, starts, subst (λ o. BeginsGot sees o start digest old new) (sym is) begins))

@@ -4,10 +4,9 @@ use Rattle.std.proofs.Math.Logic.{∥∥₁_map}
 use Rattle.std.proofs.lemmas.Result.{IfErr-weaker, IfOk-weaker}
 use Rattle.std.specs.declared.alloc.Global.{Global}
 use Rattle.std.specs.declared.string.String.{String}
-use Rattle.std.specs.Prelude.{IfSome, None, Option, Some, codes}
+use Rattle.std.specs.Prelude.{IfSome, None, Option, Some}
 use Rattle.blob_source.specs.Source.{Telling}
 use Rattle.clap.specs.Words.{Row}
-use Rattle.command_lines.specs.CommandLine.{option_text}
 use Rattle.text_verifier.specs.Lacking.{lack_of}
 use Rattle.text_verifier.specs.Texts.{Question}
 use Rattle.verifier.specs.declared.verdict.Verdict.{Verdict}
@@ -74,42 +73,25 @@ module _ (sees : Sight) (options : List Row) where
 
   module _ (server : ServerOptions) where
     pub on_server : (question : Question) (result : Result (Answer Global) CommandError) → IsNamedPlace options (Server server)
-        → IfOk result (IsAnsweredBy (IsOfServer sees (string_bytes server.address) server.prefix) (LacksAtServer sees (string_bytes server.address) server.prefix) question)
+        → IfOk result (IsAnsweredBy (IsOfServer sees server) (LacksAtServer sees server) question)
         → IfOk result (IsAnsweredBy (IsOfPlace sees options) (LacksAtPlace sees options) question)
     on_server question result place h =
-        place_weaker question result (IsOfServer sees (string_bytes server.address) server.prefix) (IsOfPlace sees options)
-        (LacksAtServer sees (string_bytes server.address) server.prefix) (LacksAtPlace sees options)
-        (λ t told. inr (
-          place.0,
-          subst (λ a. IsOfServer sees a (option_text options (codes "prefix")) t) place.1.address
-              (subst (λ p. IsOfServer sees (string_bytes server.address) p t) place.1.prefix told),
-        ))
-        (λ l lacks. inr (
-          place.0,
-          subst (λ a. LacksAtServer sees a (option_text options (codes "prefix")) l) place.1.address
-              (subst (λ p. LacksAtServer sees (string_bytes server.address) p l) place.1.prefix lacks),
-        )) h
+        place_weaker question result (IsOfServer sees server) (IsOfPlace sees options) (LacksAtServer sees server) (LacksAtPlace sees options)
+        (λ t told. inr (place.0, (server, place.1, told))) (λ l lacks. inr (place.0, (server, place.1, lacks))) h
 
     pub on_server_fails : (result : Result (Answer Global) CommandError) → IsNamedPlace options (Server server)
-        → IfErr result (OrMemory (λ e. ∥ FailsServer sees (string_bytes server.address) server.prefix e ∥₁)) → IfErr result (OrMemory (λ e. ∥ FailsAtPlace sees options e ∥₁))
-    on_server_fails result place h = place_fails result (FailsServer sees (string_bytes server.address) server.prefix)
-        (λ e fails. inr (
-          place.0,
-          subst (λ a. FailsServer sees a (option_text options (codes "prefix")) e) place.1.address
-              (subst (λ p. FailsServer sees (string_bytes server.address) p e) place.1.prefix fails),
-        )) h
+        → IfErr result (OrMemory (λ e. ∥ FailsServer sees server e ∥₁)) → IfErr result (OrMemory (λ e. ∥ FailsAtPlace sees options e ∥₁))
+    on_server_fails result place h = place_fails result (FailsServer sees server) (λ e fails. inr (place.0, (server, place.1, fails))) h
 
 module _ (sees : Sight) (options : List Row) (server : ServerOptions) (start : ConnectionValue) (is : IsServerOf options server)
-    (opened : IsConnected sees (string_bytes server.address) server.host server.prefix start) where
+    (opened : IsConnected sees server start) where
   -- a connection to the server that the options name
   pub opened_to : IsConnectedTo sees options start
-  opened_to = subst (λ a. IsConnected sees a (option_text options (codes "server")) (option_text options (codes "prefix")) start) is.address
-      (subst (λ h. IsConnected sees (string_bytes server.address) h (option_text options (codes "prefix")) start) is.host
-      (subst (λ p. IsConnected sees (string_bytes server.address) server.host p start) is.prefix opened))
+  opened_to = (server, is, opened)
 
   pub starts_put : AllValid (server_words options) → StartsPut sees options start
   starts_put valid = record { valid = valid; opened = opened_to }
 
   -- a client over it
   pub of_options : (told : Telling) → IsToldOver start told → IsOfOptions sees options told
-  of_options told over = record { start = start; opened = opened_to; over = over }
+  of_options told over = (server, is, record { start = start; opened = opened; over = over })

@@ -18,13 +18,14 @@ use Rattle.commands.specs.PutRefused.FailsBelow.{below, here, too_deep}
 use Rattle.commands.specs.PutRefused.FailsHere.{file_refused, folder_refused, in_memory, name_twice, no_name, no_text}
 use Rattle.commands.specs.Refusal.{IsPrintFault}
 use Rattle.commands.specs.Printed.{IsAsked, StartsServe}
+use Rattle.commands.specs.ServeRefused.{FailsToListen, IsAcceptFault}
 use Rattle.commands.specs.Status.{exit_status}
-use Rattle.commands.specs.Words.{AllValid, serve_words}
+use Rattle.commands.specs.Words.{AllValid, FailsFirst, serve_words}
 use Rattle.commands.specs.World.{Sight, a_link}
 use Rattle.commands.specs.declared.connecting.ServerOptions.{ServerOptions}
 use Rattle.commands.specs.declared.error.CommandError.{CommandError}
 use Rattle.commands.specs.declared.serving.Asked.{Asked}
-use Rattle.commands.specs.declared.error.CommandError.TheVariants.{Memory, Output}
+use Rattle.commands.specs.declared.error.CommandError.TheVariants.{Accept, Memory, Output}
 use Rattle.commands.proofs.Order.{Follows}
 use Rattle.commands.proofs.SoFar.{IsPutSoFar}
 
@@ -114,3 +115,32 @@ printed_status _ (inr fault) = absurd fault
 
 pub not_words : (e : CommandError) → OrMemory IsPrintFault e → exit_status e ≡ 2 → ⊥
 not_words e fault status = let same : ◌≡◌ {A = ℕ} 3 2 = sym (printed_status e fault) ∙ status in omega (arith, same)
+
+-- ---- no fault of connections
+
+module _ (options : List Row) where
+  pub words_not_accept : (e : CommandError) → OrMemory (FailsFirst (serve_words options)) e → IsAcceptFault e → ⊥
+  words_not_accept e (inl memory) accept = subst IsAcceptFault memory accept
+  words_not_accept (Accept f) (inr fails) accept = first fails
+    where
+      first : FailsFirst (serve_words options) (Accept f) → ⊥
+      first (inl h) = h.1
+      first (inr (a, inl h)) = h.1
+      first (inr (a, inr (b, inl h))) = h.1
+      first (inr (a, inr (b, inr (c, inl h)))) = h.1
+      first (inr (a, inr (b, inr (c, inr (d, inl h))))) = h.1
+      first (inr (a, inr (b, inr (c, inr (d, inr (x, inl h)))))) = h.1
+      first (inr (a, inr (b, inr (c, inr (d, inr (x, inr (y, inl h))))))) = h.1
+      first (inr (a, inr (b, inr (c, inr (d, inr (x, inr (y, inr (z, inl h)))))))) = h.1
+      first (inr (a, inr (b, inr (c, inr (d, inr (x, inr (y, inr (z, inr h)))))))) = h.1
+  words_not_accept _ (inr fails) accept = accept
+
+pub listen_not_accept : (sees : Sight) (place : List ℕ) (e : CommandError) → OrMemory (FailsToListen sees place) e → IsAcceptFault e → ⊥
+listen_not_accept sees place e (inl memory) accept = subst IsAcceptFault memory accept
+listen_not_accept sees place (Accept f) (inr fails) accept = fails
+listen_not_accept sees place _ (inr fails) accept = accept
+
+pub print_not_accept : (e : CommandError) → OrMemory IsPrintFault e → IsAcceptFault e → ⊥
+print_not_accept e (inl memory) accept = subst IsAcceptFault memory accept
+print_not_accept (Accept f) (inr fails) accept = fails
+print_not_accept _ (inr fails) accept = accept

@@ -41,3 +41,7 @@ pub record IsServerOf (options : List Row) (server : ServerOptions) : Type 0 whe
   pub host : server.host ≡ option_text options (codes "server")
   pub prefix : server.prefix ≡ option_text options (codes "prefix")
   pub timeout : IsTimeout (number_or 60 options (codes "timeout")) server.timeout
+
+-- so it is with that server
+abbrev pub OnNamedServer : List Row → (ServerOptions → Type 0) → Type 0
+OnNamedServer options is = (server : ServerOptions) × IsServerOf options server × is server

@@ -1,7 +1,9 @@
 -- What a source over a place outside tells: a store folder, or a server.
-use Rattle.std.specs.Prelude.{◌≡◌, ◌⊎◌, ℕ, false, List, [], Option, Some, None, codes}
+use Rattle.std.specs.Prelude.{◌≡◌, ◌≢◌, ◌⊎◌, ℕ, false, List, [], Option, Some, None, codes}
 use Rattle.std.specs.Prelude.{IfSome, string_bytes}
+use Rattle.std.specs.IoError.{error_kind}
 use Rattle.std.specs.declared.alloc.Global.{Global}
+use Rattle.std.specs.declared.io.ErrorKind.TheVariants.{OutOfMemory}
 use Rattle.blob_digest.specs.Digest.{DigestValue, digest_of}
 use Rattle.blob_source.specs.Source.{Blobs, Telling}
 use Rattle.blob_source.specs.declared.source.FetchError.{FetchError}
@@ -26,6 +28,7 @@ use Rattle.text_verifier.specs.declared.lack.Lack.{Lack}
 use Rattle.text_verifier.specs.declared.lack.Lack.TheVariants.{Blob, ActionResult}
 use Rattle.commands.specs.Faults.{IsServerFault, error_of_file}
 use Rattle.commands.specs.World.{Sight}
+use Rattle.commands.specs.declared.connecting.ServerOptions.{ServerOptions}
 use Rattle.commands.specs.declared.error.CommandError.{CommandError}
 use Rattle.commands.specs.declared.error.CommandError.TheVariants.{Connection}
 use Rattle.commands.specs.declared.failure.Failure.{Failure}
@@ -95,18 +98,18 @@ FailsInFolder sees folder e =
 
 -- ---- a server
 
--- the error tells that no connection could be opened
+-- the error tells that no connection could be opened; lack of memory is no such fault
 abbrev pub FailsToConnect : Sight → List ℕ → CommandError → Type 0
 FailsToConnect sees address (Connection server fault) =
-    (string_bytes server ≡ address) × sees.refuses address fault
+    (string_bytes server ≡ address) × sees.refuses address fault × (error_kind fault ≢ OutOfMemory)
 FailsToConnect sees address _ = ⊥
 
--- a connection to the server at this address was opened, for requests with this host and prefix
-pub record IsConnected (sees : Sight) (address host prefix : List ℕ) (c : ConnectionValue)
+-- a connection to this server was opened, for requests with its host and its prefix
+pub record IsConnected (sees : Sight) (server : ServerOptions) (c : ConnectionValue)
     : Type 0 where
-  pub connected : sees.connects address c.flow
-  pub host_is : c.host ≡ host
-  pub prefix_is : c.prefix ≡ prefix
+  pub connected : sees.connects (string_bytes server.address) server.timeout c.flow
+  pub host_is : c.host ≡ server.host
+  pub prefix_is : c.prefix ≡ server.prefix
   pub unbroken : c.broken ≡ false
   pub unfailed : c.fault ≡ None
 
@@ -195,16 +198,16 @@ KeepsRefused start now (Some f) =
 abbrev pub IsToldOver : ConnectionValue → Telling → Type 0
 IsToldOver start told = (now : ConnectionValue) × IsClientOver start now told
 
--- a client of the server at this address, under this prefix, told this
-pub record IsOfServer (sees : Sight) (address prefix : List ℕ) (told : Telling) : Type 0 where
+-- a client of this server told this
+pub record IsOfServer (sees : Sight) (server : ServerOptions) (told : Telling) : Type 0 where
   pub start : ConnectionValue
-  pub opened : IsConnected sees address address prefix start
+  pub opened : IsConnected sees server start
   pub over : IsToldOver start told
 
--- the server at this address, under this prefix, replied that it has no such blob or result
-pub record LacksAtServer (sees : Sight) (address prefix : List ℕ) (lack : Lack) : Type 0 where
+-- it replied that it has no such blob or result
+pub record LacksAtServer (sees : Sight) (server : ServerOptions) (lack : Lack) : Type 0 where
   pub start : ConnectionValue
-  pub opened : IsConnected sees address address prefix start
+  pub opened : IsConnected sees server start
   pub lacks : LacksIt start lack
 
 -- for a marker that names no connection

@@ -19,7 +19,7 @@ use Rattle.text_verifier.specs.Lacking.{lack_of}
 use Rattle.text_verifier.specs.Texts.{HasTexts, Question, IsDigestText}
 use Rattle.text_verifier.specs.declared.lack.Lack.{Lack}
 use Rattle.commands.specs.Got.{BeginsBlob, Writes}
-use Rattle.commands.specs.Options.{IsServerOf, decimal_number, number_or}
+use Rattle.commands.specs.Options.{IsServerOf, OnNamedServer, decimal_number, number_or}
 use Rattle.commands.specs.Places.{IsOfFolder, IsOfServer, IsConnected, LacksAtServer}
 use Rattle.commands.specs.Places.{LacksInFolder}
 use Rattle.commands.specs.Put.{PutsPath}
@@ -56,10 +56,9 @@ IsNamedPlace options (Folder folder) =
     NamesStore options × (string_bytes folder ≡ option_text options (codes "store"))
 IsNamedPlace options (Server server) = NamesServer options × IsServerOf options server
 
--- a client of the server that the options name, under the prefix that they give, told this
+-- a client of the server that the options name told this
 abbrev pub IsOfOptions : Sight → List Row → Telling → Type 0
-IsOfOptions sees options =
-    IsOfServer sees (option_text options (codes "server")) (option_text options (codes "prefix"))
+IsOfOptions sees options told = OnNamedServer options (λ server. IsOfServer sees server told)
 
 -- a source over the place that the options name told this
 abbrev pub IsOfPlace : Sight → List Row → Telling → Type 0
@@ -72,8 +71,7 @@ IsOfPlace sees options told =
 abbrev pub LacksAtPlace : Sight → List Row → Lack → Type 0
 LacksAtPlace sees options lack =
     (NamesStore options × LacksInFolder sees (option_text options (codes "store")) lack)
-    ⊎ (NamesServer options × LacksAtServer sees (option_text options (codes "server"))
-    (option_text options (codes "prefix")) lack)
+    ⊎ (NamesServer options × OnNamedServer options (λ server. LacksAtServer sees server lack))
 
 -- The digests in the words, and the files that they name, as they were read, ask this question.
 pub record AsksQuestion (sees : Sight) (options : List Row) (question : Question) : Type 0 where
@@ -124,9 +122,7 @@ NotesStore sees options Done = Unit {0}
 
 -- a connection to the server that the options name was opened, and stood so
 abbrev pub IsConnectedTo : Sight → List Row → ConnectionValue → Type 0
-IsConnectedTo sees options =
-    IsConnected sees (option_text options (codes "server")) (option_text options (codes "server"))
-    (option_text options (codes "prefix"))
+IsConnectedTo sees options start = OnNamedServer options (λ server. IsConnected sees server start)
 
 -- the options spell this digest, and a connection to the server that they name was opened
 pub record StartsGet (sees : Sight) (options : List Row) (digest : DigestValue)
@@ -214,6 +210,11 @@ pub record ServesAsked (sees : Sight) (options : List Row) (old new : Option (Li
   pub starts : StartsServe sees options address
   pub printed : Appends old new (listening_line address)
   pub served : sees.serves (serving_of options address)
+
+-- the line of an address where a socket so listens was printed
+abbrev pub PrintsListening : Sight → List Row → Option (List ℕ) → Option (List ℕ) → Type 0
+PrintsListening sees options old new = (address : SocketAddr)
+    × StartsServe sees options address × Appends old new (listening_line address)
 
 -- nothing was printed, or the line or a beginning of it, of an address where a socket so listens
 abbrev pub BeginsListening : Sight → List Row → Option (List ℕ) → Option (List ℕ) → Type 0

@@ -1,5 +1,5 @@
 -- What `put` puts: what was read at a path and below it, and the blobs that the server took.
-use Rattle.std.specs.Prelude.{◌⊎◌, ℕ, suc, false, List, ◌∷◌, ◌++◌, Some}
+use Rattle.std.specs.Prelude.{◌⊎◌, ℕ, suc, false, true, List, ◌∷◌, ◌++◌, Some}
 use Rattle.std.specs.List.{Contains}
 use Rattle.blob_digest.specs.Digest.{DigestValue, digest_of}
 use Rattle.http_core.specs.declared.event.Area.TheVariants.{Cas}
@@ -49,8 +49,9 @@ pub data IsPutAt (sees : Sight) (start : ConnectionValue) : ℕ → List ℕ →
       → ∥ TakesBlob start (directory_bytes d) ∥₁
       → IsPutAt sees start (suc left) place (Dir (digest_of (directory_bytes d)))
 
--- The digest is that of the file or the folder that was read at the path, below which paths have at
--- most 64 names.
+-- The digest is that of the file or the folder that was read at the path, where links are followed;
+-- paths below it have at most 64 names.
 abbrev pub PutsPath : Sight → ConnectionValue → List ℕ → DigestValue → Type 0
 PutsPath sees start path digest =
-    IsPutAt sees start 65 path (File digest false) ⊎ IsPutAt sees start 65 path (Dir digest)
+    (sees.leads path false × IsPutAt sees start 65 path (File digest false))
+    ⊎ (sees.leads path true × IsPutAt sees start 65 path (Dir digest))

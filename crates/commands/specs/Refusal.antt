@@ -1,6 +1,7 @@
 -- Why `verify` ends without its answer: the first fault, in the order words, digests, plan, record,
 -- connection and work. Of a file, that it can't be read comes before what is wrong in its text.
-use Rattle.std.specs.Prelude.{◌≡◌, ◌⊎◌, ℕ, Bool, true, false, List, IfSome, codes, string_bytes}
+use Rattle.std.specs.Prelude.{◌≡◌, ◌⊎◌, ◌-◌, ℕ, Bool, true, false, List, IfSome, Some, codes}
+use Rattle.std.specs.Prelude.{length, slice_get, string_bytes}
 use Rattle.std.specs.declared.alloc.Global.{Global}
 use Rattle.blob_digest.specs.declared.error.DigestError.{DigestError}
 use Rattle.clap.specs.Words.{Row}
@@ -16,12 +17,15 @@ use Rattle.text_verifier.specs.Refused.{IsNoDigest, IsSpelled}
 use Rattle.text_verifier.specs.Texts.{HasPlan, Question}
 use Rattle.verifier.specs.declared.verdict.Verdict.{Verdict}
 use Rattle.command_lines.specs.CommandLine.{option_text}
+use Rattle.commands.specs.declared.connecting.ServerOptions.{ServerOptions}
 use Rattle.commands.specs.declared.error.CommandError.{CommandError}
 use Rattle.commands.specs.declared.error.CommandError.TheVariants.{Digest, Memory, Output}
 use Rattle.commands.specs.declared.error.CommandError.TheVariants.{Text}
 use Rattle.commands.specs.declared.hint.Hint.{Hint}
-use Rattle.commands.specs.declared.hint.Hint.TheVariants.{LaterStep, NoStep, OwnStep}
+use Rattle.commands.specs.declared.hint.Hint.TheVariants.{BlankAtEnd, CarriageReturn, LaterStep}
+use Rattle.commands.specs.declared.hint.Hint.TheVariants.{NoLine, NoNewline, NoStep, OwnStep}
 use Rattle.commands.specs.Faults.{error_of_file}
+use Rattle.commands.specs.Options.{OnNamedServer}
 use Rattle.commands.specs.Places.{FailsInFolder, FailsOver, FailsToConnect, IsConnected}
 use Rattle.commands.specs.Printed.{AsksQuestion, JudgesAsked, NamesServer, NamesStore}
 use Rattle.commands.specs.Words.{AllValid, FailsFirst, place_words}
@@ -71,6 +75,16 @@ is_of_step OwnStep = true
 is_of_step NoStep = true
 is_of_step _ = false
 
+-- what the hint says of a line of a text holds: of its last byte (13: carriage return; 32, 9:
+-- blanks), and of what stands behind it
+abbrev pub FitsLine : List ℕ → Bool → Hint → Type 0
+FitsLine line is_last CarriageReturn = slice_get line (length line - 1) ≡ Some 13
+FitsLine line is_last BlankAtEnd = (slice_get line (length line - 1) ≡ Some 32)
+    ⊎ (slice_get line (length line - 1) ≡ Some 9)
+FitsLine line is_last NoNewline = is_last ≡ true
+FitsLine line is_last NoLine = (length line ≡ 0) × (is_last ≡ true)
+FitsLine line is_last _ = Unit {0}
+
 -- the hints that may stand beside a fault
 abbrev pub GoesWith : Fault → Hint → Type 0
 GoesWith faults.LaterStep hint = is_of_step hint ≡ true
@@ -94,17 +108,16 @@ FailsRecord sees options plan =
     FailsText sees (option_text options (codes "record")) (IsRecordFault (names_of plan))
 
 -- the server can't be reached, or refused a request over the connection
-abbrev pub FailsServer : Sight → List ℕ → List ℕ → CommandError → Type 0
-FailsServer sees address prefix e = FailsToConnect sees address e
-    ⊎ ((start : ConnectionValue) × IsConnected sees address address prefix start
-    × FailsOver start address e)
+abbrev pub FailsServer : Sight → ServerOptions → CommandError → Type 0
+FailsServer sees server e = FailsToConnect sees (string_bytes server.address) e
+    ⊎ ((start : ConnectionValue) × IsConnected sees server start
+    × FailsOver start (string_bytes server.address) e)
 
 -- a file of the store that the options name can't be read, or the server that they name is at fault
 abbrev pub FailsAtPlace : Sight → List Row → CommandError → Type 0
 FailsAtPlace sees options e =
     (NamesStore options × FailsInFolder sees (option_text options (codes "store")) e)
-    ⊎ (NamesServer options × FailsServer sees (option_text options (codes "server"))
-    (option_text options (codes "prefix")) e)
+    ⊎ (NamesServer options × OnNamedServer options (λ server. FailsServer sees server e))
 
 -- The first fault: what comes before it has none. That memory is wanting may come anywhere, and is
 -- told as that.

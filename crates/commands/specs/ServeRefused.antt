@@ -18,6 +18,11 @@ abbrev pub IsRandomFault : CommandError → Type 0
 IsRandomFault (Random fault) = Unit {0}
 IsRandomFault _ = ⊥
 
+-- no more connections could be accepted
+abbrev pub IsAcceptFault : CommandError → Type 0
+IsAcceptFault (Accept fault) = Unit {0}
+IsAcceptFault _ = ⊥
+
 -- no socket could be bound at this place
 abbrev pub FailsToListen : Sight → List ℕ → CommandError → Type 0
 FailsToListen sees place (Address text fault) =

@@ -1,11 +1,12 @@
 -- What may be said of what a command reaches outside, by what was told of it.
-use Rattle.std.specs.Prelude.{ℕ, Bool, List, string_bytes}
+use Rattle.std.specs.Prelude.{ℕ, Bool, List, Option, Some, string_bytes, true}
 use Rattle.std.specs.declared.alloc.Global.{Global}
 use Rattle.std.specs.declared.io.Error.{Error}
 use Rattle.std.specs.declared.net.socket_addr.SocketAddr.{SocketAddr}
+use Rattle.std.specs.declared.time.Duration.{Duration}
 use Rattle.cache_server.specs.Cache.{CacheValue}
 use Rattle.checkout.specs.Folder.{FolderValue}
-use Rattle.remote.specs.Flow.{Flow}
+use Rattle.remote.specs.Flow.{Flow, unknown_flow}
 use Rattle.remote.specs.declared.files.FileError.{FileError}
 use Rattle.service.specs.declared.error.NotAccepted.{NotAccepted}
 use Rattle.commands.specs.declared.world.Found.{Found}
@@ -41,8 +42,8 @@ pub record Sight : Type 1 where
   pub leads : List ℕ → Bool → Type 0
   -- what stands at the path couldn't be read, for this
   pub fails : List ℕ → FileError Global → Type 0
-  -- a stream was opened to the server at this address, and stood so
-  pub connects : List ℕ → Flow → Type 0
+  -- a stream was opened to the server at this address, with this limit on its silence, and stood so
+  pub connects : List ℕ → Option Duration → Flow → Type 0
   -- none could be opened, for this
   pub refuses : List ℕ → Error → Type 0
   -- a file or nothing stands at the path, where links are followed, and its folder takes a new file
@@ -70,7 +71,7 @@ sees_nothing = record {
   stands = λ _ _. Unit {0};
   leads = λ _ _. Unit {0};
   fails = λ _ _. Unit {0};
-  connects = λ _ _. Unit {0};
+  connects = λ _ _ _. Unit {0};
   refuses = λ _ _. Unit {0};
   takes = λ _. Unit {0};
   wrote = λ _ _. Unit {0};
@@ -81,6 +82,10 @@ sees_nothing = record {
   serves = λ _. Unit {0};
   unserved = λ _ _. Unit {0};
 }
+
+-- a stream of which it is known that it can be opened anew, and nothing else
+abbrev pub renewable_flow : Flow
+renewable_flow = record unknown_flow { is_renewable = Some true }
 
 -- what was found at a path
 abbrev pub what_stands : Found → FoundValue

@@ -254,8 +254,8 @@ pub fn open<W: World>(
     world: &W,
     server: &ServerOptions,
 ) -> Result<Remote<W::Link, Global>, CommandError>
-    ensures opened { IfOk result (λ remote. IsConnected W.sees (string_bytes server.now.address)
-        server.now.host server.now.prefix (connection_of W.Link.flow remote)) }
+    ensures opened { IfOk result
+        (λ remote. IsConnected W.sees server.now (connection_of W.Link.flow remote)) }
     ensures fresh { IfOk result (λ remote. IsFresh remote) }
     ensures fault { IfErr result
         (OrMemory (FailsToConnect W.sees (string_bytes server.now.address))) }

@@ -9,7 +9,7 @@ ghost use Rattle.commands.specs.Words.{IsCheckedBy, has_prefix, has_timeout, nam
 ghost use Rattle.commands.specs.Words.{server_words};
 
 use crate::error::CommandError;
-use crate::options::{is_address, number_in, unlike};
+use crate::options::{is_address, limit_of, number_in, unlike};
 use clap::ArgMatches;
 use command_lines::{option_of, text_of};
 use http_core::{Host, Prefix};
@@ -53,12 +53,11 @@ fn read_timeout(alloc: Global, matches: &ArgMatches<'_>) -> Result<Option<Durati
     ensures checked { IsCheckedBy (has_timeout (rows_of (found_of matches.now)) ∷ []) result }
 {
     if option_of(matches, "timeout").is_none() {
-        return Ok(Some(Duration::from_secs(SILENT)));
+        return Ok(limit_of(SILENT));
     }
     let text = text_of(matches, "timeout");
     match number_in(text) {
-        Some(0) => Ok(None),
-        Some(seconds) => Ok(Some(Duration::from_secs(seconds))),
+        Some(seconds) => Ok(limit_of(seconds)),
         None => Err(unlike(alloc, "timeout", "a number of seconds", text)?),
     }
 }
@@ -209,9 +208,10 @@ impl<'r, R: Net<Stream = TcpStream>> Connection<'r, R> {
 }
 
 impl<R: Net<Stream = TcpStream>> Stream for Connection<'_, R> {
-    ghost use Rattle.remote.specs.Flow.{IsOpenedAnew, StaysClosed, unknown_flow};
+    ghost use Rattle.commands.specs.World.{renewable_flow};
+    ghost use Rattle.remote.specs.Flow.{IsOpenedAnew, StaysClosed};
 
-    ghost flow = { λ _. unknown_flow };
+    ghost flow = { λ _. renewable_flow };
 
     fn receive(&mut self, buf: &mut [u8]) -> io::Result<usize> {
         read_again(&mut self.reader, buf)
@@ -233,8 +233,8 @@ impl<R: Net<Stream = TcpStream>> Stream for Connection<'_, R> {
     }
 
     fn renew(&mut self) -> io::Result<()>
-        ensures opened { OnOk result (IsOpenedAnew unknown_flow unknown_flow) }
-        ensures err { OnErr result (StaysClosed unknown_flow unknown_flow) }
+        ensures opened { OnOk result (IsOpenedAnew renewable_flow renewable_flow) }
+        ensures err { OnErr result (StaysClosed renewable_flow renewable_flow) }
         ensures empty { OnOk result (reader_buffer self.new.reader ≡ []) }
     {
         let stream = connect(self.rt, self.address.as_str(), self.timeout)?;

@@ -1,4 +1,6 @@
-ghost use Rattle.remote.specs.Folder.{IsErrorOf};
+ghost use Rattle.std.specs.Prelude.{◌≡◌, ◌≢◌};
+ghost use Rattle.std.specs.IoError.{error_kind};
+ghost use Rattle.remote.specs.Folder.{IsErrorOf, TellsFault};
 
 use crate::error::CommandError;
 use remote::FileError;
@@ -22,9 +24,21 @@ impl From<FileError<Global>> for CommandError {
     }
 }
 
+/// The fault of an entry of a folder that is read. Of its name the system says nothing more.
+pub(crate) fn of_entry(fault: io::Error) -> io::Error
+    ensures { error_kind result ≡ error_kind fault }
+{
+    if fault.kind() == ErrorKind::InvalidFilename {
+        return io::Error::new(ErrorKind::InvalidFilename, "a name in it is no UTF-8");
+    }
+    fault
+}
+
 /// The error of what can't be read.
 pub(crate) fn unread(alloc: Global, path: &str, fault: io::Error) -> FileError<Global>
-    ensures { IsErrorOf path.now result }
+    ensures error { IsErrorOf path.now result }
+    ensures fault { result ≢ FileError.Memory → TellsFault path.now fault result }
+    ensures memory { error_kind fault ≡ ErrorKind.OutOfMemory → result ≡ FileError.Memory }
 {
     if matches!(fault.kind(), ErrorKind::OutOfMemory) {
         return FileError::Memory;

@@ -1,6 +1,6 @@
 ghost use Rattle.std.specs.Prelude.{◌≡◌, IfSome, Some, false, true};
 ghost use Rattle.commands.specs.ErrorText.{hint_words};
-ghost use Rattle.commands.specs.Refusal.{GoesWith, is_of_step};
+ghost use Rattle.commands.specs.Refusal.{FitsLine, GoesWith, is_of_step};
 
 use plan::{Fault, PlanError};
 
@@ -63,7 +63,8 @@ pub(crate) fn hint_text(hint: &Option<Hint>) -> &'static str
 
 /// That of a line without the form of a line of a plan or a record.
 fn hint_of_form(line: &[u8], is_last: bool) -> Option<Hint>
-    ensures { IfSome result (λ hint. is_of_step hint ≡ false) }
+    ensures kind { IfSome result (λ hint. is_of_step hint ≡ false) }
+    ensures fits { IfSome result (FitsLine line.now is_last) }
 {
     match line.last() {
         Some(b'\r') => Some(Hint::CarriageReturn),

@@ -2,7 +2,7 @@ ghost use Rattle.std.specs.Prelude.{◌↔◌, IfErr, IfOk, IsTrue, SomeIff};
 ghost use Rattle.clap.specs.Words.{found_of, rows_of};
 ghost use Rattle.command_lines.specs.CommandLine.{option_text};
 ghost use Rattle.commands.specs.Faults.{IsDigestFault, IsUnlikeWanted};
-ghost use Rattle.commands.specs.Options.{IsAddress, IsNumber, decimal_number};
+ghost use Rattle.commands.specs.Options.{IsAddress, IsNumber, IsTimeout, decimal_number};
 ghost use Rattle.text_verifier.specs.Texts.{IsDigestText};
 
 use crate::error::CommandError;
@@ -10,6 +10,7 @@ use blob_digest::Digest;
 use clap::ArgMatches;
 use command_lines::text_of;
 use std::alloc::{AllocError, Global};
+use std::time::Duration;
 
 /// The digest that an option spells.
 pub fn read_digest(
@@ -41,6 +42,16 @@ pub fn number_in(text: &str) -> Option<u64>
         return None;
     }
     text.parse().ok()
+}
+
+/// How long something may take, by a number of seconds; 0: for ever.
+pub(crate) fn limit_of(seconds: u64) -> Option<Duration>
+    ensures { IsTimeout seconds result }
+{
+    match seconds {
+        0 => None,
+        seconds => Some(Duration::from_secs(seconds)),
+    }
 }
 
 /// Whether it is HOST:PORT.

@@ -18,7 +18,7 @@ pub(crate) trait Counter {
     ghost size: { Self → ℕ };
 
     /// Counts a file that was put.
-    fn count(&mut self, bytes: usize)
+    fn count(&mut self, bytes: u64)
         ensures files { files self.new ≡ min (files self.old + 1) 18446744073709551615 }
         ensures bytes { size self.new ≡ min (size self.old + bytes) 18446744073709551615 };
 }
@@ -90,13 +90,13 @@ impl<R: AllocGlobal + Clock + Clone + Drop, T: Write + Drop> Counter for PutProg
     ghost size = { λ put. put.bytes };
 
     /// Counts a file that was put. The line is written anew where the last one stands long enough.
-    fn count(&mut self, bytes: usize)
+    fn count(&mut self, bytes: u64)
         ensures files { self.new.files ≡ min (self.old.files + 1) 18446744073709551615 }
         ensures bytes { self.new.bytes ≡ min (self.old.bytes + bytes) 18446744073709551615 }
         ensures silent { self.old.line.terminal ≡ None → self.new.line ≡ self.old.line }
     {
         self.files = self.files.saturating_add(1);
-        self.bytes = self.bytes.saturating_add(bytes as u64);
+        self.bytes = self.bytes.saturating_add(bytes);
         if self.line.has_terminal() {
             self.show();
         }

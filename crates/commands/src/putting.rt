@@ -75,11 +75,13 @@ fn put_file<W: World, K: Origin, P: Counter>(
         (FailsHere W.sees K.start (string_bytes server.now.address) place.now) }
     ensures counted { OnOk result
         (P.files progress.new ≡ min (P.files progress.old + 1) 18446744073709551615) }
+    ensures sized { IfOk result (λ digest.
+        P.size progress.new ≡ min (P.size progress.old + digest.size) 18446744073709551615) }
     ensures uncounted { OnErr result (progress.new ≡ progress.old) }
 {
     let bytes = world.read(alloc, place)?;
     let digest = client.put(alloc, server, &bytes)?;
-    progress.count(bytes.len());
+    progress.count(digest.size());
     Ok(digest)
 }
 

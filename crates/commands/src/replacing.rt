@@ -1,3 +1,6 @@
+ghost use Rattle.std.specs.Prelude.{IsOk, OnOk};
+ghost use Rattle.std.specs.Fs.{IsFile, file_type};
+
 use std::alloc::Global;
 use std::fs::File;
 use std::io::{ErrorKind, Write};
@@ -26,7 +29,10 @@ fn place_of<R: AllocGlobal + Files>(rt: &R, alloc: Global, path: &str) -> io::Re
 }
 
 /// What has this metadata is a file.
-fn check_file(metadata: &fs::Metadata) -> io::Result<()> {
+fn check_file(metadata: &fs::Metadata) -> io::Result<()>
+    ensures file { OnOk result (IsFile (file_type metadata.now)) }
+    ensures taken { IsFile (file_type metadata.now) → IsOk result }
+{
     if metadata.is_dir() {
         return Err(io::Error::from(ErrorKind::IsADirectory));
     }

@@ -4,10 +4,11 @@ ghost use Rattle.std.specs.Io.KnownBytes.{Appends};
 ghost use Rattle.clap.specs.Words.{found_of, rows_of};
 ghost use Rattle.command_lines.specs.CommandLine.{option_text};
 ghost use Rattle.commands.specs.Options.{IsNumber, decimal_number, number_or};
-ghost use Rattle.commands.specs.Printed.{BeginsListening, IsAsked, ServesAsked, listening_line};
+ghost use Rattle.commands.specs.Printed.{BeginsListening, IsAsked, PrintsListening, ServesAsked};
+ghost use Rattle.commands.specs.Printed.{listening_line};
 ghost use Rattle.commands.specs.Faults.{OrMemory};
 ghost use Rattle.commands.specs.Refusal.{IsPrintFault};
-ghost use Rattle.commands.specs.ServeRefused.{FailsServe, FailsToListen};
+ghost use Rattle.commands.specs.ServeRefused.{FailsServe, FailsToListen, IsAcceptFault};
 ghost use Rattle.commands.specs.Status.{exit_status};
 ghost use Rattle.commands.specs.Told.{AppendsBeginning};
 ghost use Rattle.commands.specs.Words.{IsCheckedBy, has_number_up_to, is_at_once, is_idle};
@@ -193,6 +194,9 @@ pub fn run_serve<R: AllocGlobal + RandomSource, W: World, O: Write>(
         (O.contents out.old) (O.contents out.new)) }
     ensures unprinted { IfErr result (λ fault. exit_status fault ≡ 2
         → O.contents out.new ≡ O.contents out.old) }
+    // Where it listens was printed before connections were served.
+    ensures told { IfErr result (λ fault. IsAcceptFault fault → PrintsListening W.sees
+        (rows_of (found_of matches.now)) (O.contents out.old) (O.contents out.new)) }
     // It is for the first fault: what comes before it has none.
     ensures refused { IfErr result (FailsServe W.sees (rows_of (found_of matches.now))) }
 {

@@ -1,7 +1,7 @@
 ghost use Rattle.std.specs.Prelude.{◌≡◌, IfSome, IsTrue, string_bytes};
-ghost use Rattle.commands.specs.Faults.{OrMemory};
+ghost use Rattle.commands.specs.Faults.{OrMemory, error_of_file};
 ghost use Rattle.commands.specs.Places.{FailsInFolder, IsInFolder, LacksInFolder};
-ghost use Rattle.remote.specs.Folder.{IsFreshFolder, place_of};
+ghost use Rattle.remote.specs.Folder.{IsFreshFolder, error_of, place_of};
 
 use crate::error::CommandError;
 use crate::world::{FilesOf, World};
@@ -68,7 +68,9 @@ impl<'w, W: World, K: Place> Shelf<'w, W, K> {
 
     /// The error of a look-up that failed.
     pub(crate) fn into_error(self) -> CommandError
-        ensures { OrMemory (λ e. ∥ FailsInFolder W.sees K.place e ∥₁) result }
+        ensures fault { OrMemory (λ e. ∥ FailsInFolder W.sees K.place e ∥₁) result }
+        // Lack of memory isn't told in the place of a fault.
+        ensures kept { IfSome (error_of self.entry.store) (λ error. result ≡ error_of_file error) }
     {
         match self.store.into_error() {
             Some(error) => CommandError::from(error),

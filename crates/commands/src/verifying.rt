@@ -250,12 +250,9 @@ fn judge_server<W: World>(
     server: &ServerOptions,
     case: &Case<Global>,
 ) -> Result<Answer<Global>, CommandError>
-    requires { server.now.host ≡ string_bytes server.now.address }
-    ensures answered { IfOk result (IsAnsweredBy
-        (IsOfServer W.sees (string_bytes server.now.address) server.now.prefix)
-        (LacksAtServer W.sees (string_bytes server.now.address) server.now.prefix) case.now) }
-    ensures fault { IfErr result (OrMemory (λ e. ∥ FailsServer W.sees
-        (string_bytes server.now.address) server.now.prefix e ∥₁)) }
+    ensures answered { IfOk result
+        (IsAnsweredBy (IsOfServer W.sees server.now) (LacksAtServer W.sees server.now) case.now) }
+    ensures fault { IfErr result (OrMemory (λ e. ∥ FailsServer W.sees server.now e ∥₁)) }
 {
     let remote = open(alloc, world, server)?;
     judge_over::<W::Link, Brand>(alloc, server, remote, case)

@@ -1,4 +1,6 @@
-ghost use Rattle.std.specs.Prelude.{IfErr, IfOk, IsErrOf, IsSorted, OnOk, map, string_bytes};
+ghost use Rattle.std.specs.Prelude.{◌≡◌, IfErr, IfOk, IsErrOf, IsSorted, None, OnOk, Some, map};
+ghost use Rattle.std.specs.Prelude.{string_bytes};
+ghost use Rattle.std.specs.Fs.{IsDir, IsSymlink, file_type};
 ghost use Rattle.blob_source.specs.Called.{Called};
 ghost use Rattle.checkout.specs.Refused.{FailsCheckout};
 ghost use Rattle.checkout.specs.Written.{HoldsTree};
@@ -6,7 +8,8 @@ ghost use Rattle.messages.specs.Order.{bytes_cmp};
 ghost use Rattle.remote.specs.Folder.{IsErrorOf};
 
 use crate::connecting::{Connection, ServerOptions};
-use crate::files::unread;
+use crate::files::{of_entry, unread};
+use crate::options::limit_of;
 use crate::replacing::{check_replaceable, replace_file};
 use blob_digest::Digest;
 use blob_source::BlobSource;
@@ -19,7 +22,7 @@ use service::{ErrorTerminal, NotAccepted, serve, serve_together};
 use std::alloc::Global;
 use std::net::{Net, SocketAddr, TcpListener, TcpStream};
 use std::rt::Files;
-use std::time::{Clock, Duration};
+use std::time::Clock;
 use std::{fs, io};
 
 /// What stands at a path.
@@ -30,6 +33,22 @@ pub enum Found {
     Link(String),
     /// A file, or what is none of these.
     File,
+}
+
+/// What stands at a path, by its metadata. Of a link that doesn't say where it leads to.
+fn found_by(metadata: &fs::Metadata) -> Option<Found>
+    ensures folder { IsDir (file_type metadata.now) → result ≡ Some Found.Folder }
+    ensures link { IsSymlink (file_type metadata.now) → result ≡ None }
+    ensures file { ¬ IsDir (file_type metadata.now) → ¬ IsSymlink (file_type metadata.now)
+        → result ≡ Some Found.File }
+{
+    if metadata.is_dir() {
+        return Some(Found::Folder);
+    }
+    if metadata.is_symlink() {
+        return None;
+    }
+    Some(Found::File)
 }
 
 /// A socket that listens, and its address.
@@ -90,7 +109,8 @@ pub trait World {
     /// A connection to a server.
     fn connect(&self, alloc: Global, server: &ServerOptions) -> io::Result<Self::Link>
         ensures connected { IfOk result (λ link.
-            sees.connects (string_bytes server.now.address) (Self.Link.flow link)) }
+            sees.connects (string_bytes server.now.address) server.now.timeout
+            (Self.Link.flow link)) }
         ensures fault { IfErr result (sees.refuses (string_bytes server.now.address)) };
 
     /// A file or nothing stands at a path, where links are followed, and its folder takes a new
@@ -162,7 +182,7 @@ where
         for entry in entries {
             let name = match entry {
                 Ok(entry) => String::from_str(alloc, entry.file_name())?,
-                Err(fault) => return Err(unread(alloc, path, fault)),
+                Err(fault) => return Err(unread(alloc, path, of_entry(fault))),
             };
             if names.push(name).is_err() {
                 return Err(FileError::Memory);
@@ -177,11 +197,8 @@ where
             Ok(metadata) => metadata,
             Err(fault) => return Err(unread(alloc, path, fault)),
         };
-        if metadata.is_dir() {
-            return Ok(Found::Folder);
-        }
-        if !metadata.is_symlink() {
-            return Ok(Found::File);
+        if let Some(found) = found_by(&metadata) {
+            return Ok(found);
         }
         match fs::read_link(self.0, path) {
             Ok(target) => Ok(Found::Link(String::from_str(alloc, target.as_str())?)),
@@ -236,10 +253,7 @@ where
             at_once,
             idle,
         } = service;
-        let idle = match idle {
-            0 => None,
-            seconds => Some(Duration::from_secs(seconds)),
-        };
+        let idle = limit_of(idle);
         if at_once > 1 {
             let mut server = Server::new(self.0.alloc(), cache, prefix);
             return serve_together(

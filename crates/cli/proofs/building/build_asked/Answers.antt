@@ -1,11 +1,11 @@
-use Rattle.std.proofs.Common.{◌∙◌, [], subst}
+use Rattle.std.proofs.Common.{◌∙◌, [], refl, subst}
 use Rattle.clap.specs.Words.{found_of, rows_of}
 use Rattle.remote.specs.Remote.{connection_of}
 use Rattle.commands.proofs.Exits.{err_weaker, exit_by}
 use Rattle.std.proofs.lemmas.Result.{IfOk-weaker}
 use Rattle.cli.proofs.Builds.{connect_fails, reaches, telling_fails, tells_of}
 use Rattle.cli.specs.Refused.{FailsBuild, FailsFolder}
-use Rattle.cli.specs.Refused.FailsBuild.{in_folder}
+use Rattle.cli.specs.Refused.FailsBuild.{in_folder, in_place}
 use Rattle.cli.proofs.building.build_asked.Goals as goal
 
 pub returns-in_err-remote-clause-refused : goal.returns-in_err-remote-clause-refused
@@ -23,6 +23,16 @@ returns-in_err-check_work-clause-refused g c =
     exit_by (FailsBuild sees g.W.Workplace.below options) _ c.from_residual-in_err-check_work.ensures.1
     (in_folder (reaches sees g.W.Workplace.below options c.args.asked.now c.requires.read start c.in_ok-remote.ensures.opened)
     (subst (λ p. FailsFolder sees p c.in_err-check_work.field-0.0) (c.as_str.ensures.value ∙ c.requires.read.work) c.in_err-check_work.ensures.fault))
+
+pub returns-in_err-check_writable-clause-refused : goal.returns-in_err-check_writable-clause-refused
+returns-in_err-check_writable-clause-refused g c =
+    let sees = g.W.World.sees in
+    let options = rows_of (found_of c.args.matches.now) in
+    let start = connection_of g.W.Link.Stream.flow c.in_ok-remote.remote in
+    exit_by (FailsBuild sees g.W.Workplace.below options) _ c.from_residual-in_err-check_writable.ensures.1
+    (in_place (reaches sees g.W.Workplace.below options c.args.asked.now c.requires.read start c.in_ok-remote.ensures.opened)
+    (subst (λ p. sees.lists p []) (c.as_str.ensures.value ∙ c.requires.read.work) c.in_ok-check_work.ensures.empty)
+    (c.in_err-check_writable.field-0.0, subst (λ p. sees.fails p c.in_err-check_writable.field-0.0) c.text_of.ensures c.in_err-check_writable.ensures.fault, refl))
 
 pub returns-clause-tells : goal.returns-clause-tells
 returns-clause-tells g c =

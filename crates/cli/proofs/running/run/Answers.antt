@@ -1,11 +1,11 @@
 use Rattle.std.proofs.Common.{◌≡◌, rules, map, string_bytes, codes}
 use Rattle.commands.specs.Status.{exit_status}
 use Rattle.clap.specs.Words.{subcommand_of, subcommand_rows_of}
-use Rattle.command_lines.specs.CommandLine.{CallsCommand, program_line}
+use Rattle.command_lines.specs.CommandLine.{program_line}
 use Rattle.command_lines.proofs.Called.{calls_one}
 use Rattle.commands.proofs.Exits.{exit_by}
 use Rattle.commands.proofs.Writing.{where_err}
-use Rattle.cli.proofs.CommandLines.{build_begins, build_ends, build_fails, get_begins, get_ends, get_fails, none_called, options_found, put_begins, put_fails, serve_begins, serve_fails, verify_begins, verify_ends, verify_fails}
+use Rattle.cli.proofs.CommandLines.{build_begins, build_ends, build_fails, called_by, get_begins, get_ends, get_fails, none_called, put_begins, put_fails, serve_begins, serve_fails, verify_begins, verify_ends, verify_fails}
 use Rattle.cli.specs.Ended.{Fails}
 use Rattle.cli.specs.Ended.BeginsAsked.{shown as show_begun}
 use Rattle.cli.specs.Ended.Fails.{in_words}
@@ -31,63 +31,55 @@ unreachable-requires g c =
 pub returns-in_ok-run_verify-in-verify-clause-ended : goal.returns-in_ok-run_verify-in-verify-clause-ended
 returns-in_ok-run_verify-in-verify-clause-ended g c =
     let words = map string_bytes c.args.words.now in
-    let called : CallsCommand words (codes "verify") = record { faultless = c.in-Ok.ensures.fails; command_is = search rules } in
-    let rows = options_found (subcommand_rows_of c.in-Ok.matches) (subcommand_of program_line words) _ c.in-Ok.ensures.called c.in-Some.ensures.rows in
-    verify_ends g.W.Workplace.below words rows _ called c.in_ok-run_verify-in-verify.ensures.printed c.in_ok-run_verify-in-verify.ensures.noted
+    let call = called_by words (codes "verify") (subcommand_rows_of c.in-Ok.matches) _ c.in-Ok.ensures.fails c.in-Ok.ensures.called (search rules) c.in-Some.ensures.rows in
+    verify_ends g.W.Workplace.below words call.1 _ call.0 c.in_ok-run_verify-in-verify.ensures.printed c.in_ok-run_verify-in-verify.ensures.noted
 
 pub returns-in_ok-run_get-in-get-clause-ended : goal.returns-in_ok-run_get-in-get-clause-ended
 returns-in_ok-run_get-in-get-clause-ended g c =
     let words = map string_bytes c.args.words.now in
-    let called : CallsCommand words (codes "get") = record { faultless = c.in-Ok.ensures.fails; command_is = search rules } in
-    let rows = options_found (subcommand_rows_of c.in-Ok.matches) (subcommand_of program_line words) _ c.in-Ok.ensures.called c.in-Some.ensures.rows in
-    get_ends g.W.Workplace.below words rows _ called c.in_ok-run_get-in-get.ensures.answered
+    let call = called_by words (codes "get") (subcommand_rows_of c.in-Ok.matches) _ c.in-Ok.ensures.fails c.in-Ok.ensures.called (search rules) c.in-Some.ensures.rows in
+    get_ends g.W.Workplace.below words call.1 _ call.0 c.in_ok-run_get-in-get.ensures.answered
 
 pub returns-in_ok-run_build-in-build-clause-ended : goal.returns-in_ok-run_build-in-build-clause-ended
 returns-in_ok-run_build-in-build-clause-ended g c =
     let words = map string_bytes c.args.words.now in
-    let called : CallsCommand words (codes "build") = record { faultless = c.in-Ok.ensures.fails; command_is = search rules } in
-    let rows = options_found (subcommand_rows_of c.in-Ok.matches) (subcommand_of program_line words) _ c.in-Ok.ensures.called c.in-Some.ensures.rows in
-    build_ends words rows _ called c.in_ok-run_build-in-build.ensures.printed
+    let call = called_by words (codes "build") (subcommand_rows_of c.in-Ok.matches) _ c.in-Ok.ensures.fails c.in-Ok.ensures.called (search rules) c.in-Some.ensures.rows in
+    build_ends words call.1 _ call.0 c.in_ok-run_build-in-build.ensures.printed
 
 pub returns-in_err-run_verify-in-verify-clause-refused : goal.returns-in_err-run_verify-in-verify-clause-refused
 returns-in_err-run_verify-in-verify-clause-refused g c =
     let words = map string_bytes c.args.words.now in
-    let called : CallsCommand words (codes "verify") = record { faultless = c.in-Ok.ensures.fails; command_is = search rules } in
-    let rows = options_found (subcommand_rows_of c.in-Ok.matches) (subcommand_of program_line words) _ c.in-Ok.ensures.called c.in-Some.ensures.rows in
+    let call = called_by words (codes "verify") (subcommand_rows_of c.in-Ok.matches) _ c.in-Ok.ensures.fails c.in-Ok.ensures.called (search rules) c.in-Some.ensures.rows in
     exit_by (Fails g.W.World.sees g.W.Workplace.below words) _ c.from_residual-in_err-run_verify-in-verify.ensures.1
-    (verify_fails words rows _ called c.in_err-run_verify-in-verify.ensures.refused)
+    (verify_fails words call.1 _ call.0 c.in_err-run_verify-in-verify.ensures.refused)
 
 pub returns-in_err-run_build-in-build-clause-refused : goal.returns-in_err-run_build-in-build-clause-refused
 returns-in_err-run_build-in-build-clause-refused g c =
     let words = map string_bytes c.args.words.now in
-    let called : CallsCommand words (codes "build") = record { faultless = c.in-Ok.ensures.fails; command_is = search rules } in
-    let rows = options_found (subcommand_rows_of c.in-Ok.matches) (subcommand_of program_line words) _ c.in-Ok.ensures.called c.in-Some.ensures.rows in
+    let call = called_by words (codes "build") (subcommand_rows_of c.in-Ok.matches) _ c.in-Ok.ensures.fails c.in-Ok.ensures.called (search rules) c.in-Some.ensures.rows in
     exit_by (Fails g.W.World.sees g.W.Workplace.below words) _ c.from_residual-in_err-run_build-in-build.ensures.1
-    (build_fails words rows _ called c.in_err-run_build-in-build.ensures.refused)
+    (build_fails words call.1 _ call.0 c.in_err-run_build-in-build.ensures.refused)
 
 pub returns-in_err-run_put-in-put-clause-refused : goal.returns-in_err-run_put-in-put-clause-refused
 returns-in_err-run_put-in-put-clause-refused g c =
     let words = map string_bytes c.args.words.now in
-    let called : CallsCommand words (codes "put") = record { faultless = c.in-Ok.ensures.fails; command_is = search rules } in
-    let rows = options_found (subcommand_rows_of c.in-Ok.matches) (subcommand_of program_line words) _ c.in-Ok.ensures.called c.in-Some.ensures.rows in
+    let call = called_by words (codes "put") (subcommand_rows_of c.in-Ok.matches) _ c.in-Ok.ensures.fails c.in-Ok.ensures.called (search rules) c.in-Some.ensures.rows in
     exit_by (Fails g.W.World.sees g.W.Workplace.below words) _ c.from_residual-in_err-run_put-in-put.ensures.1
-    (put_fails words rows _ called c.in_err-run_put-in-put.ensures.refused)
+    (put_fails words call.1 _ call.0 c.in_err-run_put-in-put.ensures.refused)
 
 pub returns-in_err-run_get-in-get-clause-refused : goal.returns-in_err-run_get-in-get-clause-refused
 returns-in_err-run_get-in-get-clause-refused g c =
     let words = map string_bytes c.args.words.now in
-    let called : CallsCommand words (codes "get") = record { faultless = c.in-Ok.ensures.fails; command_is = search rules } in
-    let rows = options_found (subcommand_rows_of c.in-Ok.matches) (subcommand_of program_line words) _ c.in-Ok.ensures.called c.in-Some.ensures.rows in
+    let call = called_by words (codes "get") (subcommand_rows_of c.in-Ok.matches) _ c.in-Ok.ensures.fails c.in-Ok.ensures.called (search rules) c.in-Some.ensures.rows in
     exit_by (Fails g.W.World.sees g.W.Workplace.below words) _ c.from_residual-in_err-run_get-in-get.ensures.1
-    (get_fails words rows _ called c.in_err-run_get-in-get.ensures.refused)
+    (get_fails words call.1 _ call.0 c.in_err-run_get-in-get.ensures.refused)
 
 pub returns-in_err-run_serve-in-serve-clause-refused : goal.returns-in_err-run_serve-in-serve-clause-refused
 returns-in_err-run_serve-in-serve-clause-refused g c =
     let words = map string_bytes c.args.words.now in
-    let called : CallsCommand words (codes "serve") = record { faultless = c.in-Ok.ensures.fails; command_is = search rules } in
-    let rows = options_found (subcommand_rows_of c.in-Ok.matches) (subcommand_of program_line words) _ c.in-Ok.ensures.called c.in-Some.ensures.rows in
+    let call = called_by words (codes "serve") (subcommand_rows_of c.in-Ok.matches) _ c.in-Ok.ensures.fails c.in-Ok.ensures.called (search rules) c.in-Some.ensures.rows in
     exit_by (Fails g.W.World.sees g.W.Workplace.below words) _ c.from_residual-in_err-run_serve-in-serve.ensures.1
-    (serve_fails words rows _ called c.in_err-run_serve-in-serve.ensures.refused)
+    (serve_fails words call.1 _ call.0 c.in_err-run_serve-in-serve.ensures.refused)
 
 pub returns-in_err-run_get-in-get-clause-unprinted : goal.returns-in_err-run_get-in-get-clause-unprinted
 returns-in_err-run_get-in-get-clause-unprinted g c =
@@ -106,34 +98,29 @@ returns-in_err-run_verify-in-verify-clause-unprinted g c =
 pub returns-in_err-run_verify-in-verify-clause-begun : goal.returns-in_err-run_verify-in-verify-clause-begun
 returns-in_err-run_verify-in-verify-clause-begun g c =
     let words = map string_bytes c.args.words.now in
-    let called : CallsCommand words (codes "verify") = record { faultless = c.in-Ok.ensures.fails; command_is = search rules } in
-    let rows = options_found (subcommand_rows_of c.in-Ok.matches) (subcommand_of program_line words) _ c.in-Ok.ensures.called c.in-Some.ensures.rows in
-    where_err c.from_residual-in_err-run_verify-in-verify.result (verify_begins words rows called c.in_err-run_verify-in-verify.ensures.begun c.in_err-run_verify-in-verify.ensures.unended)
+    let call = called_by words (codes "verify") (subcommand_rows_of c.in-Ok.matches) _ c.in-Ok.ensures.fails c.in-Ok.ensures.called (search rules) c.in-Some.ensures.rows in
+    where_err c.from_residual-in_err-run_verify-in-verify.result (verify_begins words call.1 call.0 c.in_err-run_verify-in-verify.ensures.begun c.in_err-run_verify-in-verify.ensures.unended)
 
 pub returns-in_err-run_get-in-get-clause-begun : goal.returns-in_err-run_get-in-get-clause-begun
 returns-in_err-run_get-in-get-clause-begun g c =
     let words = map string_bytes c.args.words.now in
-    let called : CallsCommand words (codes "get") = record { faultless = c.in-Ok.ensures.fails; command_is = search rules } in
-    let rows = options_found (subcommand_rows_of c.in-Ok.matches) (subcommand_of program_line words) _ c.in-Ok.ensures.called c.in-Some.ensures.rows in
-    where_err c.from_residual-in_err-run_get-in-get.result (get_begins words rows called c.in_err-run_get-in-get.ensures.begun)
+    let call = called_by words (codes "get") (subcommand_rows_of c.in-Ok.matches) _ c.in-Ok.ensures.fails c.in-Ok.ensures.called (search rules) c.in-Some.ensures.rows in
+    where_err c.from_residual-in_err-run_get-in-get.result (get_begins words call.1 call.0 c.in_err-run_get-in-get.ensures.begun)
 
 pub returns-in_err-run_put-in-put-clause-begun : goal.returns-in_err-run_put-in-put-clause-begun
 returns-in_err-run_put-in-put-clause-begun g c =
     let words = map string_bytes c.args.words.now in
-    let called : CallsCommand words (codes "put") = record { faultless = c.in-Ok.ensures.fails; command_is = search rules } in
-    let rows = options_found (subcommand_rows_of c.in-Ok.matches) (subcommand_of program_line words) _ c.in-Ok.ensures.called c.in-Some.ensures.rows in
-    where_err c.from_residual-in_err-run_put-in-put.result (put_begins words rows called c.in_err-run_put-in-put.ensures.begun)
+    let call = called_by words (codes "put") (subcommand_rows_of c.in-Ok.matches) _ c.in-Ok.ensures.fails c.in-Ok.ensures.called (search rules) c.in-Some.ensures.rows in
+    where_err c.from_residual-in_err-run_put-in-put.result (put_begins words call.1 call.0 c.in_err-run_put-in-put.ensures.begun)
 
 pub returns-in_err-run_serve-in-serve-clause-begun : goal.returns-in_err-run_serve-in-serve-clause-begun
 returns-in_err-run_serve-in-serve-clause-begun g c =
     let words = map string_bytes c.args.words.now in
-    let called : CallsCommand words (codes "serve") = record { faultless = c.in-Ok.ensures.fails; command_is = search rules } in
-    let rows = options_found (subcommand_rows_of c.in-Ok.matches) (subcommand_of program_line words) _ c.in-Ok.ensures.called c.in-Some.ensures.rows in
-    where_err c.from_residual-in_err-run_serve-in-serve.result (serve_begins words rows called c.in_err-run_serve-in-serve.ensures.begun)
+    let call = called_by words (codes "serve") (subcommand_rows_of c.in-Ok.matches) _ c.in-Ok.ensures.fails c.in-Ok.ensures.called (search rules) c.in-Some.ensures.rows in
+    where_err c.from_residual-in_err-run_serve-in-serve.result (serve_begins words call.1 call.0 c.in_err-run_serve-in-serve.ensures.begun)
 
 pub returns-in_err-run_build-in-build-clause-begun : goal.returns-in_err-run_build-in-build-clause-begun
 returns-in_err-run_build-in-build-clause-begun g c =
     let words = map string_bytes c.args.words.now in
-    let called : CallsCommand words (codes "build") = record { faultless = c.in-Ok.ensures.fails; command_is = search rules } in
-    let rows = options_found (subcommand_rows_of c.in-Ok.matches) (subcommand_of program_line words) _ c.in-Ok.ensures.called c.in-Some.ensures.rows in
-    where_err c.from_residual-in_err-run_build-in-build.result (build_begins words rows called c.in_err-run_build-in-build.ensures.begun)
+    let call = called_by words (codes "build") (subcommand_rows_of c.in-Ok.matches) _ c.in-Ok.ensures.fails c.in-Ok.ensures.called (search rules) c.in-Some.ensures.rows in
+    where_err c.from_residual-in_err-run_build-in-build.result (build_begins words call.1 call.0 c.in_err-run_build-in-build.ensures.begun)

@@ -1,4 +1,4 @@
-use Rattle.std.proofs.Common.{false, refl, string_bytes, subst, suc, sym}
+use Rattle.std.proofs.Common.{◌∙◌, ◌+◌, ap, false, min, refl, string_bytes, subst, suc, sym}
 use Rattle.messages.specs.declared.node.Node.TheVariants.{File}
 use Rattle.commands.specs.Put.{IsPutAt}
 use Rattle.commands.specs.Put.IsPutAt.{file_put}
@@ -21,6 +21,11 @@ returns-in_err-digest-clause-refused g c =
     let place = c.args.place.now in
     exit_by (FailsHere sees start address place) _ c.from_residual-in_err-digest.ensures.1
     (file_fails sees start address place c.deref.result.now _ (subst (λ b. sees.reads place b) (sym c.deref.ensures.value) c.in_ok-bytes.ensures.read) c.in_err-digest.ensures.refused)
+
+pub returns-clause-sized : goal.returns-clause-sized
+returns-clause-sized g c =
+    let size = g.P.Counter.size in
+    c.count.ensures.bytes ∙ ap (λ n. min (size c.args.progress.now + n) 18446744073709551615) c.size.ensures.value
 
 pub returns-clause-put : goal.returns-clause-put
 returns-clause-put g c =

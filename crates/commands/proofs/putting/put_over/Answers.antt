@@ -1,4 +1,4 @@
-use Rattle.std.proofs.Common.{ℕ, false, inl, inr, refl, string_bytes, subst, suc}
+use Rattle.std.proofs.Common.{ℕ, false, inl, inr, refl, rules, string_bytes, subst, suc, true}
 use Rattle.std.proofs.lemmas.Result.{IfOk-weaker}
 use Rattle.messages.specs.declared.node.Node.TheVariants.{Dir, File}
 use Rattle.commands.specs.Put.{IsPutAt, PutsPath}
@@ -29,12 +29,20 @@ pub returns-then-branch-clause-put : goal.returns-then-branch-clause-put
 returns-then-branch-clause-put g c =
     let sees = g.W.World.sees in
     let start = g.K.Origin.start in
+    let leads : sees.leads c.as_str-place.result.now true = search rules in
     IfOk-weaker c.put_folder.result (λ digest. IsPutAt sees start 65 c.as_str-place.result.now (Dir digest)) (PutsPath sees start (string_bytes c.args.place))
-    (λ digest put. inr (subst (λ p. IsPutAt sees start 65 p (Dir digest)) c.as_str-place.ensures.value put)) c.put_folder.ensures.put
+    (λ digest put. inr (
+      subst (λ p. sees.leads p true) c.as_str-place.ensures.value leads,
+      subst (λ p. IsPutAt sees start 65 p (Dir digest)) c.as_str-place.ensures.value put,
+    )) c.put_folder.ensures.put
 
 pub returns-clause-put : goal.returns-clause-put
 returns-clause-put g c =
     let sees = g.W.World.sees in
     let start = g.K.Origin.start in
+    let leads : sees.leads c.as_str-place.result.now false = search rules in
     IfOk-weaker c.put_file.result (λ digest. (left : ℕ) → IsPutAt sees start (suc left) c.as_str-place.result.now (File digest false)) (PutsPath sees start (string_bytes c.args.place))
-    (λ digest put. inl (subst (λ p. IsPutAt sees start 65 p (File digest false)) c.as_str-place.ensures.value (put 64))) c.put_file.ensures.put
+    (λ digest put. inl (
+      subst (λ p. sees.leads p false) c.as_str-place.ensures.value leads,
+      subst (λ p. IsPutAt sees start 65 p (File digest false)) c.as_str-place.ensures.value (put 64),
+    )) c.put_file.ensures.put

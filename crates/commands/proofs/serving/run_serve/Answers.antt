@@ -2,13 +2,13 @@ use Rattle.std.proofs.Common.{◌≡◌, codes, inr, refl, rules}
 use Rattle.clap.specs.Words.{found_of, rows_of}
 use Rattle.command_lines.specs.CommandLine.{option_text}
 use Rattle.commands.specs.Refusal.{IsPrintFault}
-use Rattle.commands.specs.ServeRefused.{FailsServe, FailsToListen}
+use Rattle.commands.specs.ServeRefused.{FailsServe, FailsToListen, IsAcceptFault}
 use Rattle.commands.specs.ServeRefused.FailsServe.{in_address, in_connections, in_memory, in_output, in_words}
 use Rattle.commands.specs.Status.{exit_status}
 use Rattle.commands.specs.Words.{FailsFirst, serve_words}
-use Rattle.commands.specs.Printed.{listening_line}
+use Rattle.commands.specs.Printed.{PrintsListening, listening_line}
 use Rattle.commands.proofs.Exits.{exit_by, or_else}
-use Rattle.commands.proofs.Refused.{not_words, or_memory, starts_serve}
+use Rattle.commands.proofs.Refused.{listen_not_accept, not_words, or_memory, print_not_accept, starts_serve, words_not_accept}
 use Rattle.commands.proofs.Writing.{beginning_of_all, where_err}
 use Rattle.commands.proofs.serving.run_serve.Goals as goal
 
@@ -81,4 +81,28 @@ returns-in-Err-clause-begun g c =
       address,
       starts_serve g.W.World.sees (rows_of (found_of c.args.matches.now)) c.in_ok-asked.asked address c.in_ok-asked.ensures.asked c.in_ok-asked.ensures.checked c.in_ok-listening.ensures.listens,
       beginning_of_all (g.O.Write.contents c.args.out.now) (g.O.Write.contents c.print_address.new.out) (listening_line address) c.in_ok-print_address.ensures.printed,
+    )
+
+pub returns-in_err-asked-clause-told : goal.returns-in_err-asked-clause-told
+returns-in_err-asked-clause-told g c =
+    exit_by (λ e. IsAcceptFault e → PrintsListening g.W.World.sees (rows_of (found_of c.args.matches.now)) (g.O.Write.contents c.args.out.now) (g.O.Write.contents c.args.out.now)) _ c.from_residual.ensures.1
+    (λ accept. absurd (words_not_accept (rows_of (found_of c.args.matches.now)) _ c.in_err-asked.ensures.checked accept))
+
+pub returns-in_err-listening-clause-told : goal.returns-in_err-listening-clause-told
+returns-in_err-listening-clause-told g c =
+    exit_by (λ e. IsAcceptFault e → PrintsListening g.W.World.sees (rows_of (found_of c.args.matches.now)) (g.O.Write.contents c.args.out.now) (g.O.Write.contents c.args.out.now)) _ c.from_residual-in_err-listening.ensures.1
+    (λ accept. absurd (listen_not_accept g.W.World.sees _ _ c.in_err-listening.ensures.fault accept))
+
+pub returns-in_err-print_address-clause-told : goal.returns-in_err-print_address-clause-told
+returns-in_err-print_address-clause-told g c =
+    exit_by (λ e. IsAcceptFault e → PrintsListening g.W.World.sees (rows_of (found_of c.args.matches.now)) (g.O.Write.contents c.args.out.now) (g.O.Write.contents c.print_address.new.out)) _ c.from_residual-in_err-print_address.ensures.1
+    (λ accept. absurd (print_not_accept _ c.in_err-print_address.ensures.fault accept))
+
+pub returns-in-Err-clause-told : goal.returns-in-Err-clause-told
+returns-in-Err-clause-told g c =
+    let address = c.in_ok-listening.listening.address in
+    λ accept. (
+      address,
+      starts_serve g.W.World.sees (rows_of (found_of c.args.matches.now)) c.in_ok-asked.asked address c.in_ok-asked.ensures.asked c.in_ok-asked.ensures.checked c.in_ok-listening.ensures.listens,
+      c.in_ok-print_address.ensures.printed,
     )
