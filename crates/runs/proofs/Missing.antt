@@ -1,7 +1,8 @@
 -- A line whose origin a look-up doesn't find has none in each run that the engine mirrors.
-use Rattle.std.proofs.Common.{◌≡◌, ℕ, List, [], ◌∷◌, Option, Some, None, refl, sym, subst, arith, inl, inr}
+use Rattle.std.proofs.Common.{◌≡◌, ℕ, List, [], ◌∷◌, length, Option, Some, None, refl, sym, subst, arith, inl, inr}
 use Rattle.std.specs.Prelude.{option_map, slice_get}
 use Rattle.actions.proofs.TreeLookups.{behind}
+use Rattle.plan.specs.Plan.{IsPlan}
 use Rattle.plan.specs.Values.{LineValue, StepValue}
 use Rattle.tree.specs.Tree.{Name, Leaf, Entry}
 use Rattle.tree.specs.Form.{entry_node}
@@ -12,7 +13,7 @@ use Rattle.tree.specs.Merging.{MergeFault, conflict, unreadable, merged}
 use Rattle.tree.specs.Stage.{◌and_then◌}
 use Rattle.tree.specs.declared.error.TreeError.{TreeError}
 use Rattle.tree.specs.declared.error.TreeError.TheVariants as tree
-use Rattle.verifier.proofs.Targets.{ArePaths}
+use Rattle.verifier.proofs.Targets.{ArePaths, paths_of}
 use Rattle.verifier.specs.Build.{origin_at}
 use Rattle.verifier.specs.Together.{LooksUpOrigin, no_origin, in_conflict, of_merge, origin_path, IsFaultOfLook, FirstFault, ExplainsLines}
 use Rattle.runs.specs.declared.error.RunsError.{RunsError}
@@ -107,6 +108,13 @@ start_fault {A} B e i ready room why h step at =
     by (tree.Conflict p) h = (ready, room, h)
     by tree.Fetch h = (ready, room, h)
     by tree.Memory h = (ready, room, h)
+
+-- what a refusal of the root tells
+pub root_tells : {A : Type 0} {inside e : EngineValue} → inside ≡ e → IsEngine inside → IsPlan inside.plan → (B : Blobs) (why : RunsError A) → ExplainsRefusal (together_in B e e.plan.root_lines).fails why
+    → TellsMissing B e e.plan.root_lines why × TellsConflict B e e.plan.root_lines why × StandsIn B why
+root_tells {A} {inside} {e} same engine valid B why h =
+    let plan : IsPlan e.plan = subst (λ (e : EngineValue). IsPlan e.plan) same valid in
+    tells B e (subst IsEngine same engine) e.plan.root_lines (paths_of (length e.plan.steps) e.plan.root_lines plan.root_lines.each) why h
 
 pub root_fault : {A : Type 0} (B : Blobs) (e : EngineValue) → HaveAllFinished e → (why : RunsError A) → ExplainsRefusal (together_in B e e.plan.root_lines).fails why → IsRootFault B e why
 root_fault {A} B e all why h = subst (IsRootFault B e) (sym h.2) (by h.0 (subst (ExplainsRefusal (together_in B e e.plan.root_lines).fails) h.2 h))

@@ -6,8 +6,7 @@ use Rattle.runs.specs.Looking.{outcomes_in}
 use Rattle.plan.specs.Plan.{IsPlan}
 use Rattle.runs.proofs.Answered.{served_yes}
 use Rattle.runs.specs.Calls.{HaveAllFinished}
-use Rattle.runs.proofs.Missing.{root_fault, tells}
-use Rattle.verifier.proofs.Targets.{paths_of}
+use Rattle.runs.proofs.Missing.{root_fault, root_tells}
 use Rattle.runs.proofs.Ended.{lines_there, grafted_root, ok_map, err_map}
 use Rattle.tree.proofs.Learning.{learns_more}
 use Rattle.runs.proofs.engine.Engine.root_tree.Goals as goal
@@ -38,27 +37,18 @@ returns-clause-refused g c =
 
 pub returns-clause-missing : goal.returns-clause-missing
 returns-clause-missing g c =
-    let engine : IsEngine c.args.self.now = subst IsEngine c.self.view_is c.self.invariant in
-    let plan : IsPlan c.args.self.now.plan = subst (λ (e : EngineValue). IsPlan e.plan) c.self.view_is c.root.ensures.valid in
     let told = (g.S.BlobSource.tells c.graft_root.new.source).blobs in
-    let paths = paths_of (length c.args.self.now.plan.steps) c.args.self.now.plan.root_lines plan.root_lines.each in
-    err_map c.graft_root.result (λ why h. (tells told c.args.self.now engine c.args.self.now.plan.root_lines paths why h).0) c.graft_root.ensures.faulty
+    err_map c.graft_root.result (λ why h. (root_tells c.self.view_is c.self.invariant c.root.ensures.valid told why h).0) c.graft_root.ensures.faulty
 
 pub returns-clause-conflict : goal.returns-clause-conflict
 returns-clause-conflict g c =
-    let engine : IsEngine c.args.self.now = subst IsEngine c.self.view_is c.self.invariant in
-    let plan : IsPlan c.args.self.now.plan = subst (λ (e : EngineValue). IsPlan e.plan) c.self.view_is c.root.ensures.valid in
     let told = (g.S.BlobSource.tells c.graft_root.new.source).blobs in
-    let paths = paths_of (length c.args.self.now.plan.steps) c.args.self.now.plan.root_lines plan.root_lines.each in
-    err_map c.graft_root.result (λ why h. (tells told c.args.self.now engine c.args.self.now.plan.root_lines paths why h).1) c.graft_root.ensures.faulty
+    err_map c.graft_root.result (λ why h. (root_tells c.self.view_is c.self.invariant c.root.ensures.valid told why h).1) c.graft_root.ensures.faulty
 
 pub returns-clause-stands : goal.returns-clause-stands
 returns-clause-stands g c =
-    let engine : IsEngine c.args.self.now = subst IsEngine c.self.view_is c.self.invariant in
-    let plan : IsPlan c.args.self.now.plan = subst (λ (e : EngineValue). IsPlan e.plan) c.self.view_is c.root.ensures.valid in
     let told = (g.S.BlobSource.tells c.graft_root.new.source).blobs in
-    let paths = paths_of (length c.args.self.now.plan.steps) c.args.self.now.plan.root_lines plan.root_lines.each in
-    err_map c.graft_root.result (λ why h. (tells told c.args.self.now engine c.args.self.now.plan.root_lines paths why h).2) c.graft_root.ensures.faulty
+    err_map c.graft_root.result (λ why h. (root_tells c.self.view_is c.self.invariant c.root.ensures.valid told why h).2) c.graft_root.ensures.faulty
 
 pub returns-clause-complete : goal.returns-clause-complete
 returns-clause-complete g c =
