@@ -136,8 +136,8 @@ impl<A: Allocator + Copy> Record<A> {
         ensures found { IfOk result
             (λ r. IsRecord r × Fits r plan.now × (text.now ≡ build_record_text r)) }
         // The record whose text it is is answered.
-        ensures only { (r : RecordValue) → IsRecord r → Fits r plan.now → text.now ≡ build_record_text r
-            → ReadsUnlessMemory result r }
+        ensures only { (r : RecordValue) → IsRecord r → Fits r plan.now
+            → text.now ≡ build_record_text r → ReadsUnlessMemory result r }
         // Which line is at fault, and how.
         ensures fault { IfErr result
             (FaultyUnlessMemory (IsRecordFault (names_of plan.now) text.now)) }
