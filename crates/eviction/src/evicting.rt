@@ -1,5 +1,5 @@
-ghost use Rattle.std.specs.Prelude.{◌≡◌, ◌+◌, ◌<◌, ◌^◌, ◌∷◌, length, reverse, IfOk, IfErr, OnOk};
-ghost use Rattle.std.specs.Prelude.{OnErr};
+ghost use Rattle.std.specs.Prelude.{◌≡◌, ◌⊎◌, ◌+◌, ◌*◌, ◌<◌, ◌≤◌, ◌^◌, ◌∷◌, length, reverse, IfOk};
+ghost use Rattle.std.specs.Prelude.{IfErr, OnOk, OnErr};
 ghost use Rattle.std.specs.Map.{keys_of};
 ghost use Rattle.std.specs.List.{IsDistinct};
 ghost use Rattle.eviction.specs.Kept.{total_cost, others};
@@ -47,6 +47,8 @@ pub(crate) fn choose<K: Copy + Eq + Hash, A: Allocator + Copy>(
 fn make_room<K: Copy + Eq + Hash, A: Allocator + Copy>(cache: &mut Entries<K, A>)
     ensures entries { cache.new.entries ≡ cache.old.entries }
     ensures room { length cache.new.entries < cache.new.cap }
+    ensures doubled { (cache.new.cap ≡ cache.old.cap)
+        ⊎ (2 * length cache.new.entries ≤ cache.new.cap) }
     ensures distinct { IsDistinct K.eq (keys_of cache.new.entries) }
 {
     let count = cache.len();

@@ -1,5 +1,5 @@
 -- What meets the premises of the laws: a plan of version 2 whose lines meet, its record, and the first faults of no text.
-use Rattle.std.proofs.Common.{◌≡◌, List, [], ◌∷◌, refl, inl, lit≤}
+use Rattle.std.proofs.Common.{[], ◌∷◌, refl, inl, lit≤}
 use Rattle.std.specs.Prelude.{codes}
 use Rattle.std.specs.Str.{is_utf8, chars}
 use Rattle.messages.specs.Name.{IsName}

@@ -1,6 +1,5 @@
-ghost use Rattle.std.specs.Prelude.{◌≡◌, ◌+◌, ◌<◌, ◌≤◌, ◌^◌, ◌++◌, [], Err};
-ghost use Rattle.std.specs.Prelude.{IfOk, IfErr, IsOk, OnOk};
-ghost use Rattle.std.specs.Prelude.{MatchOption, length, codes};
+ghost use Rattle.std.specs.Prelude.{◌≡◌, ◌+◌, ◌<◌, ◌≤◌, ◌^◌, ◌++◌, [], Err, IfOk, IfErr, IsOk};
+ghost use Rattle.std.specs.Prelude.{OnOk, MatchOption, length, codes};
 ghost use Rattle.std.specs.List.{AllByRecursion, flat_map};
 ghost use Rattle.plan.specs.Faults.{HasNoHeader, IsFaultBehind, IsPlanFault};
 ghost use Rattle.plan.specs.Parts.{IsLinesFault, IsFront};
