@@ -18,7 +18,7 @@ use Rattle.worker.specs.Storing.{HasAt, IsKeptBut}
 use Rattle.worker.specs.Outcomes.{Yields, YieldsNoMore, IsYielded}
 use Rattle.worker.specs.Calls.{running, Call, started, launched, ran, taken, lost, CameTo, HasChild, children_of, IsResultFor, HasChildsResult, WasStarted, FinishedByChild, IsLost, Does, Leads, IsLed, PutsOf, TakesRecorded, IsBuiltWith}
 use Rattle.worker.specs.Going.{HasNoneToTake, IsJobOf, AreJobsOf, IsOwnJob, IsGoing, HasChildFor, IsBegun, IsLaunched, kept_job, EndedWell, GoesOnBy, jobs_with, one_if, taken_in}
-use Rattle.worker.specs.Watching.{taken_count, without_number, jobs_after}
+use Rattle.worker.specs.Watching.{taken_count, turns_in, without_number, jobs_after}
 use Rattle.std.specs.List.{AllByRecursion}
 use Rattle.worker.proofs.Keeping.{kept_none, right_trans}
 use Rattle.worker.proofs.Telling.{SameSteps, layout_still, recorded_still, held_kept, end_still, yielded_still, owed_still, owed_ends}
@@ -39,7 +39,7 @@ puts_none t u more k = record { put = []; are = k.puts ∙ sym (append-nil t.put
 pub moves_kept : (t u : Telling) (more : List Call) → IsKept t u → Moves t u more
 moves_kept t u more k = record { blobs = k.blobs; puts = puts_none t u more k }
 
-moves_ran : (t u : Telling) (id : ℕ) (d : DigestValue) (v : OutcomeValue) → IsKeptBut d (IsResultFor v) t u → Moves t u (ran id d v ∷ [])
+pub moves_ran : (t u : Telling) (id : ℕ) (d : DigestValue) (v : OutcomeValue) → IsKeptBut d (IsResultFor v) t u → Moves t u (ran id d v ∷ [])
 moves_ran t u id d v k = record { blobs = k.blobs; puts = of k.puts }
   where
     has : HasAt (IsResultFor v) u.results d → HasChildsResult (ran id d v ∷ []) u.results d
@@ -146,13 +146,8 @@ puts_moved s t u cs more p m = record {
 abbrev pub Ends : {J : Type 0} → (J → EndValue → Type 0) → Telling → Telling → Child J → EngineValue → EngineValue → Type 0
 Ends may s t c old new = EndedWell may s t c old new ⊎ (IsLost c.id old new × IsKept s t)
 
--- what a turn puts
 pub puts_kept : {t u : Telling} → IsKept t u → PutsOf [] t u
 puts_kept {t} {u} k = puts_none t u [] k
-
-pub puts_ended : {J : Type 0} (may : J → EndValue → Type 0) (t u : Telling) (c : Child J) (now new : EngineValue) → Ends may t u c now new → (more : List Call) × PutsOf more t u
-puts_ended may t u c now new (inl e) = (ran c.id c.action e.produced.outcome ∷ [], (moves_ran t u c.id c.action e.produced.outcome e.kept).puts)
-puts_ended may t u c now new (inr (l, k)) = ([], puts_none t u [] k)
 
 -- ---- children that are started
 
@@ -253,13 +248,17 @@ module _ (A J : Type 0) (y : Yields) (may : J → EndValue → Type 0) (from : S
   abbrev On : Starts → Telling → EngineValue → List (Child J) → List Call → ℕ → Type 0
   On to t now cs calls n = GoesOnBy A y may from to s t most old now cs calls n
 
+  -- by one turn
+  abbrev pub OneTurn : Starts → Telling → EngineValue → List (Child J) → List Call → ℕ → Type 0
+  OneTurn to t now cs calls n = (on : On to t now cs calls n) × (turns_in on.more ≡ 1)
+
   -- it went on from the first calls by some more
   pub record Went (to : Starts) (t : Telling) (now : EngineValue) (cs : List (Child J)) (calls more : List Call) : Type 0 where
     pub going : Goes to t now cs
     pub are : going.led.built.led.calls ≡ calls ++ more
 
   abbrev pub on_by : (to : Starts) (t : Telling) (now : EngineValue) (cs : List (Child J)) (calls more : List Call) (n : ℕ) → Went to t now cs calls more → taken_count more ≡ n → On to t now cs calls n
-  on_by to t now cs calls more n w counted = record { going = w.going; taken = ap taken_count w.are ∙ taken_join calls more ∙ ap (λ m. taken_count calls + m) counted }
+  on_by to t now cs calls more n w counted = record { going = w.going; more = more; are = w.are; taken = counted }
 
   pub few_jobs : (to : Starts) (t : Telling) (now : EngineValue) (cs : List (Child J)) → Goes to t now cs → running now.jobs ≤ most
   few_jobs to t now cs g = let count = jobs_count (IsOwnJob y may t.blobs now) cs now.jobs g.jobs in let few = g.few in omega (arith, count, few)
@@ -396,7 +395,7 @@ module _ (A J : Type 0) (y : Yields) (may : J → EndValue → Type 0) (from : S
       one_in : IsSome (finished_in i new) → taken_in true i now new ≡ 1
       one_in some = let before = ap one_if unfinished in let behind = one_there (finished_in i new) some in omega (arith, before, behind)
 
-      pub going_begun : (z : Yields) → YieldsNoMore z y → (ds : List (Child J)) → i < length now.finished → IsBegun A z may a b t u i now new cs ds → On b u new ds g.led.built.led.calls (taken_in true i now new)
+      pub going_begun : (z : Yields) → YieldsNoMore z y → (ds : List (Child J)) → i < length now.finished → IsBegun A z may a b t u i now new cs ds → OneTurn b u new ds g.led.built.led.calls (taken_in true i now new)
       going_begun z within ds lt begun = by begun.goes
         where
           w : WasStarted A u.blobs i begun.id now begun.mid
@@ -405,31 +404,37 @@ module _ (A J : Type 0) (y : Yields) (may : J → EndValue → Type 0) (from : S
           one : begun.job ≡ job_of w
           one = one_answer (job_in begun.id begun.mid) begun.job (job_of w) begun.is (job_is w)
 
-          by : IsLaunched z may a b t u begun.id begun.job begun.mid new cs ds → On b u new ds g.led.built.led.calls (taken_in true i now new)
+          by : IsLaunched z may a b t u begun.id begun.job begun.mid new cs ds → OneTurn b u new ds g.led.built.led.calls (taken_in true i now new)
           by (inl (c, id, child, same, grown)) =
               let own : HasChildFor z may a b t u begun.mid (job_of w) c = subst (λ j. HasChildFor z may a b t u begun.mid j c) one child in
-              subst (On b u new ds g.led.built.led.calls) (sym (none_in (ap (λ (e : EngineValue). finished_in i e) same ∙ mid_none begun.id begun.mid w)))
-              (subst (λ (e : EngineValue). On b u e ds g.led.built.led.calls 0) (sym same)
-              (subst (λ xs. On b u begun.mid xs g.led.built.led.calls 0) (sym grown) (on_by b u begun.mid (cs ++ c ∷ []) g.led.built.led.calls (started i begun.id ∷ launched begun.id (job_of w).action (record { layout = own.own.owed.layout; command = own.own.owed.command }) ∷ []) 0
-              (going_started t u now begun.mid cs i begun.id k g room w c id
-              (own_still within (λ e b at right. at) (refl, refl) c (job_of w) own.own)
-              (record { layout = own.own.owed.layout; command = own.own.owed.command }) own.own.owed.laid own.own.owed.of_step own.started own.none) refl)))
+              subst (OneTurn b u new ds g.led.built.led.calls) (sym (none_in (ap (λ (e : EngineValue). finished_in i e) same ∙ mid_none begun.id begun.mid w)))
+              (subst (λ (e : EngineValue). OneTurn b u e ds g.led.built.led.calls 0) (sym same)
+              (subst (λ xs. OneTurn b u begun.mid xs g.led.built.led.calls 0) (sym grown) (
+                on_by b u begun.mid (cs ++ c ∷ []) g.led.built.led.calls (started i begun.id ∷ launched begun.id (job_of w).action (record { layout = own.own.owed.layout; command = own.own.owed.command }) ∷ []) 0
+                    (going_started t u now begun.mid cs i begun.id k g room w c id
+                    (own_still within (λ e b at right. at) (refl, refl) c (job_of w) own.own)
+                    (record { layout = own.own.owed.layout; command = own.own.owed.command }) own.own.owed.laid own.own.owed.of_step own.started own.none) refl,
+                refl,
+              )))
           by (inr (v, f, held, same, quiet)) =
               let of_job : f.job ≡ begun.job = one_answer (job_in begun.id begun.mid) f.job begun.job f.is begun.is in
               let within_mid : i < length begun.mid.finished = subst (λ (e : EngineValue). i < length e.finished) (sym (after w)) lt in
               let call : Call = taken begun.id begun.job.action v in
-              subst (λ xs. On b u new xs g.led.built.led.calls (taken_in true i now new)) (sym same) (on_by b u new cs g.led.built.led.calls (started i begun.id ∷ call ∷ []) (taken_in true i now new) (going_back t u now begun.mid cs i begun.id k g room w new call
-              (none_starts a b quiet) (λ d x child. absurd child) (λ js. refl)
-              (ap (λ (e : EngineValue). e.jobs) f.after) (ap (λ (e : EngineValue). e.commands) f.after, ap (λ (e : EngineValue). e.frames) f.after)
-              (record {
-                finished = f;
-                action = ap (λ (j : JobValue). j.action) of_job;
-                bytes = held.held.bytes;
-                held = inl held.held.held;
-                result = held.held.result;
-                reads = held.held.reads;
-                recorded = held.held.recorded;
-              })) (sym (one_in (finished_at begun.mid new begun.id i v (job_of w) within_mid f (job_is w) refl))))
+              subst (λ xs. OneTurn b u new xs g.led.built.led.calls (taken_in true i now new)) (sym same) (
+                on_by b u new cs g.led.built.led.calls (started i begun.id ∷ call ∷ []) (taken_in true i now new) (going_back t u now begun.mid cs i begun.id k g room w new call
+                    (none_starts a b quiet) (λ d x child. absurd child) (λ js. refl)
+                    (ap (λ (e : EngineValue). e.jobs) f.after) (ap (λ (e : EngineValue). e.commands) f.after, ap (λ (e : EngineValue). e.frames) f.after)
+                    (record {
+                      finished = f;
+                      action = ap (λ (j : JobValue). j.action) of_job;
+                      bytes = held.held.bytes;
+                      held = inl held.held.held;
+                      result = held.held.result;
+                      reads = held.held.reads;
+                      recorded = held.held.recorded;
+                    })) (sym (one_in (finished_at begun.mid new begun.id i v (job_of w) within_mid f (job_is w) refl))),
+                refl,
+              )
 
       pub none_kept : new ≡ now → 0 ≡ taken_in true i now new
       none_kept same = sym (none_in (ap (λ (e : EngineValue). finished_in i e) same ∙ unfinished))
@@ -443,7 +448,7 @@ own_jobs A y may from to s t most old now cs g = jobs_map (IsOwnJob y may t.blob
 
 -- ---- a step that is started, or refused
 
-pub begun : {A J : Type 0} {y : Yields} {may : J → EndValue → Type 0} {from to : Starts} {B : Blobs} {s t : Telling} (u : Telling) {i : ℕ} {old mid new : EngineValue} {job : Job A} {before behind : List (Child J)} → IsStarted B i old mid job → KeepsRight B u.blobs → IsKept s t
+unfoldable pub begun : {A J : Type 0} {y : Yields} {may : J → EndValue → Type 0} {from to : Starts} {B : Blobs} {s t : Telling} (u : Telling) {i : ℕ} {old mid new : EngineValue} {job : Job A} {before behind : List (Child J)} → IsStarted B i old mid job → KeepsRight B u.blobs → IsKept s t
     → IsLaunched y may from to t u job.id (kept_job job) mid new before behind → IsBegun A y may from to s u i old new before behind
 begun {A} {J} {y} {may} {from} {to} {B} {s} {t} u {i} {old} {mid} {new} {job} {before} {behind} is keeps kept went = record {
   id = job.id;

@@ -1,15 +1,14 @@
 -- What a watcher is told.
-use Rattle.std.proofs.Common.{◌≡◌, ℕ, List, [], ◌∷◌, ◌++◌, append_assoc, append-nil, Option, Some, None, refl, ap, sym, ◌∙◌, inl, inr}
-use Rattle.std.specs.List.{AllByRecursion}
+use Rattle.std.proofs.Common.{suc, ◌≡◌, ◌+◌, ℕ, List, [], ◌∷◌, ◌++◌, append_assoc, append-nil, length, length-append, Option, Some, None, refl, ap, sym, ◌∙◌, subst, arith, inl, inr}
 use Rattle.blob_source.specs.Sink.{KeepsRight}
 use Rattle.blob_source.specs.Source.{Telling}
 use Rattle.runs.specs.Engine.{EngineValue}
 use Rattle.worker.specs.declared.watching.Progress.{Progress}
-use Rattle.worker.specs.Calls.{Call, PutsOf}
+use Rattle.worker.specs.Calls.{Call, started, launched, ran, taken, lost, IsLed, PutsOf}
 use Rattle.worker.specs.Outcomes.{Yields}
-use Rattle.worker.specs.Watching.{Hears, IsWatched, IsProgress, IsUpToDate}
-use Rattle.worker.proofs.Goes.{puts_moved}
-use Rattle.worker.proofs.Keeping.{right_trans}
+use Rattle.worker.specs.Watching.{Hears, AreAfterTurns, IsWatched, IsProgressOf, IsProgress, IsUpToDate, turns_in}
+use Rattle.worker.proofs.Goes.{puts_kept, puts_moved}
+use Rattle.worker.proofs.Keeping.{kept_none, right_trans}
 
 hears_none : (a : Option (List Progress)) → Hears a a []
 hears_none None = tt
@@ -21,45 +20,79 @@ hears_more (Some xs) None c ps qs f g = absurd f
 hears_more (Some xs) (Some ys) None ps qs f g = absurd g
 hears_more (Some xs) (Some ys) (Some zs) ps qs f g = g ∙ ap (λ l. l ++ qs) f ∙ append_assoc xs ps qs
 
-all_more : (Is : Progress → Type 0) (ps : List Progress) (p : Progress) → AllByRecursion Is ps → Is p → AllByRecursion Is (ps ++ p ∷ [])
-all_more Is [] p h one = (one, tt)
-all_more Is (q ∷ ps) p h one = (h.0, all_more Is ps p h.1 one)
+turns_join : (cs more : List Call) → turns_in (cs ++ more) ≡ turns_in cs + turns_in more
+turns_join [] more = omega arith
+turns_join (started i id ∷ cs) more = let rest = turns_join cs more in omega (arith, rest)
+turns_join (ran id d v ∷ cs) more = let rest = turns_join cs more in omega (arith, rest)
+turns_join (launched id d x ∷ cs) more = turns_join cs more
+turns_join (taken id d v ∷ cs) more = turns_join cs more
+turns_join (lost id ∷ cs) more = turns_join cs more
 
-module _ {Is : Progress → Type 0} where
-  pub watched_none : (a : Option (List Progress)) → IsWatched Is a a
-  watched_none a = record { told = []; heard = hears_none a; each = tt }
+all_more : (Is : ℕ → Progress → Type 0) (n m : ℕ) (ps : List Progress) (p : Progress) → m ≡ suc (n + length ps) → AreAfterTurns Is n ps → Is m p → AreAfterTurns Is n (ps ++ p ∷ [])
+all_more Is n m [] p is h one = (subst (λ k. Is k p) (omega (arith, is)) one, tt)
+all_more Is n m (q ∷ ps) p is h one = (h.0, all_more Is (suc n) m ps p (omega (arith, is)) h.1 one)
 
-  pub watched_more : {a b c : Option (List Progress)} (p : Progress) → IsWatched Is a b → Hears b c (p ∷ []) → Is p → IsWatched Is a c
-  watched_more {a} {b} {c} p w heard is = record { told = w.told ++ p ∷ []; heard = hears_more a b c w.told (p ∷ []) w.heard heard; each = all_more Is w.told p w.each is }
+all_so : (Is So : ℕ → Progress → Type 0) → ((n : ℕ) (p : Progress) → Is n p → So n p) → (n : ℕ) (ps : List Progress) → AreAfterTurns Is n ps → AreAfterTurns So n ps
+all_so Is So follows n [] h = tt
+all_so Is So follows n (p ∷ ps) h = (follows (suc n) p h.0, all_so Is So follows (suc n) ps h.1)
 
--- what was told last
-module _ (A : Type 0) (y : Yields) (t : Telling) (most : ℕ) (first : EngineValue) where
-  pub up_none : (a : Option (List Progress)) → IsUpToDate A y t most first first a a
-  up_none None = tt
-  up_none (Some ps) = inl (refl, refl)
+module _ (A : Type 0) (y : Yields) (most : ℕ) (first : EngineValue) where
+  -- ---- as more is put
 
-  pub up_more : {So : Progress → Type 0} (now : EngineValue) (a b c : Option (List Progress)) (p : Progress) → IsWatched So a b → Hears b c (p ∷ []) → (q : IsProgress A y t most first p) → q.now ≡ now → IsUpToDate A y t most first now a c
-  up_more now None b c p w heard q is = tt
-  up_more now (Some xs) None c p w heard q is = absurd w.heard
-  up_more now (Some xs) (Some ys) None p w heard q is = absurd heard
-  up_more now (Some xs) (Some ys) (Some zs) p w heard q is = inr (ys, p, heard, (q, is))
+  -- more calls follow
+  progress_moved : (t u : Telling) (calls all more : List Call) → all ≡ calls ++ more → PutsOf more t u → KeepsRight t.blobs u.blobs → (n : ℕ) (p : Progress) → IsProgress A y t most first calls n p → IsProgress A y u most first all n p
+  progress_moved t u calls all more are m keeps n p h = record {
+    told = h.told;
+    now = h.now;
+    led = h.led;
+    count = h.count;
+    is = h.is;
+    later = h.later ++ more;
+    rest = sym (append_assoc h.led.calls h.later more) ∙ ap (λ cs. cs ++ more) h.rest ∙ sym are;
+    since = puts_moved h.told t u h.later more h.since m;
+    still = right_trans h.still keeps;
+  }
 
--- ---- as more is put
+  pub watched_moved : {a b : Option (List Progress)} (t u : Telling) (calls all more : List Call) → all ≡ calls ++ more → PutsOf more t u → KeepsRight t.blobs u.blobs → IsWatched (IsProgress A y t most first calls) a b → IsWatched (IsProgress A y u most first all) a b
+  watched_moved {a} {b} t u calls all more are m keeps w = record {
+    told = w.told;
+    heard = w.heard;
+    each = all_so (IsProgress A y t most first calls) (IsProgress A y u most first all) (progress_moved t u calls all more are m keeps) 0 w.told w.each;
+  }
 
-all_so : (Is So : Progress → Type 0) → ((p : Progress) → Is p → So p) → (ps : List Progress) → AllByRecursion Is ps → AllByRecursion So ps
-all_so Is So follows [] h = tt
-all_so Is So follows (p ∷ ps) h = (follows p h.0, all_so Is So follows ps h.1)
+  -- ---- while turns are taken
 
-pub watched_so : {Is So : Progress → Type 0} {a b : Option (List Progress)} → ((p : Progress) → Is p → So p) → IsWatched Is a b → IsWatched So a b
-watched_so {Is} {So} {a} {b} follows w = record { told = w.told; heard = w.heard; each = all_so Is So follows w.told w.each }
+  -- what was told was told after each turn, and the last of it now
+  abbrev pub IsHeard : Telling → EngineValue → List Call → Option (List Progress) → Option (List Progress) → Type 0
+  IsHeard t now calls a b = ((w : IsWatched (IsProgress A y t most first calls) a b) × (length w.told ≡ turns_in calls)) × IsUpToDate A y t most first now calls a b
 
-pub progress_moved : (A : Type 0) (y : Yields) (most : ℕ) (first : EngineValue) (t u : Telling) (more : List Call) → PutsOf more t u → KeepsRight t.blobs u.blobs → (p : Progress) → IsProgress A y t most first p → IsProgress A y u most first p
-progress_moved A y most first t u more m keeps p h = record {
-  told = h.told;
-  now = h.now;
-  led = h.led;
-  is = h.is;
-  later = h.later ++ more;
-  since = puts_moved h.told t u h.later more h.since m;
-  still = right_trans h.still keeps;
-}
+  up_none : (t : Telling) (a : Option (List Progress)) → IsUpToDate A y t most first first [] a a
+  up_none t None = tt
+  up_none t (Some ps) = inl (refl, refl)
+
+  pub heard_none : (t : Telling) (a : Option (List Progress)) → IsHeard t first [] a a
+  heard_none t a = ((record { told = []; heard = hears_none a; each = tt }, refl), up_none t a)
+
+  up_more : {Is : ℕ → Progress → Type 0} (u : Telling) (now : EngineValue) (all : List Call) (a b c : Option (List Progress)) (p : Progress) → IsWatched Is a b → Hears b c (p ∷ []) → (q : IsProgress A y u most first all (turns_in all) p) → q.now ≡ now → IsUpToDate A y u most first now all a c
+  up_more u now all None b c p w heard q is = tt
+  up_more u now all (Some xs) None c p w heard q is = absurd w.heard
+  up_more u now all (Some xs) (Some ys) None p w heard q is = absurd heard
+  up_more u now all (Some xs) (Some ys) (Some zs) p w heard q is = inr (ys, p, heard, (q, is))
+
+  pub heard_more : (t u : Telling) (old now : EngineValue) (calls more : List Call) (a b c : Option (List Progress)) (p : Progress) → IsHeard t old calls a b → turns_in more ≡ 1 → PutsOf more t u → KeepsRight t.blobs u.blobs → Hears b c (p ∷ [])
+      → (led : IsLed A y u most first now) → led.calls ≡ calls ++ more → IsProgressOf led.calls now p → IsHeard u now led.calls a c
+  unfolding watched_moved
+  heard_more t u old now calls more a b c p h one m keeps heard led are is =
+      let w = watched_moved t u calls led.calls more are m keeps h.0.0 in
+      let q : IsProgress A y u most first led.calls (turns_in led.calls) p = record { told = u; now = now; led = led; count = refl; is = is; later = []; rest = append-nil led.calls; since = puts_kept kept_none; still = λ e b at right. at } in
+      let count : turns_in led.calls ≡ suc (length h.0.0.told) = ap turns_in are ∙ (let all = turns_join calls more in let was = h.0.1 in omega (arith, all, was, one)) in (
+        (
+          record {
+            told = h.0.0.told ++ p ∷ [];
+            heard = hears_more a b c h.0.0.told (p ∷ []) h.0.0.heard heard;
+            each = all_more (IsProgress A y u most first led.calls) 0 (turns_in led.calls) h.0.0.told p (let n = count in omega (arith, n)) w.each q;
+          },
+          (let n = length-append h.0.0.told (p ∷ []) in let all = count in omega (arith, n, all)),
+        ),
+        up_more u now led.calls a b c p h.0.0 heard q refl,
+      )

@@ -1,6 +1,7 @@
 -- What calls of a store keep.
-use Rattle.std.proofs.Common.{◌≡◌, ◌≢◌, true, false, ℕ, ◌+◌, ◌<◌, length, take, get_or, List, [], ◌∷◌, ◌++◌, Some, refl, sym, subst, ◌∙◌, ap, inl, inr}
+use Rattle.std.proofs.Common.{◌≡◌, ◌≢◌, true, false, ℕ, zero, suc, arith, ◌+◌, ◌<◌, length, take, get_or, List, [], ◌∷◌, ◌++◌, Some, refl, sym, subst, ◌∙◌, ap, inl, inr}
 use Rattle.std.specs.Prelude.{◌⊎◌, ◌==◌, map}
+use Rattle.std.specs.List.{AllByRecursion}
 use Rattle.std.proofs.lemmas.Bool.Decides.{eqb_tells}
 use Rattle.std.proofs.lemmas.List.{map-append, take_more}
 use Rattle.std.specs.declared.vec.Vec.{Vec}
@@ -98,6 +99,12 @@ all_right_spelled {X} spell B C xs i x lt is keeps held right =
 pub all_right_taken : {A : Type 0} (B C : Blobs) (bs : List (Vec ℕ A)) (i : ℕ) (x : Vec ℕ A) → i < length bs → x ≡ get_or bs i x → KeepsRight B C
     → HasAllRight B (items_of (take i bs)) → HasRight C (digest_of x.items) → HasAllRight C (items_of (take (i + 1) bs))
 all_right_taken {A} B C bs i x lt is keeps held right = all_right_spelled (λ (b : Vec ℕ A). b.items) B C bs i x lt is keeps held right
+
+-- one of them differs, where each does
+pub differs : {A : Type 0} (d : DigestValue) (bs : List (Vec ℕ A)) (i : ℕ) (x : Vec ℕ A) → i < length bs → x ≡ get_or bs i x → AllByRecursion (λ b. digest_of b ≢ d) (items_of bs) → digest_of x.items ≢ d
+differs d [] i x lt is h = absurd (omega (arith, lt))
+differs {A} d (b ∷ bs) zero x lt is h = subst (λ (y : Vec ℕ A). digest_of y.items ≢ d) (sym is) h.0
+differs d (b ∷ bs) (suc i) x lt is h = differs d bs i x (omega (arith, lt)) is h.1
 
 -- ---- which digest
 

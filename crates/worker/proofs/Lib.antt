@@ -22,3 +22,4 @@ pub mod Failures
 pub mod Steps
 pub mod Acts
 pub mod TwoStepsBuilt
+pub mod ChildBuilt

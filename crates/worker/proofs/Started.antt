@@ -27,7 +27,7 @@ module _ {A : Type 0} {B : Blobs} {i id : ℕ} {old mid : EngineValue} (w : WasS
   one_more = subst (λ (e : EngineValue). running e.jobs ≡ suc (running old.jobs)) (sym after) (running_placed old.jobs id job_of (least_within old.jobs id least) least.free)
 
 module _ {A : Type 0} {B : Blobs} {i : ℕ} {old mid : EngineValue} {job : Job A} (s : IsStarted B i old mid job) where
-  pub was_started : (C : Blobs) → KeepsRight B C → WasStarted A C i job.id old mid
+  unfoldable pub was_started : (C : Blobs) → KeepsRight B C → WasStarted A C i job.id old mid
   was_started C keeps = record { told = B; still = keeps; job = job; number = refl; is = s }
 
   pub started_value : job_in job.id mid ≡ Some (kept_job job)

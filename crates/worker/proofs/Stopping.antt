@@ -16,7 +16,7 @@ use Rattle.worker.specs.declared.error.BuildError.{BuildError}
 use Rattle.worker.specs.declared.child.Child.{Child}
 use Rattle.worker.specs.declared.turns.Turn.{Turn}
 use Rattle.worker.specs.declared.turns.Turn.TheVariants as turns
-use Rattle.worker.specs.Calls.{Call, started, launched, ran, taken, lost, IsLost, Does, Leads}
+use Rattle.worker.specs.Calls.{Call, started, launched, ran, taken, lost, IsLost, Does, Leads, PutsOf}
 use Rattle.worker.specs.Going.{IsJobIn, kept_job, IsGoing, IsBegun, IsTurn, EndedWell, HasEndedFirst, GoesOnBy, taken_in}
 use Rattle.worker.specs.Counted.{TellsRunFailure}
 use Rattle.worker.specs.Layout.{IsLayoutOf}
@@ -25,7 +25,8 @@ use Rattle.worker.specs.Stored.{IsKept}
 use Rattle.worker.specs.Stopped.{ComesTo, HasBegun, StopsStep, IsRefusedBuild, IsStoreFault}
 use Rattle.worker.specs.Stopping.{StopsChild, StopsCollecting, StopsEnd, StopsSettling, StopsBeginning}
 use Rattle.worker.specs.Values.{LayoutValue, EndValue, made, bad_at, failed, IsAbsolute, Starts, StartsNone}
-use Rattle.worker.proofs.Goes.{Ends, Went, on_by, few_jobs, going_kept, led_kept, going_ran, going_lost, led_started, going_back, going_begun, none_kept, none_lost, none_starts}
+use Rattle.worker.specs.Watching.{turns_in}
+use Rattle.worker.proofs.Goes.{Ends, Went, on_by, few_jobs, going_kept, led_kept, going_ran, going_lost, led_started, going_back, going_begun, moves_ran, none_kept, none_lost, none_starts, puts_none}
 use Rattle.worker.proofs.Lefts.{finished_there}
 use Rattle.worker.proofs.Started.{after, job_of, job_is}
 use Rattle.worker.proofs.Taking.{loses_none}
@@ -98,6 +99,7 @@ module _ (A J : Type 0) (y : Yields) (may : J → EndValue → Type 0) (from a b
   -- a build went on, or the refusal stands
   abbrev Goes : {T : Type 0} → List (Child J) → Result T (BuildError A) → List Call → ℕ → Type 0
   Goes xs r calls n = (on : GoesOnBy A y may from b s u most first new xs calls n) × IfErr r (λ e. IsRefusedBuild A y u most on.going.led.built.led.calls first new e.step e.refusal)
+      × PutsOf on.more t u × OnOk r (turns_in on.more ≡ 1)
 
   begun_refused : (z : Yields) (i : ℕ) (e : BuildError A) → YieldsNoMore z y → IsKept t u → StartsNone a b → (turn : IsTurn most now cs (turns.Start i)) → (e.step ≡ i) × StopsBeginning A z u i now new e.refusal
       → Goes {T = Unit {0}} cs (Err e) g.led.built.led.calls (taken_in true i now new)
@@ -112,6 +114,8 @@ module _ (A J : Type 0) (y : Yields) (may : J → EndValue → Type 0) (from a b
           planned = subst (λ n. n < length now.plan.steps) (sym step) turn.1;
           stops = subst (λ n. StopsStep y u now n e.refusal) (sym step) (stops_within z y u now i e.refusal within stops);
         },
+        puts_none t u [] k,
+        tt,
       )
   begun_refused z i e within k quiet turn (step, inr (id, mid, is, gone, stops)) =
       let calls = g.led.built.led.calls in
@@ -125,6 +129,8 @@ module _ (A J : Type 0) (y : Yields) (may : J → EndValue → Type 0) (from a b
           planned = subst (λ n. n < length mid.plan.steps) (sym step) (subst (λ (e : EngineValue). i < length e.plan.steps) (sym (after is)) turn.1);
           stops = subst (λ n. StopsStep y u mid n e.refusal) (sym step) (stops_within z y u mid i e.refusal within stops);
         },
+        puts_none t u (started i id ∷ lost id ∷ []) k,
+        tt,
       )
 
   pub start_goes : {T : Type 0} (r : Result T (BuildError A)) (z : Yields) (i : ℕ) → YieldsNoMore z y → IsKept t u → OnErr r (StartsNone a b) → IsTurn most now cs (turns.Start i) → IsEngine now → OnOk r (IsBegun A z may a b t u i now new cs ds)
@@ -132,7 +138,8 @@ module _ (A J : Type 0) (y : Yields) (may : J → EndValue → Type 0) (from a b
   start_goes (Ok x) z i within k quiet turn valid begun stop same =
       let count = valid.count in
       let lt = turn.1 in
-      (going_begun A J y may from s most first a b t u now new i cs k g turn.0 turn.2.waiting.unfinished z within ds (omega (arith, count, lt)) begun, tt)
+      let on = going_begun A J y may from s most first a b t u now new i cs k g turn.0 turn.2.waiting.unfinished z within ds (omega (arith, count, lt)) begun in
+      (on.0, tt, puts_none t u on.0.more k, on.1)
   start_goes (Err e) z i within k quiet turn valid begun stop same =
       subst (λ xs. Goes {T = Unit {0}} xs (Err e) g.led.built.led.calls (taken_in true i now new)) (sym same) (begun_refused z i e within k quiet turn stop)
 
@@ -158,8 +165,12 @@ module _ (A J : Type 0) (y : Yields) (may : J → EndValue → Type 0) (from a b
     end_stops k refusals.Fetch h = runs_still
     end_stops k refusals.Memory h = runs_still
 
-    ended_well : EndedWell may t u c now new → GoesOnBy A y may from b s u most first new ds f.led.built.led.calls 0
-    ended_well e = on_by A J y may from s most first b u new ds f.led.built.led.calls (ran c.id c.action e.produced.outcome ∷ []) 0 (going_ran A J y may from s most first a b t u now new c ds quiet f e) refl
+    ended_well : EndedWell may t u c now new → (on : GoesOnBy A y may from b s u most first new ds f.led.built.led.calls 0) × PutsOf on.more t u × (turns_in on.more ≡ 1)
+    ended_well e = (
+      on_by A J y may from s most first b u new ds f.led.built.led.calls (ran c.id c.action e.produced.outcome ∷ []) 0 (going_ran A J y may from s most first a b t u now new c ds quiet f e) refl,
+      (moves_ran t u c.id c.action e.produced.outcome e.kept).puts,
+      refl,
+    )
 
     end_refused : IsEngine now → (e : BuildError A) → (e.step ≡ c.step) × StopsSettling may t u c now new e.refusal → Goes {T = Unit {0}} ds (Err e) f.led.built.led.calls 0
     end_refused valid e (step, inl (gone, k, stop)) =
@@ -173,24 +184,28 @@ module _ (A J : Type 0) (y : Yields) (may : J → EndValue → Type 0) (from a b
             planned = subst (λ n. n < length now.plan.steps) (sym step) (step_planned valid);
             stops = subst (λ n. StopsStep y u now n e.refusal) (sym step) (end_stops k e.refusal stop);
           },
+          puts_none t u (lost c.id ∷ []) k,
+          tt,
         )
     end_refused valid e (step, inr (well, store)) =
         let on = ended_well well in (
-          on,
+          on.0,
           record {
             at = new;
-            led = on.going.led.built.led;
+            led = on.0.going.led.built.led;
             rest = loses_none;
             planned = subst (λ n. n < length new.plan.steps) (sym step) (subst (λ (p : PlanValue). c.step < length p.steps) (sym (ap (λ (e : EngineValue). e.plan) well.finished.after)) (step_planned valid));
             stops = subst (λ n. StopsStep y u new n e.refusal) (sym step)
                 (store_stops y u new c.step e.refusal (inr (finished_there now new c.id c.step well.produced.outcome f.jobs.0 valid well.finished f.jobs.1 f.jobs.2.of_child.step)) store);
           },
+          on.1,
+          tt,
         )
 
   pub finish_goes : {T : Type 0} (r : Result T (BuildError A)) → IsEngine now → StartsNone a b → OnOk r (HasEndedFirst (EndedWell may t u) now new cs ds)
       → IfErr r (λ e. HasEndedFirst (λ c old new. (e.step ≡ c.step) × StopsSettling may t u c old new e.refusal) now new cs ds) → Goes ds r g.led.built.led.calls 0
   finish_goes {T} (Ok x) valid quiet well stop =
-      subst (λ xs. (f : IsGoing A y may from a s t most first now xs) → Goes {T = T} ds (Ok x) f.led.built.led.calls 0) (sym well.is) (λ f. (ended_well well.child quiet f well.end, tt)) g
+      subst (λ xs. (f : IsGoing A y may from a s t most first now xs) → Goes {T = T} ds (Ok x) f.led.built.led.calls 0) (sym well.is) (λ f. let on = ended_well well.child quiet f well.end in (on.0, tt, on.1, on.2)) g
   finish_goes {T} (Err e) valid quiet well stop =
       subst (λ xs. (f : IsGoing A y may from a s t most first now xs) → Goes {T = T} ds (Err e) f.led.built.led.calls 0) (sym stop.is) (λ f. end_refused stop.child quiet f valid e stop.end) g
 

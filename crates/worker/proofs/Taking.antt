@@ -11,7 +11,7 @@ use Rattle.worker.specs.Values.{EndValue, Starts, StartsNone}
 use Rattle.worker.specs.Stored.{IsKept}
 use Rattle.worker.specs.Storing.{IsKeptBut, HasResultOf, IsResultOfStep, StoresSteps, IsHeldWhole}
 use Rattle.worker.specs.Outcomes.{Yields}
-use Rattle.worker.specs.Calls.{running, Call, lost, IsLost, Leads, IsResultFor, PutsOf}
+use Rattle.worker.specs.Calls.{running, Call, lost, IsLost, Leads, IsResultFor}
 use Rattle.worker.specs.Stopped.{LosesRest}
 use Rattle.worker.specs.Going.{IsJobOf, AreJobsOf, IsOwnJob, IsGoing, IsBegun, IsLaunched, EndedWell, HasEndedFirst, HasResultOfFirst}
 use Rattle.verifier.proofs.FreshRuns.{one_answer}
@@ -19,7 +19,7 @@ use Rattle.worker.proofs.Started.{after}
 use Rattle.worker.proofs.Keeping.{kept_none, kept_as, kept_then, right_still, all_right_still}
 use Rattle.worker.proofs.Storing.{result_for, steps_kept, steps_taken, steps_ran}
 use Rattle.worker.proofs.Telling.{trees_still}
-use Rattle.worker.proofs.Goes.{Ends, few_jobs, going_lost, puts_ended}
+use Rattle.worker.proofs.Goes.{Ends, few_jobs, going_lost}
 
 ends_right : {J : Type 0} (may : J → EndValue → Type 0) (t u : Telling) (c : Child J) (now new : EngineValue) → Ends may t u c now new → KeepsRight t.blobs u.blobs
 ends_right may t u c now new (inl e) = e.kept.blobs
@@ -28,10 +28,6 @@ ends_right may t u c now new (inr (l, k)) = k.blobs
 pub finish_right : {J T E : Type 0} (may : J → EndValue → Type 0) (t u : Telling) (now new : EngineValue) (cs ds : List (Child J)) (r : Result T E) → OnOk r (HasEndedFirst (EndedWell may t u) now new cs ds) → OnErr r (HasEndedFirst (Ends may t u) now new cs ds) → KeepsRight t.blobs u.blobs
 finish_right may t u now new cs ds (Ok x) well ended = well.end.kept.blobs
 finish_right may t u now new cs ds (Err x) well ended = ends_right may t u ended.child now new ended.end
-
-pub finish_puts : {J T E : Type 0} (may : J → EndValue → Type 0) (t u : Telling) (now new : EngineValue) (cs ds : List (Child J)) (r : Result T E) → OnOk r (HasEndedFirst (EndedWell may t u) now new cs ds) → OnErr r (HasEndedFirst (Ends may t u) now new cs ds) → (more : List Call) × PutsOf more t u
-finish_puts may t u now new cs ds (Ok x) well ended = puts_ended may t u well.child now new (inl well.end)
-finish_puts may t u now new cs ds (Err x) well ended = puts_ended may t u ended.child now new ended.end
 
 -- ---- jobs that are lost
 

@@ -8,6 +8,7 @@ use Rattle.hex.specs.Hex.{encode_with, decode_pairs}
 use Rattle.sha2.specs.Sha256.{compress, digest_bytes, first_words, hash_after, rounds, schedule, sha256}
 use Rattle.wire.specs.Varint.{groups, varint}
 use Rattle.blob_digest.specs.Digest.{DigestValue, digest_of}
+use Rattle.blob_source.specs.Source.{Blobs}
 use Rattle.messages.specs.declared.node.Node.TheVariants as nodes
 use Rattle.messages.specs.Directory.{directory_bytes}
 use Rattle.action_messages.specs.Action.{with_input}
@@ -66,7 +67,7 @@ module _ {A : Type 0} (alloc : A) where
   vecs_count [] few = refl
   vecs_count (b ∷ bs) few = ap suc (vecs_count bs few.1)
 
-  fold_of : (t : Tree NodeValue) → AllByRecursion IsFew (visited t) → IsFew (visited t) → (f : Folded A) × IsFoldOf t f
+  pub fold_of : (t : Tree NodeValue) → AllByRecursion IsFew (visited t) → IsFew (visited t) → (f : Folded A) × IsFoldOf t f
   fold_of t each count =
       let once = few_unseen [] (visited t) each in
       let same = vecs_count (first_visits t) once.0 in
@@ -76,7 +77,7 @@ module _ {A : Type 0} (alloc : A) where
 abbrev data_form : Tree NodeValue
 data_form = form two.data_input
 
-none_few : AllByRecursion IsFew (visited empty)
+pub none_few : AllByRecursion IsFew (visited empty)
 unfolding groups varint directory_bytes encode_with
 none_few = (lit< tt, tt)
 
@@ -92,9 +93,9 @@ made_file = record { node = nodes.File (digest_of (codes "123456789")) false; wi
 abbrev data_lines : MergeLines
 data_lines = (codes "data" ∷ codes "x" ∷ [], made_file) ∷ []
 
-nothing_merges : (merged two.blobs []).passes empty
+pub nothing_merges : (B : Blobs) → (merged B []).passes empty
 unfolding merged
-nothing_merges = graft_passes two.blobs 64 [] [] (all_named [] tt) (are_apart [] tt) tt
+nothing_merges B = graft_passes B 64 [] [] (all_named [] tt) (are_apart [] tt) tt
 
 data_merges : (merged two.blobs data_lines).passes data_form
 unfolding merged
@@ -119,7 +120,7 @@ use_runs = with_job 0 use_job gen_done
 
 gen_together : (together_in two.blobs worked.first []).passes empty
 unfolding ◌and_then◌
-gen_together = ([], refl, nothing_merges)
+gen_together = ([], refl, nothing_merges two.blobs)
 
 use_together : (together_in two.blobs gen_done (record { target = codes "data" ∷ codes "x" ∷ []; origin = output 0 (codes "out" ∷ codes "a" ∷ []) } ∷ [])).passes data_form
 unfolding ◌and_then◌
@@ -196,7 +197,7 @@ module _ {A : Type 0} (alloc : A) where
 
 -- ---- the store's results are taken
 
-unfinished : (o : Option FinishedValue) (k i : ℕ) (d : DigestValue) (v : OutcomeValue) → None ≡ o → IsOther o k i d v → ⊥
+pub unfinished : (o : Option FinishedValue) (k i : ℕ) (d : DigestValue) (v : OutcomeValue) → None ≡ o → IsOther o k i d v → ⊥
 unfinished None k i d v is other = other
 unfinished (Some f) k i d v is other = cc
 

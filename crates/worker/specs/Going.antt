@@ -189,12 +189,14 @@ abbrev pub taken_in : Bool → ℕ → EngineValue → EngineValue → ℕ
 taken_in true i old new = one_if (finished_in i new) - one_if (finished_in i old)
 taken_in false i old new = 0
 
--- A build went on from these calls, and this many steps were taken from the store.
+-- A build went on from these calls by more, and by these this many steps were taken from the store.
 pub record GoesOnBy (A : Type 0) {J : Type 0} (yields : Yields) (may : J → EndValue → Type 0)
     (from to : Starts) (before t : Telling) (most : ℕ) (old new : EngineValue)
     (children : List (Child J)) (calls : List Call) (n : ℕ) : Type 0 where
   pub going : IsGoing A yields may from to before t most old new children
-  pub taken : taken_count going.led.built.led.calls ≡ taken_count calls + n
+  pub more : List Call
+  pub are : going.led.built.led.calls ≡ calls ++ more
+  pub taken : taken_count more ≡ n
 
 -- the same other steps have finished as before
 pub record FinishesOnly (i : ℕ) (old new : EngineValue) : Type 0 where

@@ -1,7 +1,6 @@
 -- How far a build is, and what its watcher is told.
 use Rattle.std.specs.Prelude.{suc, ◌≡◌, ◌⊎◌, ◌++◌, ◌≤◌, ◌==◌, not, ℕ, List, [], ◌∷◌, length, filter}
 use Rattle.std.specs.Prelude.{Option, Some, None}
-use Rattle.std.specs.List.{AllByRecursion}
 use Rattle.blob_source.specs.Sink.{KeepsRight}
 use Rattle.blob_source.specs.Source.{Telling}
 use Rattle.runs.specs.Engine.{FinishedValue, EngineValue}
@@ -17,11 +16,17 @@ Hears None after ps = Unit {0}
 Hears (Some before) None ps = ⊥
 Hears (Some before) (Some after) ps = after ≡ before ++ ps
 
--- some were told, one after another, and each is as it has to be
-pub record IsWatched (Is : Progress → Type 0) (before after : Option (List Progress)) : Type 0 where
+-- the first of these is as it has to be after one turn more than these, and so on
+abbrev pub AreAfterTurns : (ℕ → Progress → Type 0) → ℕ → List Progress → Type 0
+AreAfterTurns Is turns [] = Unit {0}
+AreAfterTurns Is turns (p ∷ ps) = Is (suc turns) p × AreAfterTurns Is (suc turns) ps
+
+-- some were told, one after each of the first turns, and each is as it has to be after so many
+pub record IsWatched (Is : ℕ → Progress → Type 0) (before after : Option (List Progress))
+    : Type 0 where
   pub told : List Progress
   pub heard : Hears before after told
-  pub each : AllByRecursion Is told
+  pub each : AreAfterTurns Is 0 told
 
 -- what was told last is so; nothing was told, where this is so
 abbrev pub IsToldLast : (Progress → Type 0) → Type 0 → Option (List Progress)
@@ -71,20 +76,31 @@ pub record IsProgressOf (calls : List Call) (e : EngineValue) (p : Progress) : T
   pub jobs : p.running ≡ running e.jobs
   pub first : p.longest ≡ first_step (jobs_after [] calls)
 
--- The numbers are those of an engine to which calls led, by what the store told then; and what it
--- tells at the end differs from that by what calls put.
+-- how many turns the calls make: in each a step is started, or a child's job finishes
+abbrev pub turns_in : List Call → ℕ
+turns_in [] = 0
+turns_in (started i id ∷ cs) = suc (turns_in cs)
+turns_in (ran id d v ∷ cs) = suc (turns_in cs)
+turns_in (c ∷ cs) = turns_in cs
+
+-- The numbers are those of an engine to which the first of all calls led, in so many turns, by what
+-- the store told then; and what it tells at the end differs from that by what the later ones put.
 pub record IsProgress (A : Type 0) (yields : Yields) (t : Telling) (most : ℕ)
-    (first : EngineValue) (p : Progress) : Type 0 where
+    (first : EngineValue) (all : List Call) (turns : ℕ) (p : Progress) : Type 0 where
   pub told : Telling
   pub now : EngineValue
   pub led : IsLed A yields told most first now
+  pub count : turns_in led.calls ≡ turns
   pub is : IsProgressOf led.calls now p
   pub later : List Call
+  pub rest : led.calls ++ later ≡ all
   pub since : PutsOf later told t
   pub still : KeepsRight told.blobs t.blobs
 
--- What was told last is of the engine to which the calls led; nothing was, where there were none.
+-- What was told last is after all turns, and of the engine to which all calls led; nothing was
+-- told, where there was no turn.
 abbrev pub IsUpToDate : (A : Type 0) → Yields → Telling → ℕ → EngineValue → EngineValue
-    → Option (List Progress) → Option (List Progress) → Type 0
-IsUpToDate A yields t most first now before after = IsToldLast
-    (λ p. (q : IsProgress A yields t most first p) × (q.now ≡ now)) (now ≡ first) before after
+    → List Call → Option (List Progress) → Option (List Progress) → Type 0
+IsUpToDate A yields t most first now all before after = IsToldLast
+    (λ p. (q : IsProgress A yields t most first all (turns_in all) p) × (q.now ≡ now))
+    (now ≡ first) before after

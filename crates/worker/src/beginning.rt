@@ -3,10 +3,10 @@ ghost use Rattle.worker.specs.Layout.{IsLayoutOf};
 ghost use Rattle.std.specs.Result.{IsErrAnd};
 ghost use Rattle.worker.specs.Counted.{Counts, IsDevice, IsFetch};
 ghost use Rattle.worker.specs.Stored.{IsKept};
-ghost use Rattle.worker.specs.Storing.{Remembers, StaysPut, StaysRemembered, WerePut};
+ghost use Rattle.worker.specs.Storing.{HasPutAll, Remembers, StaysPut, StaysRemembered, WerePut};
 ghost use Rattle.worker.specs.Calls.{IsStartable};
 ghost use Rattle.worker.specs.Outcomes.{YieldsFor, YieldsNoMore};
-ghost use Rattle.worker.specs.Values.{LayoutValue, EndValue, StartsNone, StartsOne};
+ghost use Rattle.worker.specs.Values.{LayoutValue, EndValue, StartsNone, StartsOne, items_of};
 ghost use Rattle.worker.specs.Going.{IsJobIn, kept_job, IsBegun, IsLaunched};
 ghost use Rattle.worker.specs.Stopping.{StopsChild, StopsBeginning};
 ghost use Rattle.worker.specs.Stopped.{StopsStep};
@@ -69,6 +69,7 @@ fn launch<A: Allocator + Copy, S: BlobSink<A>, N: Runner<A>>(
     requires put { WerePut put.old (S.tells sink.old).blobs }
     ensures put { WerePut put.new (S.tells sink.new).blobs }
     ensures stays { StaysPut put.old put.new }
+    ensures listed { OnOk result (HasPutAll put.new (items_of job.now.input.directories.items)) }
     ensures kept { IsKept (S.tells sink.old) (S.tells sink.new) }
     ensures launched { OnOk result (IsLaunched (N.yields runner.old) N.may_give
         (N.starts runner.old) (N.starts runner.new) (S.tells sink.old) (S.tells sink.new)
@@ -123,6 +124,11 @@ pub(crate) fn begin<A: Allocator + Copy, S: BlobSink<A>, N: Runner<A>>(
     ensures begun { OnOk result (IsBegun A (N.yields runner.old) N.may_give
         (N.starts runner.old) (N.starts runner.new) (S.tells sink.old) (S.tells sink.new) step
         engine.old engine.new children.old.items children.new.items) }
+    // Its input's Directories are among those that were put.
+    ensures listed { OnOk result ((b : IsBegun A (N.yields runner.old) N.may_give
+        (N.starts runner.old) (N.starts runner.new) (S.tells sink.old) (S.tells sink.new) step
+        engine.old engine.new children.old.items children.new.items)
+        × HasPutAll remembered.new.put (items_of b.started.job.input.directories.items)) }
     ensures unlisted { OnErr result (StartsNone (N.starts runner.old) (N.starts runner.new)) }
     ensures stopped { IfErr result (λ e. (e.step ≡ step) × StopsBeginning A (N.yields runner.old)
         (S.tells sink.new) step engine.old engine.new e.refusal) }

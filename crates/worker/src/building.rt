@@ -73,7 +73,11 @@ fn take_turns<A: Allocator + Copy, S: BlobSink<A>, N: Runner<A>, W: Watcher>(
         (N.starts runner.new) (S.tells sink.old) (S.tells sink.new) jobs engine.old engine.new
         children.new.items)
         × IfErr result (λ e. IsRefusedBuild A (N.yields runner.old) (S.tells sink.new) jobs
-        g.led.built.led.calls engine.old engine.new e.step e.refusal) }
+        g.led.built.led.calls engine.old engine.new e.step e.refusal)
+        × IsWatched (IsProgress A (N.yields runner.old) (S.tells sink.new) jobs engine.old
+        g.led.built.led.calls) (W.told watcher.old) (W.told watcher.new)
+        × OnOk result (IsUpToDate A (N.yields runner.old) (S.tells sink.new) jobs engine.old
+        engine.new g.led.built.led.calls (W.told watcher.old) (W.told watcher.new)) }
     ensures done { OnOk result (HaveAllFinished engine.new) }
     ensures ended { OnOk result (children.new.items ≡ []) }
     ensures few { OnErr result (length children.new.items < jobs) }
@@ -82,12 +86,6 @@ fn take_turns<A: Allocator + Copy, S: BlobSink<A>, N: Runner<A>, W: Watcher>(
     ensures right { KeepsRight (S.tells sink.old).blobs (S.tells sink.new).blobs }
     ensures stays { StaysRemembered remembered.old remembered.new }
     ensures alive { N.alive runner.new ≡ N.alive runner.old + length children.new.items }
-    ensures watched { IsWatched
-        (IsProgress A (N.yields runner.old) (S.tells sink.new) jobs engine.old)
-        (W.told watcher.old) (W.told watcher.new) }
-    ensures up_to_date { OnOk result
-        (IsUpToDate A (N.yields runner.old) (S.tells sink.new) jobs engine.old engine.new
-        (W.told watcher.old) (W.told watcher.new)) }
     ensures fetched { Counts (S.tells sink.old).failures (S.tells sink.new).failures
         (IsErrAnd result (λ e. IsFetch e.refusal)) }
     ensures device { Counts (N.failures runner.old) (N.failures runner.new)
@@ -125,10 +123,15 @@ pub fn build<A: Allocator + Copy, S: BlobSink<A>, N: Runner<A>, W: Watcher>(
     // results that were put are of what they came to; those under other digests stay.
     // Where it is refused, the first of them led to an engine in which the refusal of that step
     // stands, and after them jobs alone were lost.
+    // The watcher is told the numbers after each of their first turns, and in the end after all.
     ensures led { (b : IsBuiltWith A (N.yields runner.old) (N.starts runner.old)
         (N.starts runner.new) (S.tells sink.old) (S.tells sink.new) jobs engine.old engine.new)
         × IfErr result (λ e. IsRefusedBuild A (N.yields runner.old) (S.tells sink.new) jobs
-        b.built.led.calls engine.old engine.new e.step e.refusal) }
+        b.built.led.calls engine.old engine.new e.step e.refusal)
+        × IsWatched (IsProgress A (N.yields runner.old) (S.tells sink.new) jobs engine.old
+        b.built.led.calls) (W.told watcher.old) (W.told watcher.new)
+        × OnOk result (IsUpToDate A (N.yields runner.old) (S.tells sink.new) jobs engine.old
+        engine.new b.built.led.calls (W.told watcher.old) (W.told watcher.new)) }
     ensures done { OnOk result (HaveAllFinished engine.new) }
     // The store has what each step came to, from the first to the last.
     ensures stored { OnOk result
@@ -137,14 +140,6 @@ pub fn build<A: Allocator + Copy, S: BlobSink<A>, N: Runner<A>, W: Watcher>(
     // Each child that was started was waited for.
     ensures alive { N.alive runner.new ≡ N.alive runner.old }
     ensures right { KeepsRight (S.tells sink.old).blobs (S.tells sink.new).blobs }
-    // Each number that the watcher is told is that of an engine to which calls led,
-    ensures watched { IsWatched
-        (IsProgress A (N.yields runner.old) (S.tells sink.new) jobs engine.old)
-        (W.told watcher.old) (W.told watcher.new) }
-    // and the last is that of the engine as it is then.
-    ensures up_to_date { OnOk result
-        (IsUpToDate A (N.yields runner.old) (S.tells sink.new) jobs engine.old engine.new
-        (W.told watcher.old) (W.told watcher.new)) }
     // The store failed exactly where that is told, and the runner at least there. Other children
     // that are waited for after a refusal may fail too: there is none where `jobs` is 1.
     ensures fetched { Counts (S.tells sink.old).failures (S.tells sink.new).failures

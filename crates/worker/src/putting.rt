@@ -1,6 +1,8 @@
-ghost use Rattle.std.specs.Prelude.{◌≡◌, ◌+◌, ◌-◌, ◌<◌, ◌≤◌, [], ◌∷◌, Some, IsSome, IfErr, OnOk};
+ghost use Rattle.std.specs.Prelude.{◌≡◌, ◌≢◌, ◌+◌, ◌-◌, ◌<◌, ◌≤◌, [], ◌∷◌, Some, IsSome, IfErr};
+ghost use Rattle.std.specs.Prelude.{OnOk, length};
+ghost use Rattle.std.specs.List.{AllByRecursion};
 ghost use Rattle.std.specs.Result.{IsErrAnd};
-ghost use Rattle.blob_digest.specs.Digest.{digest_of};
+ghost use Rattle.blob_digest.specs.Digest.{DigestValue, digest_of};
 ghost use Rattle.action_messages.specs.Action.{action_bytes};
 ghost use Rattle.wire.specs.Bytes.{IsBytes};
 ghost use Rattle.blob_source.specs.Sink.{HasRight};
@@ -31,6 +33,12 @@ pub fn put_all<A: Allocator + Copy, S: BlobSink<A>>(
 ) -> Result<(), Refusal<A>>
     ensures kept { IsKept (S.tells sink.old) (S.tells sink.new) }
     ensures held { OnOk result (HasAllRight (S.tells sink.new).blobs (items_of blobs.now)) }
+    // What stands under the digest of none of them stays.
+    ensures others { (d : DigestValue)
+        → AllByRecursion (λ b. digest_of b ≢ d) (items_of blobs.now)
+        → (S.tells sink.new).blobs d ≡ (S.tells sink.old).blobs d }
+    // The store is called at most once for each.
+    ensures once { (S.tells sink.new).calls ≤ (S.tells sink.old).calls + length blobs.now }
     ensures failed { IfErr result IsStoreFault }
     ensures fetched { Counts (S.tells sink.old).failures (S.tells sink.new).failures
         (IsErrAnd result IsFetch) }

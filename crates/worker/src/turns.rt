@@ -1,5 +1,5 @@
 ghost use Rattle.std.specs.Prelude.{◌≡◌, ◌↔◌, ◌+◌, ◌-◌, ◌<◌, ◌≤◌, ℕ, [], Some, None, IsTrue};
-ghost use Rattle.std.specs.Prelude.{List, IfSome, IfErr, OnOk, OnErr, length};
+ghost use Rattle.std.specs.Prelude.{IfSome, IfErr, OnOk, OnErr, length};
 ghost use Rattle.blob_source.specs.Sink.{KeepsRight};
 ghost use Rattle.blob_source.specs.Source.{Telling};
 ghost use Rattle.plan.specs.Plan.{IsPlan};
@@ -8,10 +8,11 @@ ghost use Rattle.std.specs.Result.{IsErrAnd};
 ghost use Rattle.worker.specs.Counted.{Counts, IsDevice, IsFetch};
 ghost use Rattle.worker.specs.Storing.{Remembers, StaysRemembered, StoresSteps};
 ghost use Rattle.worker.specs.Outcomes.{YieldsNoMore};
-ghost use Rattle.worker.specs.Calls.{Call, IsStartable, PutsOf};
+ghost use Rattle.worker.specs.Calls.{IsStartable, PutsOf};
 ghost use Rattle.worker.specs.Going.{AreJobsOf, IsJobOf, IsTurn, IsNextTurn, IsGoing, turns_left};
 ghost use Rattle.worker.specs.Going.{FinishesOnly, GoesOnBy, is_start, step_of, taken_in};
 ghost use Rattle.worker.specs.Stopped.{IsRefusedBuild};
+ghost use Rattle.worker.specs.Watching.{turns_in};
 
 use crate::beginning::begin;
 use crate::child::Child;
@@ -116,7 +117,9 @@ pub(crate) fn take_turn<A: Allocator + Copy, S: BlobSink<A>, N: Runner<A>>(
         engine.new children.new.items g.led.built.led.calls
         (taken_in (is_start turn) (step_of turn children.old.items) engine.old engine.new))
         × IfErr result (λ e. IsRefusedBuild A (N.yields entry) (S.tells sink.new) most
-        on.going.led.built.led.calls first engine.new e.step e.refusal) }
+        on.going.led.built.led.calls first engine.new e.step e.refusal)
+        × PutsOf on.more (S.tells sink.old) (S.tells sink.new)
+        × OnOk result (turns_in on.more ≡ 1) }
     // What the store has of what has finished, it has of what finishes in this turn too.
     ensures stored { OnOk result ((entry : N) (before : Telling) (most : ℕ) (first : EngineValue)
         → IsGoing A (N.yields entry) N.may_give (N.starts entry) (N.starts runner.old)
@@ -129,7 +132,6 @@ pub(crate) fn take_turn<A: Allocator + Copy, S: BlobSink<A>, N: Runner<A>>(
     // Where it is refused, fewer children than may run at once are left.
     ensures room { OnErr result ((most : ℕ) → IsTurn most engine.old children.old.items turn
         → length children.old.items ≤ most → length children.new.items < most) }
-    ensures puts { (more : List Call) × PutsOf more (S.tells sink.old) (S.tells sink.new) }
     ensures knows { Remembers remembered.new (S.tells sink.new).blobs }
     ensures stays { StaysRemembered remembered.old remembered.new }
     ensures fewer { OnOk result

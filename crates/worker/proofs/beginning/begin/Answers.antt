@@ -26,6 +26,13 @@ returns-in-Ok-launch-clause-kept g c = kept_trans (kept_some c.start.ensures.cal
 pub returns-in-Ok-launch-clause-begun : goal.returns-in-Ok-launch-clause-begun
 returns-in-Ok-launch-clause-begun g c = begun (g.S.BlobSource.tells c.launch.new.sink) c.in-Ok.ensures.started c.launch.ensures.kept.blobs (kept_some c.start.ensures.called) c.in-Ok-launch.ensures.launched
 
+pub returns-in-Ok-launch-clause-listed : goal.returns-in-Ok-launch-clause-listed
+unfolding begun was_started
+returns-in-Ok-launch-clause-listed g c = (
+  begun (g.S.BlobSource.tells c.launch.new.sink) c.in-Ok.ensures.started c.launch.ensures.kept.blobs (kept_some c.start.ensures.called) c.in-Ok-launch.ensures.launched,
+  c.in-Ok-launch.ensures.listed,
+)
+
 pub returns-clause-kept : goal.returns-clause-kept
 returns-clause-kept g c = kept_trans (kept_some c.start.ensures.called) c.launch.ensures.kept
 

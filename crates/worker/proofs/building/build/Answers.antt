@@ -1,10 +1,13 @@
-use Rattle.worker.proofs.Goes.{own_jobs}
+use Rattle.worker.specs.Calls.{lost}
+use Rattle.worker.proofs.Goes.{own_jobs, puts_none}
+use Rattle.worker.proofs.Heard.{watched_moved}
+use Rattle.worker.proofs.Keeping.{kept_none}
 use Rattle.worker.proofs.Knowing.{knows_nothing}
 use Rattle.worker.proofs.PutOnce.{put_none}
 use Rattle.worker.proofs.Storing.{steps_none, all_stored}
 use Rattle.worker.specs.Counted.{Counts, IsDevice}
 use Rattle.worker.proofs.Taking.{loses_then, no_child}
-use Rattle.std.proofs.Common.{arith, subst, sym}
+use Rattle.std.proofs.Common.{arith, map, subst, sym}
 use Rattle.worker.proofs.building.build.Goals as goal
 
 pub end_all-requires : goal.end_all-requires
@@ -13,14 +16,20 @@ end_all-requires g c = record {
 }
 
 pub returns-in-Ok-clause-led : goal.returns-in-Ok-clause-led
-returns-in-Ok-clause-led g c = (c.in-Ok.ensures.going.0.led, tt)
+returns-in-Ok-clause-led g c = let going = c.in-Ok.ensures.going in (going.0.led, tt, going.2, going.3)
 
 pub returns-clause-led : goal.returns-clause-led
 returns-clause-led g c =
     let going = c.in-Err.ensures.going in
     let rest = c.end_all.ensures.led c.args.runner.now (g.S.BlobSource.tells c.args.sink.now) (g.S.BlobSource.tells c.take_turns.new.sink) c.args.jobs c.args.engine.now going.0 in
     let stop = going.1 in
-    (rest.0, record { at = stop.at; led = stop.led; rest = loses_then stop.rest rest.1; planned = stop.planned; stops = stop.stops })
+    let lost_then = rest.1 in
+    let t = g.S.BlobSource.tells c.take_turns.new.sink in (
+      rest.0,
+      record { at = stop.at; led = stop.led; rest = loses_then stop.rest lost_then; planned = stop.planned; stops = stop.stops },
+      watched_moved g.row.A.Denot (g.N.Runner.yields c.args.runner.now) c.args.jobs c.args.engine.now t t going.0.led.built.led.calls rest.0.built.led.calls (map lost lost_then.ids) lost_then.calls (puts_none t t (map lost lost_then.ids) kept_none) (λ e b at right. at) going.2,
+      tt,
+    )
 
 pub returns-clause-alive : goal.returns-clause-alive
 returns-clause-alive g c = c.end_all.ensures.alive (g.N.Runner.alive c.args.runner.now) c.take_turns.ensures.alive

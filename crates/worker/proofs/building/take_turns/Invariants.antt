@@ -3,7 +3,8 @@ use Rattle.blob_source.specs.Sink.{KeepsRight}
 use Rattle.worker.specs.Storing.{Remembers, StaysRemembered, StoresSteps}
 use Rattle.worker.specs.Outcomes.{YieldsNoMore}
 use Rattle.worker.specs.Going.{IsGoing, turns_left}
-use Rattle.worker.specs.Watching.{IsProgress, IsProgressOf, IsUpToDate, IsWatched}
+use Rattle.worker.specs.Watching.{IsProgressOf}
+use Rattle.worker.proofs.Heard.{IsHeard}
 use Rattle.worker.proofs.building.take_turns.Given as goal
 
 abbrev pub invariant-loop-turn : goal.invariant-loop-turn
@@ -13,7 +14,8 @@ invariant-loop-turn g l =
     let told = g.W.Watcher.told in
     record {
       going : (h : IsGoing g.row.A.Denot (yields l.fn.runner) g.N.Runner.may_give (g.N.Runner.starts l.fn.runner) (g.N.Runner.starts l.runner) (tells l.fn.sink) (tells l.sink) l.jobs l.fn.engine l.engine l.children.items)
-          × IsProgressOf h.led.built.led.calls l.engine l.progress;
+          × IsProgressOf h.led.built.led.calls l.engine l.progress
+          × IsHeard g.row.A.Denot (yields l.fn.runner) l.jobs l.fn.engine (tells l.sink) l.engine h.led.built.led.calls (told l.fn.watcher) (told l.watcher);
       within : YieldsNoMore (yields l.runner) (yields l.fn.runner);
       right : KeepsRight (tells l.fn.sink).blobs (tells l.sink).blobs;
       stored : StoresSteps (tells l.fn.sink) l.fn.engine → StoresSteps (tells l.sink) l.engine;
@@ -22,8 +24,6 @@ invariant-loop-turn g l =
       stays : StaysRemembered l.fn.remembered l.remembered;
       knows : Remembers l.remembered (tells l.sink).blobs;
       alive : g.N.Runner.alive l.runner ≡ g.N.Runner.alive l.fn.runner + length l.children.items;
-      watched : IsWatched (IsProgress g.row.A.Denot (yields l.fn.runner) (tells l.sink) l.jobs l.fn.engine) (told l.fn.watcher) (told l.watcher);
-      up_to_date : IsUpToDate g.row.A.Denot (yields l.fn.runner) (tells l.sink) l.jobs l.fn.engine l.engine (told l.fn.watcher) (told l.watcher);
     }
 
 abbrev pub decreases-loop-turn : goal.decreases-loop-turn

@@ -1,9 +1,10 @@
-use Rattle.std.proofs.Common.{[], subst, sym}
+use Rattle.std.proofs.Common.{◌≡◌, subst, sym}
 use Rattle.std.specs.Prelude.{IfErr, OnOk}
 use Rattle.worker.specs.Going.{FinishesOnly, GoesOnBy, IsTurn, is_start, step_of, taken_in}
-use Rattle.worker.proofs.Goes.{puts_kept}
+use Rattle.worker.specs.Calls.{PutsOf}
+use Rattle.worker.specs.Watching.{turns_in}
 use Rattle.worker.specs.Stopped.{IsRefusedBuild}
-use Rattle.worker.proofs.Taking.{finish_puts, finish_right, start_stored, finish_stored}
+use Rattle.worker.proofs.Taking.{finish_right, start_stored, finish_stored}
 use Rattle.worker.proofs.Stopping.{start_goes, finish_goes, start_room, finish_room, ended_of}
 use Rattle.worker.proofs.Lefts.{start_less, finish_less}
 use Rattle.worker.proofs.Counts.{start_only, finish_only}
@@ -18,17 +19,10 @@ returns-in-Start-clause-going g c entry s most first within turn going =
     let yields = g.N.Runner.yields entry in
     let sink = g.S.BlobSource.tells c.begin.new.sink in
     subst (λ t. (on : GoesOnBy g.row.A.Denot yields g.N.Runner.may_give (g.N.Runner.starts entry) (g.N.Runner.starts c.begin.new.runner) s sink most first new c.begin.new.children.items calls (taken_in (is_start t) (step_of t c.args.children.now.items) old new))
-    × IfErr c.begin.result (λ e. IsRefusedBuild g.row.A.Denot yields sink most on.going.led.built.led.calls first new e.step e.refusal)) (sym c.in-Start.is)
+    × IfErr c.begin.result (λ e. IsRefusedBuild g.row.A.Denot yields sink most on.going.led.built.led.calls first new e.step e.refusal)
+    × PutsOf on.more (g.S.BlobSource.tells c.args.sink.now) sink × OnOk c.begin.result (turns_in on.more ≡ 1)) (sym c.in-Start.is)
     (start_goes g.row.A.Denot g.row.N-Job.Denot yields g.N.Runner.may_give (g.N.Runner.starts entry) (g.N.Runner.starts c.args.runner.now) (g.N.Runner.starts c.begin.new.runner) s (g.S.BlobSource.tells c.args.sink.now) sink most first old new c.args.children.now.items c.begin.new.children.items going
     c.begin.result (g.N.Runner.yields c.args.runner.now) c.in-Start.step within c.begin.ensures.kept c.begin.ensures.unlisted (subst (IsTurn most old c.args.children.now.items) c.in-Start.is turn) c.plan.ensures.valid c.begin.ensures.begun c.begin.ensures.stopped c.begin.ensures.same)
-
-pub returns-in-Start-clause-puts : goal.returns-in-Start-clause-puts
-returns-in-Start-clause-puts g c = ([], puts_kept c.begin.ensures.kept)
-
-pub returns-in-Finish-clause-puts : goal.returns-in-Finish-clause-puts
-returns-in-Finish-clause-puts g c =
-    finish_puts g.N.Runner.may_give (g.S.BlobSource.tells c.args.sink.now) (g.S.BlobSource.tells c.finish_first.new.sink) c.args.engine.now c.finish_first.new.engine c.args.children.now.items c.finish_first.new.children.items
-    c.finish_first.result c.finish_first.ensures.ended (ended_of g.N.Runner.may_give (g.S.BlobSource.tells c.args.sink.now) (g.S.BlobSource.tells c.finish_first.new.sink) c.args.engine.now c.finish_first.new.engine c.args.children.now.items c.finish_first.new.children.items c.finish_first.result c.finish_first.ensures.stopped)
 
 pub returns-in-Start-clause-fewer : goal.returns-in-Start-clause-fewer
 returns-in-Start-clause-fewer g c =
@@ -44,7 +38,8 @@ returns-in-Finish-clause-going g c entry s most first within turn going =
     let yields = g.N.Runner.yields entry in
     let sink = g.S.BlobSource.tells c.finish_first.new.sink in
     subst (λ t. (on : GoesOnBy g.row.A.Denot yields g.N.Runner.may_give (g.N.Runner.starts entry) (g.N.Runner.starts c.finish_first.new.runner) s sink most first new c.finish_first.new.children.items calls (taken_in (is_start t) (step_of t c.args.children.now.items) old new))
-    × IfErr c.finish_first.result (λ e. IsRefusedBuild g.row.A.Denot yields sink most on.going.led.built.led.calls first new e.step e.refusal)) (sym c.in-Finish.is)
+    × IfErr c.finish_first.result (λ e. IsRefusedBuild g.row.A.Denot yields sink most on.going.led.built.led.calls first new e.step e.refusal)
+    × PutsOf on.more (g.S.BlobSource.tells c.args.sink.now) sink × OnOk c.finish_first.result (turns_in on.more ≡ 1)) (sym c.in-Finish.is)
     (finish_goes g.row.A.Denot g.row.N-Job.Denot yields g.N.Runner.may_give (g.N.Runner.starts entry) (g.N.Runner.starts c.args.runner.now) (g.N.Runner.starts c.finish_first.new.runner) s (g.S.BlobSource.tells c.args.sink.now) sink most first old new c.args.children.now.items c.finish_first.new.children.items going
     c.finish_first.result c.plan.ensures.valid c.finish_first.ensures.unlisted c.finish_first.ensures.ended c.finish_first.ensures.stopped)
 
