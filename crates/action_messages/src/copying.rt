@@ -1,4 +1,4 @@
-ghost use Rattle.std.specs.Prelude.{◌≡◌, None, IfOk, IsOk, map};
+ghost use Rattle.std.specs.Prelude.{◌≡◌, [], None, IfOk, IsOk, map};
 ghost use Rattle.std.specs.String.{string_bytes};
 
 use crate::setting::Setting;
@@ -10,7 +10,9 @@ pub(crate) fn copy_texts<A: Allocator + Copy, B: Allocator>(
     alloc: A,
     texts: &[String<B>],
 ) -> Result<Vec<String<A>, A>, AllocError>
-    ensures { IfOk result (λ copies. map string_bytes copies.items ≡ map string_bytes texts.now) }
+    ensures copy { IfOk result
+        (λ copies. map string_bytes copies.items ≡ map string_bytes texts.now) }
+    ensures none { texts.now ≡ [] → IsOk result }
 {
     let mut copies = Vec::new(alloc);
     for text in texts {
@@ -24,7 +26,8 @@ pub(crate) fn copy_settings<A: Allocator + Copy, B: Allocator>(
     alloc: A,
     settings: &[Setting<B>],
 ) -> Result<Vec<Setting<A>, A>, AllocError>
-    ensures { IfOk result (λ copies. copies.items ≡ settings.now) }
+    ensures copy { IfOk result (λ copies. copies.items ≡ settings.now) }
+    ensures none { settings.now ≡ [] → IsOk result }
 {
     let mut copies = Vec::new(alloc);
     for setting in settings {
@@ -38,7 +41,8 @@ pub(crate) fn copy_paths<A: Allocator + Copy, B: Allocator>(
     alloc: A,
     paths: &[Path<B>],
 ) -> Result<Vec<Path<A>, A>, AllocError>
-    ensures { IfOk result (λ copies. copies.items ≡ paths.now) }
+    ensures copy { IfOk result (λ copies. copies.items ≡ paths.now) }
+    ensures none { paths.now ≡ [] → IsOk result }
 {
     let mut copies = Vec::new(alloc);
     for path in paths {

@@ -1,4 +1,4 @@
-ghost use Rattle.std.specs.Prelude.{◌≡◌, ◌≤◌, ◌++◌, OnOk, map};
+ghost use Rattle.std.specs.Prelude.{◌≡◌, ◌≤◌, ◌++◌, [], IsOk, OnOk, map};
 ghost use Rattle.std.specs.String.{string_bytes};
 ghost use Rattle.wire.specs.Spelling.{spelling};
 ghost use Rattle.wire.specs.Steps.{Gives};
@@ -40,8 +40,9 @@ fn strings_of<A: Allocator + Copy>(
     alloc: A,
     elements: &[&[u8]],
 ) -> Result<Vec<String<A>, A>, MessageError>
-    ensures { GivesUnlessMemory (λ v. map string_bytes v.items) result
+    ensures exact { GivesUnlessMemory (λ v. map string_bytes v.items) result
         (each string_of (slices elements.now)) }
+    ensures none { slices elements.now ≡ [] → IsOk result }
 {
     let mut strings = Vec::new(alloc);
     for bytes in elements {
@@ -56,8 +57,9 @@ pub(crate) fn read_strings<A: Allocator + Copy>(
     fields: &[Field<'_>],
     number: u32,
 ) -> Result<Vec<String<A>, A>, MessageError>
-    ensures { GivesUnlessMemory (λ v. map string_bytes v.items) result
+    ensures exact { GivesUnlessMemory (λ v. map string_bytes v.items) result
         (each string_of (elements_at number (records_of fields.now))) }
+    ensures none { elements_at number (records_of fields.now) ≡ [] → IsOk result }
 {
     strings_of(alloc, &read_elements(alloc, fields, number)?)
 }
@@ -66,7 +68,8 @@ fn paths_of<A: Allocator + Copy>(
     alloc: A,
     elements: &[&[u8]],
 ) -> Result<Vec<Path<A>, A>, MessageError>
-    ensures { GivesUnlessMemory (λ v. v.items) result (each path_of (slices elements.now)) }
+    ensures exact { GivesUnlessMemory (λ v. v.items) result (each path_of (slices elements.now)) }
+    ensures none { slices elements.now ≡ [] → IsOk result }
 {
     let mut paths = Vec::new(alloc);
     for bytes in elements {
@@ -81,8 +84,9 @@ pub(crate) fn read_paths<A: Allocator + Copy>(
     fields: &[Field<'_>],
     number: u32,
 ) -> Result<Vec<Path<A>, A>, MessageError>
-    ensures { GivesUnlessMemory (λ v. v.items) result
+    ensures exact { GivesUnlessMemory (λ v. v.items) result
         (each path_of (elements_at number (records_of fields.now))) }
+    ensures none { elements_at number (records_of fields.now) ≡ [] → IsOk result }
 {
     paths_of(alloc, &read_elements(alloc, fields, number)?)
 }

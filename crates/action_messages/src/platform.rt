@@ -1,4 +1,4 @@
-ghost use Rattle.std.specs.Prelude.{◌≡◌, ◌↔◌, ◌++◌, None, IfOk, IsOk, OnOk, Ok, option_map};
+ghost use Rattle.std.specs.Prelude.{◌≡◌, ◌↔◌, ◌++◌, [], None, IfOk, IsOk, OnOk, Ok, option_map};
 ghost use Rattle.std.specs.List.{AllByRecursion};
 ghost use Rattle.wire.specs.Spelling.{spelling};
 ghost use Rattle.wire.specs.Steps.{Gives};
@@ -145,9 +145,10 @@ pub(crate) fn write_platform<A: Allocator + Copy>(
     out: &mut Vec<u8, A>,
     platform: &Platform<A>,
 ) -> Result<(), AllocError>
-    ensures { OnOk result
+    ensures appended { OnOk result
         (out.new.items
         ≡ out.old.items ++ spelling (message_field 10 (platform_entry platform.now))) }
+    ensures none { platform.now.properties ≡ [] → IsOk result }
 {
     if platform.properties().is_empty() {
         return Ok(());

@@ -1,4 +1,4 @@
-ghost use Rattle.std.specs.Prelude.{◌≡◌, ◌≤◌, ◌<◌, ◌+◌, ◌++◌, OnOk, option_map};
+ghost use Rattle.std.specs.Prelude.{◌≡◌, ◌≤◌, ◌<◌, ◌+◌, ◌++◌, None, IsOk, OnOk, option_map};
 ghost use Rattle.wire.specs.Spelling.{spelling};
 ghost use Rattle.canonical.specs.Fields.{bytes_field, message_field};
 ghost use Rattle.messages.specs.DigestMessage.{digest_bytes};
@@ -70,9 +70,10 @@ fn write_digest<A: Allocator + Copy>(
 ) -> Result<(), AllocError>
     requires at_least { 1 ≤ number }
     requires at_most { number ≤ 536870911 }
-    ensures { OnOk result
+    ensures appended { OnOk result
         (out.new.items
         ≡ out.old.items ++ spelling (message_field number (option_map digest_bytes digest))) }
+    ensures absent { digest ≡ None → IsOk result }
 {
     match digest {
         Some(digest) => write_message(out, number, Some(&digest.write(alloc)?)),
