@@ -1,5 +1,5 @@
 ghost use Rattle.std.specs.Prelude.{◌≡◌, ◌↔◌, ◌<◌, ◌≤◌, [], length, take, drop, IfErr, IfOk, IfSome};
-ghost use Rattle.std.specs.Prelude.{IsTrue, None, OnErr};
+ghost use Rattle.std.specs.Prelude.{IsTrue, None, OnErr, false};
 ghost use Rattle.cache_server.specs.Server.{IsOpenAt, session_at};
 ghost use Rattle.service.specs.Member.{EndsWell, MovesOn, Passes, PassesSent};
 ghost use Rattle.service.specs.Member.{end_of, new_member, unsent_of};
@@ -229,8 +229,9 @@ impl<S: Peer + Drop> Member<S> {
         leave: Leave,
         now: u64,
     ) -> Turn
-        ensures { MovesOn (end_of result) S.spoke S.over number
+        ensures moves { MovesOn (end_of result) S.spoke S.over number
             server.old self.old server.new self.new }
+        ensures bound { leave.answers ≡ false → server.new ≡ server.old }
     {
         if self.answer.is_some() {
             return self.send(desk, now);

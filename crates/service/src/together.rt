@@ -1,4 +1,4 @@
-ghost use Rattle.std.specs.Prelude.{◌≡◌, ◌≤◌, ℕ, [], None, IfErr, IfOk, OnOk, false, true};
+ghost use Rattle.std.specs.Prelude.{◌≡◌, ◌≤◌, ℕ, [], None, IfErr, IfOk, IsTrue, OnOk, false, true};
 ghost use Rattle.std.specs.IoError.{error_kind};
 ghost use Rattle.std.specs.declared.io.ErrorKind.TheVariants.{OutOfMemory};
 ghost use Rattle.service.specs.Talks.{ServesConnections, Stops};
@@ -135,6 +135,7 @@ impl<S: Peer + Drop> Together<S> {
         terminal: Option<Stderr>,
     ) -> io::Result<Together<S>>
         ensures ok { IfOk result (λ together. together.members.entries ≡ []) }
+        ensures waits { IfOk result (λ together. IsTrue together.waits) }
         ensures err { IfErr result (λ e. error_kind e ≡ OutOfMemory) }
     {
         let alloc = rt.alloc();

@@ -13,8 +13,8 @@ none_unsent (Some a) sent e = cc
 not_both : (b : Bool) → b ≡ false → b ≡ true → ⊥
 not_both b e f = let g : false ≡ true = sym e ∙ f in cc
 
-pub returns-then-not-is_open : goal.returns-then-not-is_open
-returns-then-not-is_open g c =
+pub returns-then-not-is_open-clause-moves : goal.returns-then-not-is_open-clause-moves
+returns-then-not-is_open-clause-moves g c =
     let unsent : c.args.self.now.unsent ≡ [] =
     sym (ap (λ (z : MemberValue g.row.S.Denot). z.unsent) c.self.view_is)
     ∙ none_unsent c.self.inside.answer c.self.inside.sent (sym c.is_some.ensures ∙ c.if-is_some.false) in
