@@ -94,8 +94,8 @@ FailsCheckout has refuses B d folder e = FailsTree B d e
     × (FailsPlace refuses folder e ⊎ FailsEntries
     (λ written. has (record { path = folder; written = written })) refuses B folder entries e))
 
--- Nothing is tried after a refusal: there was no call; or one, for the folder; or then each call
--- wrote one thing, but for the last.
+-- Nothing is tried after a refusal: there was no call; or one, for the folder; or after that each
+-- call wrote one thing, but for one more at most, the last.
 abbrev pub StopsAtRefusal : (FolderValue → Type 0) → (List (List ℕ) → Type 0) → List ℕ → Type 0
 StopsAtRefusal has tries folder = tries [] ⊎ (tries (folder ∷ [])
     ⊎ WritesTillLast (λ written. has (record { path = folder; written = written }))
