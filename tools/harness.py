@@ -90,8 +90,9 @@ def try_rows(help_text, try_all):
 
 
 def run(program, *words, seconds=60, env=None):
-    """What the program prints, as bytes, and its status, which is None where it hasn't ended by then."""
-    how = {"stdin": subprocess.DEVNULL, "capture_output": True, "check": False, "env": env}
+    """What the program prints, as bytes, and its status, which is None where it hasn't ended by then. What stands at its input is
+    for no step."""
+    how = {"input": b"for no step\n", "capture_output": True, "check": False, "env": env}
     try:
         return subprocess.run([program, *words], timeout=seconds, **how)
     except subprocess.TimeoutExpired as late:

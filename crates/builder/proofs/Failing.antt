@@ -14,8 +14,11 @@ use Rattle.worker.specs.declared.laid.LayoutError.TheVariants as layouts
 use Rattle.worker.specs.declared.runner.RunError.TheVariants as children
 use Rattle.worker.proofs.Failures.{counts_as, counts_no}
 use Rattle.builder.specs.Faults.{of_opening, of_refusal, fault_of, IsStoreFailure, IsRunnerFailure}
+use Rattle.builder.specs.Built.{EndsInOrder, Seen}
 use Rattle.builder.specs.declared.error.BuildPlanError.{BuildPlanError}
+use Rattle.builder.specs.declared.error.BuildPlanError.TheVariants as errors
 use Rattle.builder.specs.declared.fault.Fault.{Fault}
+use Rattle.builder.specs.declared.fault.Fault.TheVariants.{Memory, Refused}
 use Rattle.builder.specs.declared.fault.Place.{Place}
 
 module _ {A : Type 0} (place : Place) where
@@ -96,13 +99,33 @@ exit_device Is x r exit by f =
     let p = err_from_is_err_and r exit in
     by (subst Is p.2 (subst (λ q. IsErrAnd q Is) p.1 f))
 
--- what a count says of a build's answer, of its fault
-module _ {A T : Type 0} {a b : ℕ} {r : Result T (BuildPlanError A)} where
-  pub as_told : (P : BuildPlanError A → Type 0) {e : BuildPlanError A} → r ≡ Err e → Counts a b (IsErrAnd r P) → Counts a b (P e)
-  as_told P {e} is k = subst (λ q. Counts a b (IsErrAnd q P)) is k
+-- ---- that a build ends in order, of another answer
 
-  pub unfailed_as : {e : BuildPlanError A} {x : Fault} → r ≡ Err e → fault_of e ≡ x → (IsRunnerFailure x → ⊥) → Counts a b (IsErrAnd r (λ y. IsRunnerFailure (fault_of y))) → b ≡ a
-  unfailed_as is fault other k = (subst (λ x. Counts a b (IsRunnerFailure x)) fault (as_told (λ y. IsRunnerFailure (fault_of y)) is k)).unfailed other
+-- it tells of no failure, of the store or of the runner
+module _ {A T : Type 0} where
+  abbrev pub IsQuiet : Result T (BuildPlanError A) → Type 1
+  IsQuiet r = (F : Fault → Type 0) → (F Memory → ⊥) → ((place : Place) (number : ℕ) → F (Refused place number) → ⊥) → IsErrAnd r (λ e. F (fault_of e)) → ⊥
 
-  pub none_failed : {v : T} → r ≡ Ok v → Counts a b (IsErrAnd r (λ y. IsRunnerFailure (fault_of y))) → b ≡ a
-  none_failed is k = (subst (λ q. Counts a b (IsErrAnd q (λ y. IsRunnerFailure (fault_of y)))) is k).unfailed (λ f. f)
+  pub quiet_ok : (r : Result T (BuildPlanError A)) (v : T) → r ≡ Ok v → IsQuiet r
+  quiet_ok r v is F memory refused f = subst (λ q. IsErrAnd q (λ e. F (fault_of e))) is f
+
+  pub quiet_memory : (r : Result T (BuildPlanError A)) → IsErrAnd r (λ x. x ≡ errors.Root runs.Memory) → IsQuiet r
+  quiet_memory r exit F memory refused f = exit_device (λ e. F (fault_of e)) (errors.Root runs.Memory) r exit memory f
+
+  pub quiet_refused : (r : Result T (BuildPlanError A)) (e : BuildPlanError A) (place : Place) (number : ℕ) → r ≡ Err e → fault_of e ≡ Refused place number → IsQuiet r
+  quiet_refused r e place number is fault F memory refused f = refused place number (subst F fault (subst (λ q. IsErrAnd q (λ e. F (fault_of e))) is f))
+
+module _ {A T U : Type 0} {most : ℕ} {old new : Seen} where
+  pub order_quiet : {r : Result T (BuildPlanError A)} (s : Result U (BuildPlanError A)) → EndsInOrder most old new r → IsQuiet r → IsQuiet s → EndsInOrder most old new s
+  order_quiet {r} s h was is =
+      let store = was IsStoreFailure (λ f. f) (λ place number f. f) in
+      let store' = is IsStoreFailure (λ f. f) (λ place number f. f) in
+      let runner = was IsRunnerFailure (λ f. f) (λ place number f. f) in
+      let runner' = is IsRunnerFailure (λ f. f) (λ place number f. f) in
+      record {
+        alive = h.alive;
+        right = h.right;
+        fetched = counts_no store store' h.fetched;
+        device = λ f. absurd (runner' f);
+        alone = λ one. counts_no runner runner' (h.alone one);
+      }

@@ -27,7 +27,7 @@ use Rattle.builder.specs.declared.telling.Told.{Told}
 use Rattle.builder.proofs.Serving.{none_finished}
 
 abbrev pub ran_by : (A : Type 0) (y : Yields) (most : ℕ) (plan : PlanValue) (sources : DigestValue) (old new : Seen) (opening ending : Telling) (first last : EngineValue) → AsksSome old.store opening → IsOpened opening.blobs plan sources first
-    → IsBuiltWith A y old.started new.started opening ending most first last → IsWatched (IsProgress A y ending most first) old.heard new.heard → AsksSome ending new.store → Ran A y most plan sources old new first last
+    → (led : IsBuiltWith A y old.started new.started opening ending most first last) → IsWatched (IsProgress A y ending most first led.built.led.calls) old.heard new.heard → AsksSome ending new.store → Ran A y most plan sources old new first last
 ran_by A y most plan sources old new opening ending first last asked opened led watched later =
     let same = led_same A y ending most led.built.led in
     record {

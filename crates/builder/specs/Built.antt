@@ -1,7 +1,9 @@
 -- What a build came to.
-use Rattle.std.specs.Prelude.{◌≡◌, ℕ, List, length, Option, Some, None, Result, Ok, Err}
+use Rattle.std.specs.Prelude.{◌≡◌, ◌<◌, ℕ, List, length, Option, Some, None, Result, Ok, Err}
+use Rattle.std.specs.Result.{IsErrAnd}
 use Rattle.std.specs.List.{AllByRecursion}
 use Rattle.blob_digest.specs.Digest.{DigestValue, NoClash}
+use Rattle.blob_source.specs.Sink.{KeepsRight}
 use Rattle.blob_source.specs.Source.{AsksSome, Blobs, Telling}
 use Rattle.plan.specs.Record.{RecordValue}
 use Rattle.plan.specs.Values.{PlanValue}
@@ -18,7 +20,8 @@ use Rattle.tree.specs.Tree.{Tree, Leaf}
 use Rattle.verifier.specs.Build.{Meaning, ActionMeaning, Outcome, Event, State}
 use Rattle.verifier.specs.Verdict.{IsVerdict}
 use Rattle.verifier.specs.declared.verdict.Verdict.TheVariants.{Yes}
-use Rattle.worker.specs.Calls.{IsBuiltWith}
+use Rattle.worker.specs.Calls.{Call, IsBuiltWith}
+use Rattle.worker.specs.Counted.{Counts}
 use Rattle.worker.specs.Outcomes.{Yields}
 use Rattle.worker.specs.Steps.{IsActionOf}
 use Rattle.worker.specs.Stopped.{IsRefusedBuild}
@@ -26,6 +29,7 @@ use Rattle.worker.specs.Stored.{IsToldOrTree, IsStored}
 use Rattle.worker.specs.Values.{Starts, StartsNone}
 use Rattle.worker.specs.Watching.{IsProgress, IsUpToDate, IsWatched}
 use Rattle.worker.specs.declared.watching.Progress.{Progress}
+use Rattle.builder.specs.Faults.{IsRunnerFailure, IsStoreFailure, fault_of}
 use Rattle.builder.specs.declared.error.BuildPlanError.{BuildPlanError}
 use Rattle.builder.specs.declared.error.BuildPlanError.TheVariants.{Opening, Step, Root}
 
@@ -63,21 +67,28 @@ pub record IsAnsweredYes (A : Type 0) (told : Telling) (last : EngineValue)
       → IsVerdict {A = A} told last.sources last.plan b.noted.digests b.root
       (Yes b.root (length last.plan.steps))
 
--- All that contracts see of a build's store, runner and watcher: what the store tells, which
--- children the runner may have started, how often it failed, and what the watcher was told.
+-- All that contracts see of a build's store, runner and watcher: what the store tells; which
+-- children the runner may have started, how many weren't waited for, and how often it failed; and
+-- what the watcher was told.
 pub record Seen : Type 1 where
   pub store : Telling
   pub started : Starts
+  pub alive : ℕ
   pub failed : ℕ
   pub heard : Option (List Progress)
 
-abbrev pub seen : Telling → Starts → ℕ → Option (List Progress) → Seen
-seen store started failed heard =
-    record { store = store; started = started; failed = failed; heard = heard }
+abbrev pub seen : Telling → Starts → ℕ → ℕ → Option (List Progress) → Seen
+seen store started alive failed heard = record {
+  store = store;
+  started = started;
+  alive = alive;
+  failed = failed;
+  heard = heard;
+}
 
 -- a store that tells this, where nothing is said of the runner and of the watcher
 abbrev pub store_alone : Telling → Seen
-store_alone told = seen told (λ children. Unit {0}) 0 None
+store_alone told = seen told (λ children. Unit {0}) 0 0 None
 
 module _ (A : Type 0) (yields : Yields) (most : ℕ) (plan : PlanValue) (sources : DigestValue)
     (old new : Seen) where
@@ -95,17 +106,18 @@ module _ (A : Type 0) (yields : Yields) (most : ℕ) (plan : PlanValue) (sources
     pub of_sources : last.sources ≡ sources
     -- each result was put under the action of a step of the plan
     pub own : AllByRecursion (λ d. (i : ℕ) × IsActionOf A ending.blobs last i d) led.built.puts.put
-    pub watched : IsWatched (IsProgress A yields ending most first) old.heard new.heard
+    pub watched : IsWatched (IsProgress A yields ending most first led.built.led.calls)
+        old.heard new.heard
     pub later : AsksSome ending new.store
 
   -- A build came to its root: each step has finished, and the store has what it came to. The root
   -- and the record are answered yes by what the store told, and the watcher was told of the end.
-  pub record ReachesRoot (first last : EngineValue) (ending : Telling) (b : BuiltValue)
-      : Type 0 where
+  pub record ReachesRoot (first last : EngineValue) (calls : List Call) (ending : Telling)
+      (b : BuiltValue) : Type 0 where
     pub end : IsEnd A last new.store b
     pub stored : IsStored new.store last
     pub answered : IsAnsweredYes A new.store last b
-    pub heard : IsUpToDate A yields ending most first last old.heard new.heard
+    pub heard : IsUpToDate A yields ending most first last calls old.heard new.heard
     pub unfailed : new.failed ≡ old.failed
 
   -- each step has finished, and the root is refused
@@ -125,7 +137,7 @@ module _ (A : Type 0) (yields : Yields) (most : ℕ) (plan : PlanValue) (sources
   -- what a build came to: its root, or the refusal of a step, met by its own calls, or of the root
   abbrev pub EndsWith : (first last : EngineValue) → Ran first last
       → Result BuiltValue (BuildPlanError A) → Type 0
-  EndsWith first last ran (Ok b) = ReachesRoot first last ran.ending b
+  EndsWith first last ran (Ok b) = ReachesRoot first last ran.led.built.led.calls ran.ending b
   EndsWith first last ran (Err (Opening error)) = ⊥
   EndsWith first last ran (Err (Step error)) = IsRefusedBuild A yields new.store most
       ran.led.built.led.calls first last error.step error.refusal
@@ -136,3 +148,16 @@ module _ (A : Type 0) (yields : Yields) (most : ℕ) (plan : PlanValue) (sources
   Builds (Err (Opening error)) = RefusesPlan error
   Builds came = (first : EngineValue) × (last : EngineValue) × (ran : Ran first last)
       × EndsWith first last ran came
+
+-- What is so whatever is answered. Each child that was started was waited for, and what the store
+-- had under its own digest stays told. The store failed exactly where that is told, and the runner
+-- at least there, and there alone where one job runs at once.
+pub record EndsInOrder {T A : Type 0} (most : ℕ) (old new : Seen)
+    (result : Result T (BuildPlanError A)) : Type 0 where
+  pub alive : new.alive ≡ old.alive
+  pub right : KeepsRight old.store.blobs new.store.blobs
+  pub fetched : Counts old.store.failures new.store.failures
+      (IsErrAnd result (λ e. IsStoreFailure (fault_of e)))
+  pub device : IsErrAnd result (λ e. IsRunnerFailure (fault_of e)) → old.failed < new.failed
+  pub alone : most ≡ 1
+      → Counts old.failed new.failed (IsErrAnd result (λ e. IsRunnerFailure (fault_of e)))

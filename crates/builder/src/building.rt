@@ -1,11 +1,7 @@
 ghost use Rattle.std.specs.Prelude.{◌≡◌, ◌<◌, IfErr, IfOk, IsErrOf};
-ghost use Rattle.std.specs.Result.{IsErrAnd};
 ghost use Rattle.blob_source.specs.Called.{Called};
-ghost use Rattle.blob_source.specs.Sink.{KeepsRight};
-ghost use Rattle.builder.specs.Built.{Builds, IsEnd, seen};
-ghost use Rattle.builder.specs.Faults.{IsRunnerFailure, IsStoreFailure, fault_of};
+ghost use Rattle.builder.specs.Built.{Builds, EndsInOrder, IsEnd, seen};
 ghost use Rattle.runs.specs.Calls.{HaveAllFinished, IsRootFault};
-ghost use Rattle.worker.specs.Counted.{Counts};
 
 use crate::error::BuildPlanError;
 use blob_digest::Digest;
@@ -65,8 +61,7 @@ fn end<A: Allocator + Copy, S: BlobSink<A>>(
 }
 
 /// Builds a plan over the sources with this digest, with as many children at once as `jobs` says.
-/// Whatever it answers, each child that was started was waited for, and what the store had under
-/// its own digest stays told. The watcher is told how far the build is.
+/// The watcher is told how far the build is.
 pub fn build_plan<A: Allocator + Copy, S: BlobSink<A>, N: Runner<A>, W: Watcher>(
     alloc: A,
     sources: Digest,
@@ -81,20 +76,15 @@ pub fn build_plan<A: Allocator + Copy, S: BlobSink<A>, N: Runner<A>, W: Watcher>
     // the results and the numbers that the watcher was told are those of its calls. It came to its
     // root, which is answered yes; or the plan, a step or the root is refused, as the error says.
     ensures build { Builds A (N.yields runner.old) jobs plan.now sources
-        (seen (S.tells sink.old) (N.starts runner.old) (N.failures runner.old)
-        (W.told watcher.old))
-        (seen (S.tells sink.new) (N.starts runner.new) (N.failures runner.new)
-        (W.told watcher.new)) result }
-    // Each child that was started was waited for.
-    ensures alive { N.alive runner.new ≡ N.alive runner.old }
-    ensures right { KeepsRight (S.tells sink.old).blobs (S.tells sink.new).blobs }
-    // The store failed exactly where that is told, and the runner at least there.
-    ensures fetched { Counts (S.tells sink.old).failures (S.tells sink.new).failures
-        (IsErrAnd result (λ e. IsStoreFailure (fault_of e))) }
-    ensures device { IsErrAnd result (λ e. IsRunnerFailure (fault_of e))
-        → N.failures runner.old < N.failures runner.new }
-    ensures alone { jobs ≡ 1 → Counts (N.failures runner.old) (N.failures runner.new)
-        (IsErrAnd result (λ e. IsRunnerFailure (fault_of e))) }
+        (seen (S.tells sink.old) (N.starts runner.old) (N.alive runner.old)
+        (N.failures runner.old) (W.told watcher.old))
+        (seen (S.tells sink.new) (N.starts runner.new) (N.alive runner.new)
+        (N.failures runner.new) (W.told watcher.new)) result }
+    ensures order { EndsInOrder jobs
+        (seen (S.tells sink.old) (N.starts runner.old) (N.alive runner.old)
+        (N.failures runner.old) (W.told watcher.old))
+        (seen (S.tells sink.new) (N.starts runner.new) (N.alive runner.new)
+        (N.failures runner.new) (W.told watcher.new)) result }
 {
     let mut engine = Engine::new(alloc, plan, sources, sink)?;
     build(alloc, &mut engine, sink, runner, watcher, jobs)?;

@@ -14,5 +14,5 @@ pub use building::{Built, build_plan};
 pub use error::BuildPlanError;
 pub use fault::{Fault, Place, fault_of};
 pub use laws::{a_build_is_a_run, two_steps_meet_the_premises};
-pub use line::{built_line, failed_line, place_text};
+pub use line::place_text;
 pub use telling::{Told, tell_build};

@@ -7,7 +7,7 @@ use plan::Plan;
 use std::alloc::{AllocError, Allocator};
 
 /// The line of a build that came to its root: `built`, the root and the number of steps.
-pub fn built_line<A: Allocator + Copy, B: Allocator + Copy>(
+pub(crate) fn built_line<A: Allocator + Copy, B: Allocator + Copy>(
     alloc: A,
     root: &Digest,
     plan: &Plan<B>,
@@ -43,7 +43,7 @@ pub fn place_text<A: Allocator + Copy, B: Allocator + Copy>(
 }
 
 /// The line of a build that was refused: `failed`, the place and the refusal's number.
-pub fn failed_line<A: Allocator + Copy, B: Allocator + Copy>(
+pub(crate) fn failed_line<A: Allocator + Copy, B: Allocator + Copy>(
     alloc: A,
     plan: &Plan<B>,
     place: Place,

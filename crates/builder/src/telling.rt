@@ -1,10 +1,6 @@
 ghost use Rattle.std.specs.Prelude.{◌≡◌, ◌<◌, IfOk, Ok};
-ghost use Rattle.std.specs.Result.{IsErrAnd};
-ghost use Rattle.blob_source.specs.Sink.{KeepsRight};
-ghost use Rattle.builder.specs.Built.{seen};
-ghost use Rattle.builder.specs.Faults.{IsRunnerFailure, IsStoreFailure, fault_of};
+ghost use Rattle.builder.specs.Built.{EndsInOrder, seen};
 ghost use Rattle.builder.specs.Telling.{IsBuildTold, Tells};
-ghost use Rattle.worker.specs.Counted.{Counts};
 
 use crate::building::{Built, build_plan};
 use crate::error::BuildPlanError;
@@ -74,21 +70,15 @@ pub fn tell_build<A: Allocator + Copy, S: BlobSink<A>, N: Runner<A>, W: Watcher>
     // a build that came to its root; or line and words tell the refusal; or the error, which has no
     // number, is the build's own.
     ensures told { IsBuildTold (N.yields runner.old) jobs plan.now sources.now
-        (seen (S.tells sink.old) (N.starts runner.old) (N.failures runner.old)
-        (W.told watcher.old))
-        (seen (S.tells sink.new) (N.starts runner.new) (N.failures runner.new)
-        (W.told watcher.new)) result }
-    // Each child that was started was waited for.
-    ensures alive { N.alive runner.new ≡ N.alive runner.old }
-    ensures right { KeepsRight (S.tells sink.old).blobs (S.tells sink.new).blobs }
-    // The store failed exactly where that is told, and the runner at least there, and there alone
-    // where one job runs at once.
-    ensures fetched { Counts (S.tells sink.old).failures (S.tells sink.new).failures
-        (IsErrAnd result (λ e. IsStoreFailure (fault_of e))) }
-    ensures device { IsErrAnd result (λ e. IsRunnerFailure (fault_of e))
-        → N.failures runner.old < N.failures runner.new }
-    ensures alone { jobs ≡ 1 → Counts (N.failures runner.old) (N.failures runner.new)
-        (IsErrAnd result (λ e. IsRunnerFailure (fault_of e))) }
+        (seen (S.tells sink.old) (N.starts runner.old) (N.alive runner.old)
+        (N.failures runner.old) (W.told watcher.old))
+        (seen (S.tells sink.new) (N.starts runner.new) (N.alive runner.new)
+        (N.failures runner.new) (W.told watcher.new)) result }
+    ensures order { EndsInOrder jobs
+        (seen (S.tells sink.old) (N.starts runner.old) (N.alive runner.old)
+        (N.failures runner.old) (W.told watcher.old))
+        (seen (S.tells sink.new) (N.starts runner.new) (N.alive runner.new)
+        (N.failures runner.new) (W.told watcher.new)) result }
 {
     let error = match build_plan(alloc, *sources, plan, sink, runner, watcher, jobs) {
         Ok(built) => return Ok(tell_root(alloc, plan, built)?),

@@ -115,16 +115,16 @@ may_yield works work l c (failed program (Unstarted error)) =
     IsAbsolute c × (program ≡ program_of c) × works.unstarted error
 may_yield works work l c e = IsJobRun works work l c e
 
--- the child of a job, and the folder that it started in
-abbrev pub child_of : {C A : Type 0} → ProcessJob C A → C
-child_of job = job.started.child
+-- the process of a job, and the folder that it started in
+abbrev pub process_in : {C A : Type 0} → ProcessJob C A → C
+process_in job = job.started.child
 
 abbrev pub start_in : {C A : Type 0} → ProcessJob C A → List ℕ
 start_in job = string_bytes job.started.start
 
 -- what may come of a job
 abbrev pub may_come : {R C E A : Type 0} → Works R C E → ProcessJob C A → EndValue → Type 0
-may_come works job = CameOf works (child_of job) (string_bytes job.program) (start_in job)
+may_come works job = CameOf works (process_in job) (string_bytes job.program) (start_in job)
     job.started.outputs.items
 
 -- what was told as a child was waited for

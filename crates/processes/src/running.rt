@@ -9,7 +9,7 @@ ghost use Rattle.worker.specs.declared.failure.Cause.TheVariants.{Signal};
 ghost use Rattle.messages.specs.Path.{begins_with_slash};
 ghost use Rattle.processes.specs.Laying.{IsUnstarted, folder_of};
 ghost use Rattle.processes.specs.Running.{CameOf, HaveStarted, IsEnded, IsJobLaunched, TellsCame};
-ghost use Rattle.processes.specs.Running.{alive_of, child_of, failures_of, may_come, may_yield};
+ghost use Rattle.processes.specs.Running.{alive_of, process_in, failures_of, may_come, may_yield};
 ghost use Rattle.processes.specs.Running.{next_of, start_in, work_of};
 
 use crate::collecting::collect;
@@ -241,7 +241,7 @@ impl<W: Workshop + Drop, A: Allocator + Copy> Runner<A> for ProcessRunner<W, A> 
         // The job's folder has the next number, which is used also where the process fails.
         ensures numbered { IfOk result (λ job. IsJobLaunched W.works
             (folder_of (work_of self.old) (next_of self.old))
-            layout.now command.now (child_of job) (start_in job)) }
+            layout.now command.now (process_in job) (start_in job)) }
         ensures used { OnOk result (next_of self.new ≡ next_of self.old + 1) }
         ensures passed { IsErrAnd result IsFailure → next_of self.old < greatest_count
             → next_of self.new ≡ next_of self.old + 1 }

@@ -13,23 +13,6 @@ use Rattle.builder.specs.declared.fault.Place.TheVariants.{Step, Root}
 use Rattle.builder.proofs.Failing.{counts_device, counts_opening, counts_refusal, device_refusal, opening_no_device, exit_device}
 use Rattle.builder.proofs.building.build_plan.Goals as goal
 
-pub returns-in_err-engine-clause-right : goal.returns-in_err-engine-clause-right
-returns-in_err-engine-clause-right g c = right_grows c.new.ensures.called.asked.blobs
-
-pub returns-in_err-build-clause-right : goal.returns-in_err-build-clause-right
-returns-in_err-build-clause-right g c =
-    right_then (right_grows c.new.ensures.called.asked.blobs) c.build.ensures.right
-
-pub returns-in_err-built-clause-right : goal.returns-in_err-built-clause-right
-returns-in_err-built-clause-right g c = right_then
-    (right_then (right_grows c.new.ensures.called.asked.blobs) c.build.ensures.right)
-    (right_grows c.end.ensures.called.asked.blobs)
-
-pub returns-clause-right : goal.returns-clause-right
-returns-clause-right g c = right_then
-    (right_then (right_grows c.new.ensures.called.asked.blobs) c.build.ensures.right)
-    (right_grows c.end.ensures.called.asked.blobs)
-
 pub returns-in_err-engine-clause-build : goal.returns-in_err-engine-clause-build
 returns-in_err-engine-clause-build g c =
     let p = err_from_is_err_and c.from_residual.result c.from_residual.ensures.1 in
@@ -48,7 +31,7 @@ returns-in_err-build-clause-build g c =
     rw (p.1, p.2) (
       c.in_ok-engine.engine,
       c.build.new.engine,
-      ran_by _ _ _ _ _ _ _ _ _ _ _ c.new.ensures.called.asked c.in_ok-engine.ensures.opened c.in_err-build.ensures.led.0 c.build.ensures.watched (some_none ending),
+      ran_by _ _ _ _ _ _ _ _ _ _ _ c.new.ensures.called.asked c.in_ok-engine.ensures.opened c.in_err-build.ensures.led.0 c.in_err-build.ensures.led.2 (some_none ending),
       c.in_err-build.ensures.led.1,
     )
 
@@ -58,7 +41,7 @@ returns-in_err-built-clause-build g c =
     rw (p.1, p.2) (
       c.in_ok-engine.engine,
       c.build.new.engine,
-      ran_by _ _ _ _ _ _ _ _ _ _ _ c.new.ensures.called.asked c.in_ok-engine.ensures.opened c.in_ok-build.ensures.led.0 c.build.ensures.watched c.end.ensures.called.asked,
+      ran_by _ _ _ _ _ _ _ _ _ _ _ c.new.ensures.called.asked c.in_ok-engine.ensures.opened c.in_ok-build.ensures.led.0 c.in_ok-build.ensures.led.2 c.end.ensures.called.asked,
       record { complete = c.in_ok-build.ensures.done; stands = c.in_err-built.ensures.refused; unfailed = c.in_ok-build.ensures.unfailed },
     )
 
@@ -72,54 +55,55 @@ returns-clause-build g c =
     let stored : IsStored told c.build.new.engine = stored_grown asks.blobs asks.results (c.in_ok-build.ensures.stored (none_finished c.in_ok-engine.engine opened.none_finished)) in (
       c.in_ok-engine.engine,
       c.build.new.engine,
-      ran_by _ _ _ _ _ _ _ _ _ _ _ c.new.ensures.called.asked opened c.in_ok-build.ensures.led.0 c.build.ensures.watched c.end.ensures.called.asked,
+      ran_by _ _ _ _ _ _ _ _ _ _ _ c.new.ensures.called.asked opened c.in_ok-build.ensures.led.0 c.in_ok-build.ensures.led.2 c.end.ensures.called.asked,
       record {
         end = c.in_ok-built.ensures.ended;
         stored = stored;
         answered = answered g.row.A.Denot (g.N.Runner.yields c.args.runner.now) c.args.jobs c.args.plan.now c.args.sources opening ending told c.in_ok-engine.engine c.build.new.engine c.in_ok-built.built opened c.build.ensures.right c.in_ok-build.ensures.led.0.built.led (right_grows asks.blobs) c.plan.ensures.valid stored c.in_ok-built.ensures.ended;
-        heard = c.in_ok-build.ensures.up_to_date;
+        heard = c.in_ok-build.ensures.led.3;
         unfailed = c.in_ok-build.ensures.unfailed;
       },
     )
 
-pub returns-in_err-engine-clause-fetched : goal.returns-in_err-engine-clause-fetched
-returns-in_err-engine-clause-fetched g c = counts_exit (λ e. IsStoreFailure (fault_of e)) c.from_residual.result c.from_residual.ensures.1 (counts_opening _ (counts_calls c.in_err-engine.ensures.called))
+pub returns-in_err-engine-clause-order : goal.returns-in_err-engine-clause-order
+returns-in_err-engine-clause-order g c = record {
+  alive = refl;
+  right = right_grows c.new.ensures.called.asked.blobs;
+  fetched = counts_exit (λ e. IsStoreFailure (fault_of e)) c.from_residual.result c.from_residual.ensures.1 (counts_opening _ (counts_calls c.in_err-engine.ensures.called));
+  device = exit_device (λ e. IsRunnerFailure (fault_of e)) _ c.from_residual.result c.from_residual.ensures.1 (λ f. absurd (opening_no_device _ f));
+  alone = λ one. counts_exit (λ e. IsRunnerFailure (fault_of e)) c.from_residual.result c.from_residual.ensures.1 (counts_none (opening_no_device _));
+}
 
-pub returns-in_err-build-clause-fetched : goal.returns-in_err-build-clause-fetched
-returns-in_err-build-clause-fetched g c =
-    counts_from (c.in_ok-engine.ensures.called.unfailed (λ e. let is = e.1 in cc)) (counts_exit (λ e. IsStoreFailure (fault_of e)) c.from_residual-in_err-build.result c.from_residual-in_err-build.ensures.1
-    (counts_refusal (Step c.in_err-build.field-0.0.step) c.in_err-build.field-0.0.refusal c.in_err-build.ensures.fetched))
+pub returns-in_err-build-clause-order : goal.returns-in_err-build-clause-order
+returns-in_err-build-clause-order g c = record {
+  alive = c.build.ensures.alive;
+  right = right_then (right_grows c.new.ensures.called.asked.blobs) c.build.ensures.right;
+  fetched = counts_from (c.in_ok-engine.ensures.called.unfailed (λ e. let is = e.1 in cc)) (counts_exit (λ e. IsStoreFailure (fault_of e)) c.from_residual-in_err-build.result c.from_residual-in_err-build.ensures.1
+      (counts_refusal (Step c.in_err-build.field-0.0.step) c.in_err-build.field-0.0.refusal c.in_err-build.ensures.fetched));
+  device = exit_device (λ e. IsRunnerFailure (fault_of e)) _ c.from_residual-in_err-build.result c.from_residual-in_err-build.ensures.1 (λ f. c.in_err-build.ensures.device (device_refusal (Step c.in_err-build.field-0.0.step) c.in_err-build.field-0.0.refusal f));
+  alone = λ one. counts_exit (λ e. IsRunnerFailure (fault_of e)) c.from_residual-in_err-build.result c.from_residual-in_err-build.ensures.1
+      (counts_device (Step c.in_err-build.field-0.0.step) c.in_err-build.field-0.0.refusal (c.in_err-build.ensures.alone one));
+}
 
-pub returns-in_err-built-clause-fetched : goal.returns-in_err-built-clause-fetched
-returns-in_err-built-clause-fetched g c =
-    counts_from (c.in_ok-build.ensures.fetched.unfailed (λ f. f) ∙ c.in_ok-engine.ensures.called.unfailed (λ e. let is = e.1 in cc)) (counts_exit (λ e. IsStoreFailure (fault_of e)) c.from_residual-in_err-built.result c.from_residual-in_err-built.ensures.1
-    (counts_refusal Root (refusals.Engine c.in_err-built.field-0.0) (counts_engine _ (counts_calls c.in_err-built.ensures.called))))
+pub returns-in_err-built-clause-order : goal.returns-in_err-built-clause-order
+returns-in_err-built-clause-order g c = record {
+  alive = c.build.ensures.alive;
+  right = right_then
+      (right_then (right_grows c.new.ensures.called.asked.blobs) c.build.ensures.right)
+      (right_grows c.end.ensures.called.asked.blobs);
+  fetched = counts_from (c.in_ok-build.ensures.fetched.unfailed (λ f. f) ∙ c.in_ok-engine.ensures.called.unfailed (λ e. let is = e.1 in cc)) (counts_exit (λ e. IsStoreFailure (fault_of e)) c.from_residual-in_err-built.result c.from_residual-in_err-built.ensures.1
+      (counts_refusal Root (refusals.Engine c.in_err-built.field-0.0) (counts_engine _ (counts_calls c.in_err-built.ensures.called))));
+  device = exit_device (λ e. IsRunnerFailure (fault_of e)) _ c.from_residual-in_err-built.result c.from_residual-in_err-built.ensures.1 (λ f. absurd (device_refusal Root (refusals.Engine c.in_err-built.field-0.0) f));
+  alone = λ one. counts_from c.in_ok-build.ensures.unfailed (counts_exit (λ e. IsRunnerFailure (fault_of e)) c.from_residual-in_err-built.result c.from_residual-in_err-built.ensures.1 (counts_none (λ f. device_refusal Root (refusals.Engine c.in_err-built.field-0.0) f)));
+}
 
-pub returns-clause-fetched : goal.returns-clause-fetched
-returns-clause-fetched g c =
-    counts_same (λ f. f) (c.in_ok-built.ensures.called.unfailed (λ e. cc) ∙ c.in_ok-build.ensures.fetched.unfailed (λ f. f) ∙ c.in_ok-engine.ensures.called.unfailed (λ e. let is = e.1 in cc))
-
-pub returns-in_err-engine-clause-device : goal.returns-in_err-engine-clause-device
-returns-in_err-engine-clause-device g c = exit_device (λ e. IsRunnerFailure (fault_of e)) _ c.from_residual.result c.from_residual.ensures.1 (λ f. absurd (opening_no_device _ f))
-
-pub returns-in_err-build-clause-device : goal.returns-in_err-build-clause-device
-returns-in_err-build-clause-device g c =
-    exit_device (λ e. IsRunnerFailure (fault_of e)) _ c.from_residual-in_err-build.result c.from_residual-in_err-build.ensures.1 (λ f. c.in_err-build.ensures.device (device_refusal (Step c.in_err-build.field-0.0.step) c.in_err-build.field-0.0.refusal f))
-
-pub returns-in_err-built-clause-device : goal.returns-in_err-built-clause-device
-returns-in_err-built-clause-device g c = exit_device (λ e. IsRunnerFailure (fault_of e)) _ c.from_residual-in_err-built.result c.from_residual-in_err-built.ensures.1 (λ f. absurd (device_refusal Root (refusals.Engine c.in_err-built.field-0.0) f))
-
-pub returns-in_err-engine-clause-alone : goal.returns-in_err-engine-clause-alone
-returns-in_err-engine-clause-alone g c one = counts_exit (λ e. IsRunnerFailure (fault_of e)) c.from_residual.result c.from_residual.ensures.1 (counts_none (opening_no_device _))
-
-pub returns-in_err-build-clause-alone : goal.returns-in_err-build-clause-alone
-returns-in_err-build-clause-alone g c one =
-    counts_exit (λ e. IsRunnerFailure (fault_of e)) c.from_residual-in_err-build.result c.from_residual-in_err-build.ensures.1
-    (counts_device (Step c.in_err-build.field-0.0.step) c.in_err-build.field-0.0.refusal (c.in_err-build.ensures.alone one))
-
-pub returns-in_err-built-clause-alone : goal.returns-in_err-built-clause-alone
-returns-in_err-built-clause-alone g c one =
-    counts_from c.in_ok-build.ensures.unfailed (counts_exit (λ e. IsRunnerFailure (fault_of e)) c.from_residual-in_err-built.result c.from_residual-in_err-built.ensures.1 (counts_none (λ f. device_refusal Root (refusals.Engine c.in_err-built.field-0.0) f)))
-
-pub returns-clause-alone : goal.returns-clause-alone
-returns-clause-alone g c one = counts_same (λ f. f) c.in_ok-build.ensures.unfailed
+pub returns-clause-order : goal.returns-clause-order
+returns-clause-order g c = record {
+  alive = c.build.ensures.alive;
+  right = right_then
+      (right_then (right_grows c.new.ensures.called.asked.blobs) c.build.ensures.right)
+      (right_grows c.end.ensures.called.asked.blobs);
+  fetched = counts_same (λ f. f) (c.in_ok-built.ensures.called.unfailed (λ e. cc) ∙ c.in_ok-build.ensures.fetched.unfailed (λ f. f) ∙ c.in_ok-engine.ensures.called.unfailed (λ e. let is = e.1 in cc));
+  device = λ f. absurd f;
+  alone = λ one. counts_same (λ f. f) c.in_ok-build.ensures.unfailed;
+}
