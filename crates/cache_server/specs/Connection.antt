@@ -44,10 +44,10 @@ pub record HasAllButLast (old : CacheValue) (events : List EventValue) (text : L
   pub has : text ≡ (answered_all old earlier).0 ++ part
 
 -- a fault is told where it happened, the reader's or the writer's; memory may run out at any time
-abbrev pub IsFaultOf : Type 0 → Type 0 → ConnError → Type 0
-IsFaultOf reader writer ReadFault = reader
-IsFaultOf reader writer WriteFault = writer
-IsFaultOf reader writer Memory = ⊤
+abbrev pub IsFoundBy : Type 0 → Type 0 → ConnError → Type 0
+IsFoundBy reader writer ReadFault = reader
+IsFoundBy reader writer WriteFault = writer
+IsFoundBy reader writer Memory = ⊤
 
 module _ (prefix : List ℕ) (old : CacheValue) (input input_left before after : Option (List ℕ))
     (new : CacheValue) where

@@ -1,6 +1,6 @@
 ghost use Rattle.std.specs.Prelude.{IfErr, OnOk, [], map};
 ghost use Rattle.http_core.specs.Event.{event_of};
-ghost use Rattle.cache_server.specs.Connection.{IsFaultOf};
+ghost use Rattle.cache_server.specs.Connection.{IsFoundBy};
 ghost use Rattle.cache_server.specs.Writing.{StopsTelling, TellsBut};
 
 use crate::cache::Cache;
@@ -22,7 +22,7 @@ fn answer_all<A: Allocator + Copy, W: Outgoing>(
         (W.contents writer.old) (W.contents writer.new) cache.new [] []) }
     ensures err { IfErr result (StopsTelling cache.old (map event_of events.items)
         (W.contents writer.old) (W.contents writer.new) cache.new) }
-    ensures fault { IfErr result (IsFaultOf ⊥ (W.broken writer.new)) }
+    ensures fault { IfErr result (IsFoundBy ⊥ (W.broken writer.new)) }
 {
     for event in events {
         let answer = cache.answer(alloc, event)?;
@@ -43,7 +43,7 @@ pub(crate) fn answer_and_flush<A: Allocator + Copy, W: Outgoing>(
         (W.contents writer.old) (W.contents writer.new) cache.new [] []) }
     ensures err { IfErr result (StopsTelling cache.old (map event_of events.items)
         (W.contents writer.old) (W.contents writer.new) cache.new) }
-    ensures fault { IfErr result (IsFaultOf ⊥ (W.broken writer.new)) }
+    ensures fault { IfErr result (IsFoundBy ⊥ (W.broken writer.new)) }
     ensures flushed { OnOk result (W.flushed writer.old → W.flushed writer.new) }
 {
     if events.is_empty() {

@@ -1,6 +1,6 @@
 ghost use Rattle.std.specs.Prelude.{◌≡◌, ◌<◌, ◌≤◌, length, take, IfOk, IfErr, OnErr, OnOk};
 ghost use Rattle.std.specs.Io.KnownBytes.{Consumes, IsAtEnd, Keeps};
-ghost use Rattle.cache_server.specs.Connection.{BreaksOff, IsFaultOf, Runs};
+ghost use Rattle.cache_server.specs.Connection.{BreaksOff, IsFoundBy, Runs};
 
 use crate::answering::answer_and_flush;
 use crate::cache::Cache;
@@ -29,7 +29,7 @@ pub fn run<A: Allocator + Copy, R: Incoming, W: Outgoing>(
     ensures err { IfErr result (BreaksOff prefix.now cache.old
         (R.remaining reader.old) (R.remaining reader.new)
         (W.contents writer.old) (W.contents writer.new) cache.new) }
-    ensures faults { IfErr result (IsFaultOf (R.broken reader.new) (W.broken writer.new)) }
+    ensures faults { IfErr result (IsFoundBy (R.broken reader.new) (W.broken writer.new)) }
     ensures flushed { OnOk result (W.flushed writer.old → W.flushed writer.new) }
 {
     let mut session = Session::new(alloc, prefix)?;

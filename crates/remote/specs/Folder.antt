@@ -49,11 +49,11 @@ TellsOpenFault path (TooLarge p) fault = ⊥
 TellsOpenFault path Memory fault = Unit {0}
 
 -- the error is of the system, or of lack of memory
-abbrev pub IsOfSystem : {A : Type 0} → FileError A → Type 0
-IsOfSystem (Io p fault) = Unit {0}
-IsOfSystem (NotAFile p) = ⊥
-IsOfSystem (TooLarge p) = ⊥
-IsOfSystem Memory = Unit {0}
+abbrev pub ComesOfSystem : {A : Type 0} → FileError A → Type 0
+ComesOfSystem (Io p fault) = Unit {0}
+ComesOfSystem (NotAFile p) = ⊥
+ComesOfSystem (TooLarge p) = ⊥
+ComesOfSystem Memory = Unit {0}
 
 -- a file that is read: one of at most 16,777,216 bytes
 abbrev pub IsReadable : Metadata → Type 0

@@ -2,7 +2,7 @@ ghost use Rattle.std.specs.Prelude.{◌≡◌, ◌⊎◌, ◌<◌, ◌≤◌, �
 ghost use Rattle.std.specs.Prelude.{◌≢◌, IfErr, IfOk, IfSome, IsErrAnd, IsOk};
 ghost use Rattle.std.specs.declared.string.String.{String};
 ghost use Rattle.std.specs.IoError.{error_kind};
-ghost use Rattle.remote.specs.Folder.{IsErrorOf, IsNotThere, IsOfSystem, IsReadable, TellsFault};
+ghost use Rattle.remote.specs.Folder.{IsErrorOf, IsNotThere, ComesOfSystem, IsReadable, TellsFault};
 ghost use Rattle.remote.specs.Folder.{TellsOpenFault, TellsUnreadable};
 
 use std::alloc::{AllocError, Allocator};
@@ -160,7 +160,7 @@ fn io_error<A: Allocator>(
     ensures memory { IfErr result (λ e. e ≡ FileError.Memory) }
     ensures there { error_kind fault ≢ ErrorKind.NotFound
         → IfOk result (λ e. IsNotThere e → ⊥) }
-    ensures plain { IfOk result IsOfSystem }
+    ensures plain { IfOk result ComesOfSystem }
 {
     if fault.kind() == ErrorKind::OutOfMemory {
         return Ok(FileError::Memory);
@@ -178,7 +178,7 @@ fn checked_read<A: Allocator>(
     ensures same { IfOk result (λ count. read ≡ Ok count) }
     ensures error { IfErr result (IsErrorOf path.now) }
     ensures there { IfErr result (λ e. IsNotThere e → ⊥) }
-    ensures plain { IfErr result IsOfSystem }
+    ensures plain { IfErr result ComesOfSystem }
     ensures fault { IfErr result (λ e. IsErrAnd read (TellsOpenFault path.now e)) }
 {
     match read {

@@ -1,6 +1,6 @@
 -- Accepts that fail, one after another, and connections that fail.
 use Rattle.std.proofs.Common.{◌≡◌, ℕ, zero, suc, ◌+◌, subst, arith, Result, Ok, Err, IfErr}
-use Rattle.cache_server.specs.Connection.{IsFaultOf}
+use Rattle.cache_server.specs.Connection.{IsFoundBy}
 use Rattle.cache_server.specs.declared.error.ConnError.{ConnError}
 use Rattle.cache_server.specs.declared.error.ConnError.TheVariants.{ReadFault, WriteFault, Memory}
 use Rattle.service.specs.Turns.{FailsAfter, LosesAs}
@@ -19,7 +19,7 @@ fails_on failed (suc number) tries more old mid new p q = q tries p
 
 -- a fault of what was read from or written to is the connection's
 pub fault_lost : {T : Type 0} (r : Result T ConnError) (reader writer : Type 0) (lost : ConnError → Type 0) → LosesAs reader writer lost
-    → IfErr r (IsFaultOf reader writer) → IfErr r (IsFaultOf (lost ReadFault) (lost WriteFault))
+    → IfErr r (IsFoundBy reader writer) → IfErr r (IsFoundBy (lost ReadFault) (lost WriteFault))
 fault_lost (Ok done) reader writer lost l f = tt
 fault_lost (Err ReadFault) reader writer lost l f = l.reading f
 fault_lost (Err WriteFault) reader writer lost l f = l.writing f

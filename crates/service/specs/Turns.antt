@@ -1,7 +1,7 @@
 -- What connections do to a cache that are served one after another.
 use Rattle.std.specs.Prelude.{ℕ, zero, suc, ◌+◌, List, Option, IfErr, MatchResult}
 use Rattle.cache_server.specs.Cache.{CacheValue}
-use Rattle.cache_server.specs.Connection.{Runs, BreaksOff, IsFaultOf}
+use Rattle.cache_server.specs.Connection.{Runs, BreaksOff, IsFoundBy}
 use Rattle.cache_server.specs.declared.error.ConnError.{ConnError}
 use Rattle.cache_server.specs.declared.error.ConnError.TheVariants.{ReadFault, WriteFault}
 use Rattle.service.specs.Sockets.{Why}
@@ -32,7 +32,7 @@ pub record ServesNext
   pub ends : ended number left after why
   pub ran : MatchResult why (λ _. Runs prefix old input left before after new)
       (BreaksOff prefix old input left before after new)
-  pub found : IfErr why (IsFaultOf (lost number ReadFault) (lost number WriteFault))
+  pub found : IfErr why (IsFoundBy (lost number ReadFault) (lost number WriteFault))
 
 -- so were the connections with the numbers below this one, each after the one before it
 pub data ServesInTurn

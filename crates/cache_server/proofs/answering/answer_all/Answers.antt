@@ -1,7 +1,7 @@
 use Rattle.std.proofs.Common.{◌≡◌, List, [], ◌∷◌, map, length, refl, rules, ap, sym, subst, arith}
 use Rattle.http_core.specs.Event.{event_of}
 use Rattle.cache_server.specs.Answer.{text_of}
-use Rattle.cache_server.specs.Connection.{IsFaultOf}
+use Rattle.cache_server.specs.Connection.{IsFoundBy}
 use Rattle.cache_server.specs.Writing.{StopsTelling}
 use Rattle.cache_server.specs.declared.error.ConnError.TheVariants.{Memory}
 use Rattle.cache_server.proofs.Serving.{err_and}
@@ -56,9 +56,9 @@ returns-clause-ok g c =
     told_so_far c.args.cache.now c.loop-event.cache c.loop-event.cache (map event_of c.args.events.items) [] (g.W.Outgoing.contents c.args.writer.now) (g.W.Outgoing.contents c.loop-event.writer) on refl
 
 pub returns-in_err-answer-clause-fault : goal.returns-in_err-answer-clause-fault
-returns-in_err-answer-clause-fault g c = err_and (IsFaultOf ⊥ (g.W.Outgoing.broken c.loop-event.writer)) c.from_residual.result Memory c.from_residual.ensures.1 tt
+returns-in_err-answer-clause-fault g c = err_and (IsFoundBy ⊥ (g.W.Outgoing.broken c.loop-event.writer)) c.from_residual.result Memory c.from_residual.ensures.1 tt
 
 pub returns-in_err-write_answer-clause-fault : goal.returns-in_err-write_answer-clause-fault
 returns-in_err-write_answer-clause-fault g c =
-    let to = IsFaultOf ⊥ (g.W.Outgoing.broken c.write_answer.new.writer) in
+    let to = IsFoundBy ⊥ (g.W.Outgoing.broken c.write_answer.new.writer) in
     err_and to c.from_residual-in_err-write_answer.result c.in_err-write_answer.field-0.0 c.from_residual-in_err-write_answer.ensures.1 (subst to (sym c.in_err-write_answer.ensures.fault) c.in_err-write_answer.ensures.broken)
