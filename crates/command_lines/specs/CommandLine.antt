@@ -114,13 +114,13 @@ abbrev pub IsSet : List Row → Text → Type 0
 IsSet options name = first_of name options ≡ Some (codes "true")
 
 -- The words are at fault with this alone, or ask for it, as for help, in place of a command's work.
-abbrev pub ComesTo : List Text → ErrorKind → Type 0
-ComesTo words kind = fault_of program_line words ≡ kind ∷ []
+abbrev pub IsAtFault : List Text → ErrorKind → Type 0
+IsAtFault words kind = fault_of program_line words ≡ kind ∷ []
 
 -- so it is with the name of any command and these words after it
-abbrev pub EachComesTo : List Text → ErrorKind → Type 0
-EachComesTo words kind =
-    AllByRecursion (λ (line : App). ComesTo (line.top.name ∷ words) kind)
+abbrev pub EachIsAtFault : List Text → ErrorKind → Type 0
+EachIsAtFault words kind =
+    AllByRecursion (λ (line : App). IsAtFault (line.top.name ∷ words) kind)
     (serve_line ∷ verify_line ∷ put_line ∷ get_line ∷ build_line ∷ [])
 
 -- ---- examples

@@ -7,7 +7,7 @@ use Rattle.clap.specs.declared.builder.action.ArgAction.{ArgAction}
 use Rattle.clap.specs.declared.builder.action.ArgAction.TheVariants.{SetTrue}
 use Rattle.clap.specs.Words.{App, Text, first_of}
 use Rattle.clap.specs.declared.error.kind.ErrorKind.TheVariants.{MissingRequiredArgument}
-use Rattle.command_lines.specs.CommandLine.{CallsCommand, ComesTo, options_of}
+use Rattle.command_lines.specs.CommandLine.{CallsCommand, IsAtFault, options_of}
 
 -- how it is typed: `--store FOLDER`, or `--store=FOLDER`, or a word that stands alone, or a flag as
 -- `--verbose`
@@ -109,7 +109,7 @@ IsUnderstood line =
 abbrev pub MissesNeeded : App → Type 0
 MissesNeeded line = (given : List Given) (name : Text) → HasPlaces line given
     → Contains (needed_names line) name → given_text name given ≡ None
-    → ComesTo (line.top.name ∷ typed given) MissingRequiredArgument
+    → IsAtFault (line.top.name ∷ typed given) MissingRequiredArgument
 
 -- ---- an example
 

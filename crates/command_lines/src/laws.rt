@@ -1,9 +1,9 @@
 ghost use Rattle.std.specs.Prelude.{[], ◌∷◌, codes};
 ghost use Rattle.clap.specs.Words.{Text};
 ghost use Rattle.clap.specs.declared.error.kind.ErrorKind.TheVariants as kinds;
-ghost use Rattle.command_lines.specs.CommandLine.{AsksVerify, ComesTo, EachComesTo, verify_words};
-ghost use Rattle.command_lines.specs.CommandLine.{verify_line, serve_line, put_line, get_line};
-ghost use Rattle.command_lines.specs.CommandLine.{build_line};
+ghost use Rattle.command_lines.specs.CommandLine.{AsksVerify, EachIsAtFault, IsAtFault, build_line};
+ghost use Rattle.command_lines.specs.CommandLine.{get_line, put_line, serve_line, verify_line};
+ghost use Rattle.command_lines.specs.CommandLine.{verify_words};
 ghost use Rattle.command_lines.specs.Given.{CanBeTexts, MissesNeeded, IsUnderstood, verify_in_two};
 
 /// What words ask for: each command with whatever it can take, in any order, as people type it;
@@ -13,16 +13,16 @@ pub fn words_are_understood()
     ensures options { (store sources plan noted claim : Text)
         → AsksVerify (verify_words store sources plan noted claim) store sources plan noted claim }
     // Help and the version, in place of a command's work.
-    ensures help { ComesTo (codes "--help" ∷ []) kinds.DisplayHelp }
-    ensures short_help { ComesTo (codes "-h" ∷ []) kinds.DisplayHelp }
-    ensures command_help { EachComesTo (codes "--help" ∷ []) kinds.DisplayHelp }
-    ensures short_command_help { EachComesTo (codes "-h" ∷ []) kinds.DisplayHelp }
-    ensures version { ComesTo (codes "--version" ∷ []) kinds.DisplayVersion }
-    ensures short_version { ComesTo (codes "-V" ∷ []) kinds.DisplayVersion }
+    ensures help { IsAtFault (codes "--help" ∷ []) kinds.DisplayHelp }
+    ensures short_help { IsAtFault (codes "-h" ∷ []) kinds.DisplayHelp }
+    ensures command_help { EachIsAtFault (codes "--help" ∷ []) kinds.DisplayHelp }
+    ensures short_command_help { EachIsAtFault (codes "-h" ∷ []) kinds.DisplayHelp }
+    ensures version { IsAtFault (codes "--version" ∷ []) kinds.DisplayVersion }
+    ensures short_version { IsAtFault (codes "-V" ∷ []) kinds.DisplayVersion }
     // No words, and a command with an unknown option or by itself.
-    ensures nothing { ComesTo [] kinds.MissingSubcommand }
-    ensures option_unknown { EachComesTo (codes "--color" ∷ []) kinds.UnknownArgument }
-    ensures alone { EachComesTo [] kinds.MissingRequiredArgument }
+    ensures nothing { IsAtFault [] kinds.MissingSubcommand }
+    ensures option_unknown { EachIsAtFault (codes "--color" ∷ []) kinds.UnknownArgument }
+    ensures alone { EachIsAtFault [] kinds.MissingRequiredArgument }
     // Whatever a command can take, in any order, each text in one word with its option or in the
     // next: the words ask for just that.
     ensures verify { IsUnderstood verify_line }
