@@ -27,6 +27,8 @@ mod turns;
 mod watched;
 
 pub use error::NotAccepted;
-pub use serving::serve;
+pub use listening::{Accepted, Listener};
+pub use serving::{serve, serve_listener};
+pub use sockets::{Peer, Ready, Sockets};
 pub use status::ErrorTerminal;
-pub use together::serve_together;
+pub use together::{serve_sockets, serve_together};

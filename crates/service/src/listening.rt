@@ -18,14 +18,14 @@ const GATHERED: usize = 16384;
 
 /// A connection: what is read of it, what is written to it, and its peer.
 #[derive(Drop)]
-pub(crate) struct Accepted<I, O> {
+pub struct Accepted<I, O> {
     pub reader: I,
     pub writer: O,
     pub peer: SocketAddr,
 }
 
 /// Where connections come from that are served one after another.
-pub(crate) trait Listener {
+pub trait Listener {
     type Reader: Incoming + Drop;
 
     type Writer: Outgoing + Drop;

@@ -39,7 +39,7 @@ pub fn serve<R: AllocGlobal + Clock + Log>(
 /// Serves so many connections of the listener, one after another, under the prefix. A fault of one
 /// connection ends that connection alone. One that can't be accepted isn't counted; after 100
 /// faults in a row no more are waited for.
-fn serve_listener<R: AllocGlobal + Log, L: Listener>(
+pub fn serve_listener<R: AllocGlobal + Log, L: Listener>(
     rt: &R,
     listener: &mut L,
     connections: u64,

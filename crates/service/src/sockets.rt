@@ -19,7 +19,7 @@ use std::time::Duration;
 
 /// What the system has for a connection, or for the listener, which has no number.
 #[derive(Clone, Copy, Debug, PartialEq, Eq)]
-pub(crate) struct Ready {
+pub struct Ready {
     pub number: Option<u64>,
     /// There may be something to read.
     pub readable: bool,
@@ -28,7 +28,7 @@ pub(crate) struct Ready {
 }
 
 /// The stream of an open connection. Nothing waits: what can't be done yet is `WouldBlock`.
-pub(crate) trait Peer {
+pub trait Peer {
     /// That it is the connection with this number, and that so much was read of it and sent to it.
     ghost spoke: { ℕ → Self → List ℕ → List ℕ → Type 0 };
 
@@ -102,7 +102,7 @@ pub(crate) trait Peer {
 }
 
 /// Where connections come from.
-pub(crate) trait Sockets {
+pub trait Sockets {
     type Stream: Peer + Drop;
 
     /// That the connection with this number has ended, when so much had been read of it and sent to

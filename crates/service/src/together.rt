@@ -84,7 +84,7 @@ pub fn serve_together<R: AllocGlobal + Clock + ErrorTerminal + Log + Net>(
 /// waits for another. Each is read only while it has no answer that isn't sent. A line on the
 /// terminal, if there is one, says how many are open, and the hits so far.
 #[tactic(auto, using(crate::proofs::Whole::serves_all, crate::proofs::Whole::serves_cut, crate::proofs::Whole::serves_kept, crate::proofs::Whole::serves_none))]
-fn serve_sockets<R: AllocGlobal + Clock + Log, N: Sockets>(
+pub fn serve_sockets<R: AllocGlobal + Clock + Log, N: Sockets>(
     rt: &R,
     sockets: &mut N,
     connections: u64,
