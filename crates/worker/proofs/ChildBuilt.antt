@@ -16,7 +16,8 @@ use Rattle.runs.specs.Calls.{Disagrees, IsFinished, with_finished, with_job}
 use Rattle.runs.specs.Engine.{FinishedValue, JobValue, EngineValue}
 use Rattle.runs.specs.Looking.{together_in}
 use Rattle.verifier.specs.TwoSteps as two
-use Rattle.worker.specs.Calls.{Call, started, launched, ran, WasStarted, IsBuiltBy}
+use Rattle.worker.proofs.TwoStepsBuilt.{ready_for}
+use Rattle.worker.specs.Calls.{Call, started, launched, ran, WasStarted, IsLeastStartable, IsBuiltBy}
 use Rattle.worker.specs.Layout.{IsLayoutOf}
 use Rattle.worker.specs.Outcomes.{Yields, IsYielded}
 use Rattle.worker.specs.Steps.{CameOfChild}
@@ -161,6 +162,12 @@ is_yielded e command frame = record {
   trees = tt;
 }
 
+is_next : IsLeastStartable first 0
+is_next = record {
+  startable = record { waiting = record { unfinished = refl; idle = refl }; ready = ready_for first 0 _ refl tt };
+  least = λ k lt. absurd (omega (arith, lt));
+}
+
 -- ---- the build
 
 abbrev built : {A : Type 0} (alloc : A) → IsBuiltBy A anything told told 1 first last
@@ -170,12 +177,12 @@ built alloc = record {
     leads = (
       runs,
       is_started alloc,
-      omega arith,
+      (omega arith, is_next),
       (
         runs,
         record { job = job; is = refl; action = refl; laid = is_laid; command = refl; same = refl },
-        omega arith,
-        (last, record { finished = is_finished; action = refl; yielded = is_yielded runs refl refl }, omega arith, refl),
+        (omega arith, tt),
+        (last, record { finished = is_finished; action = refl; yielded = is_yielded runs refl refl }, (omega arith, λ less. absurd (omega (arith, less))), refl),
       ),
     );
   };

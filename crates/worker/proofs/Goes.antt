@@ -11,13 +11,14 @@ use Rattle.runs.specs.Calls.{IsStarted, without_job}
 use Rattle.runs.specs.declared.starting.Job.{Job}
 use Rattle.verifier.proofs.FreshRuns.{one_answer}
 use Rattle.worker.specs.declared.child.Child.{Child}
+use Rattle.worker.specs.declared.turns.Turn.TheVariants as turns
 use Rattle.worker.specs.Layout.{IsLayoutOf}
 use Rattle.worker.specs.Values.{EndValue, made, StartValue, Starts, StartsOne, StartsAll, StartsNone}
 use Rattle.worker.specs.Stored.{IsKept}
 use Rattle.worker.specs.Storing.{HasAt, IsKeptBut}
 use Rattle.worker.specs.Outcomes.{Yields, YieldsNoMore, IsYielded}
-use Rattle.worker.specs.Calls.{running, Call, started, launched, ran, taken, lost, CameTo, HasChild, children_of, IsResultFor, HasChildsResult, WasStarted, FinishedByChild, IsLost, Does, Leads, IsLed, PutsOf, TakesRecorded, IsBuiltWith}
-use Rattle.worker.specs.Going.{HasNoneToTake, IsJobOf, AreJobsOf, IsOwnJob, IsGoing, HasChildFor, IsBegun, IsLaunched, kept_job, EndedWell, GoesOnBy, jobs_with, one_if, taken_in}
+use Rattle.worker.specs.Calls.{running, Call, started, launched, ran, taken, lost, CameTo, HasChild, children_of, IsResultFor, HasChildsResult, WasStarted, FinishedByChild, IsLost, Does, IsLeastStartable, IsNext, Leads, IsLed, PutsOf, TakesRecorded, IsBuiltWith}
+use Rattle.worker.specs.Going.{HasNoneToTake, IsJobOf, AreJobsOf, IsOwnJob, IsGoing, HasChildFor, IsBegun, IsLaunched, kept_job, EndedWell, GoesOnBy, IsNextTurn, jobs_with, one_if, taken_in}
 use Rattle.worker.specs.Watching.{taken_count, turns_in, without_number, jobs_after}
 use Rattle.std.specs.List.{AllByRecursion}
 use Rattle.worker.proofs.Keeping.{kept_none, right_trans}
@@ -315,20 +316,20 @@ module _ (A J : Type 0) (y : Yields) (may : J → EndValue → Type 0) (from : S
             });
           }
 
-      pub going_ran : (e : EndedWell may t u c now new) → Went b u new cs g.led.built.led.calls (ran c.id c.action e.produced.outcome ∷ [])
-      going_ran e = gone (ran c.id c.action e.produced.outcome ∷ []) (moves_ran t u c.id c.action e.produced.outcome e.kept)
+      pub going_ran : IsNextTurn most now (c ∷ cs) turns.Finish → (e : EndedWell may t u c now new) → Went b u new cs g.led.built.led.calls (ran c.id c.action e.produced.outcome ∷ [])
+      going_ran next e = gone (ran c.id c.action e.produced.outcome ∷ []) (moves_ran t u c.id c.action e.produced.outcome e.kept)
           (none_starts a b quiet) (λ d x child. absurd child) (λ js. refl)
           (ap (λ (e : EngineValue). e.jobs) e.finished.after) (ap (λ (e : EngineValue). e.commands) e.finished.after, ap (λ (e : EngineValue). e.frames) e.finished.after)
-          (λ few. (new, ran_child e, few, refl))
+          (λ few. (new, ran_child e, (few, λ less. next (let count = jobs_count (IsOwnJob y may t.blobs now) (c ∷ cs) now.jobs g.jobs in omega (arith, count, less))), refl))
 
       pub going_lost : IsLost c.id now new → IsKept t u → Went b u new cs g.led.built.led.calls (lost c.id ∷ [])
       going_lost (j, at, after) k = gone (lost c.id ∷ []) (moves_kept t u (lost c.id ∷ []) k)
           (none_starts a b quiet) (λ d x child. absurd child) (λ js. refl)
           (ap (λ (e : EngineValue). e.jobs) after) (ap (λ (e : EngineValue). e.commands) after, ap (λ (e : EngineValue). e.frames) after)
-          (λ few. (new, (j, at, after), few, refl))
+          (λ few. (new, (j, at, after), (few, tt), refl))
 
     -- a step was started
-    module _ (t u : Telling) (now mid : EngineValue) (cs : List (Child J)) (i id : ℕ) (k : IsKept t u) (g : Goes a t now cs) (room : length cs < most) (w : WasStarted A u.blobs i id now mid) where
+    module _ (t u : Telling) (now mid : EngineValue) (cs : List (Child J)) (i id : ℕ) (k : IsKept t u) (g : Goes a t now cs) (room : length cs < most) (w : WasStarted A u.blobs i id now mid) (next : IsLeastStartable now i) where
       pub few_mid : running mid.jobs ≤ most
       few_mid = let more = one_more w in let count = jobs_count (IsOwnJob y may t.blobs now) cs now.jobs g.jobs in omega (arith, more, count, room)
 
@@ -339,7 +340,7 @@ module _ (A J : Type 0) (y : Yields) (may : J → EndValue → Type 0) (from : S
       there = jobs_map (IsOwnJob y may t.blobs now) (IsOwnJob y may u.blobs mid) (own_still (λ l c p h. h) k.blobs steps_mid) cs now.jobs g.jobs
 
       abbrev pub led_started : IsLed A y u most old mid
-      led_started = led_moved A y t u (started i id ∷ []) (moves_kept t u (started i id ∷ []) k) most old now mid g.led.built.led (mid, w, few_mid, refl)
+      led_started = led_moved A y t u (started i id ∷ []) (moves_kept t u (started i id ∷ []) k) most old now mid g.led.built.led (mid, w, (few_mid, next), refl)
 
       going_started : (c : Child J) → c.id ≡ id → IsOwnJob y may u.blobs mid c (job_of w) → (x : StartValue) → IsLayoutOf u.blobs (job_of w).input x.layout → slice_get mid.commands i ≡ Some x.command
           → StartsOne a b x → HasNoneToTake t (job_of w).action x.command → Went b u mid (cs ++ c ∷ []) g.led.built.led.calls (started i id ∷ launched id (job_of w).action x ∷ [])
@@ -348,7 +349,7 @@ module _ (A J : Type 0) (y : Yields) (may : J → EndValue → Type 0) (from : S
           let more : List Call = started i id ∷ launched id (job_of w).action x ∷ [] in
           let going : Goes b u mid (cs ++ c ∷ []) = record {
             led = built_moved A y from a b s t u more (moves_kept t u more k) starts had
-                most old now mid g.led (mid, w, few_mid, (mid, record { job = job_of w; is = job_is w; action = refl; laid = laid; command = command; same = refl }, few_mid, refl));
+                most old now mid g.led (mid, w, (few_mid, next), (mid, record { job = job_of w; is = job_is w; action = refl; laid = laid; command = command; same = refl }, (few_mid, tt), refl));
             jobs = subst (λ js. AreJobsOf (IsOwnJob y may u.blobs mid) js (cs ++ c ∷ [])) (sym (ap (λ (e : EngineValue). e.jobs) (after w)))
                 (jobs_added (IsOwnJob y may u.blobs mid) cs now.jobs id c (job_of w) (least_within now.jobs id (least w)) (least w).free same is there);
             order = jobs_join [] calls more ∙ ap (λ js. js ++ (id, i) ∷ []) g.order ∙ ap (λ (j : ℕ × ℕ). jobs_with cs ++ j ∷ []) pair ∙ sym (map-append (λ (c : Child J). (c.id, c.step)) cs (c ∷ []));
@@ -365,8 +366,8 @@ module _ (A J : Type 0) (y : Yields) (may : J → EndValue → Type 0) (from : S
 
       -- its job is gone again: nothing runs that didn't run before
       pub going_back : (new : EngineValue) (call : Call) → StartsAll (children_of (call ∷ [])) a b → HadNone t (call ∷ []) → ((js : List (ℕ × ℕ)) → jobs_after js (call ∷ []) ≡ without_number id js)
-          → new.jobs ≡ set mid.jobs id None → SameSteps mid new → Does A y u [] call mid new → Went b u new cs g.led.built.led.calls (started i id ∷ call ∷ [])
-      going_back new call starts none ends jobs same does =
+          → new.jobs ≡ set mid.jobs id None → SameSteps mid new → Does A y u [] call mid new → IsNext most call mid → Went b u new cs g.led.built.led.calls (started i id ∷ call ∷ [])
+      going_back new call starts none ends jobs same does next_call =
           let calls = g.led.built.led.calls in
           let more : List Call = started i id ∷ call ∷ [] in
           let back : AreJobsOf (IsOwnJob y may u.blobs mid) (set mid.jobs id None) cs
@@ -376,7 +377,7 @@ module _ (A J : Type 0) (y : Yields) (may : J → EndValue → Type 0) (from : S
           let few = g.few in
           let few_new : running new.jobs ≤ most = subst (λ js. running js ≤ most) (sym jobs) (omega (arith, count, few)) in
           let going : Goes b u new cs = record {
-            led = built_moved A y from a b s t u more (moves_kept t u more k) starts none most old now new g.led (mid, w, few_mid, (new, does, few_new, refl));
+            led = built_moved A y from a b s t u more (moves_kept t u more k) starts none most old now new g.led (mid, w, (few_mid, next), (new, does, (few_new, next_call), refl));
             jobs = subst (λ js. AreJobsOf (IsOwnJob y may u.blobs new) js cs) (sym jobs)
                 (jobs_map (IsOwnJob y may u.blobs mid) (IsOwnJob y may u.blobs new) (own_still (λ l c p h. h) (λ e b at right. at) same) cs (set mid.jobs id None) back);
             order = jobs_join [] calls more ∙ ap (λ js. jobs_after (js ++ (id, i) ∷ []) (call ∷ [])) g.order ∙ ends (jobs_with cs ++ (id, i) ∷ []) ∙ placed_goes (IsOwnJob y may u.blobs mid) cs now.jobs id i (least w).free there;
@@ -395,8 +396,8 @@ module _ (A J : Type 0) (y : Yields) (may : J → EndValue → Type 0) (from : S
       one_in : IsSome (finished_in i new) → taken_in true i now new ≡ 1
       one_in some = let before = ap one_if unfinished in let behind = one_there (finished_in i new) some in omega (arith, before, behind)
 
-      pub going_begun : (z : Yields) → YieldsNoMore z y → (ds : List (Child J)) → i < length now.finished → IsBegun A z may a b t u i now new cs ds → OneTurn b u new ds g.led.built.led.calls (taken_in true i now new)
-      going_begun z within ds lt begun = by begun.goes
+      pub going_begun : IsLeastStartable now i → (z : Yields) → YieldsNoMore z y → (ds : List (Child J)) → i < length now.finished → IsBegun A z may a b t u i now new cs ds → OneTurn b u new ds g.led.built.led.calls (taken_in true i now new)
+      going_begun next z within ds lt begun = by begun.goes
         where
           w : WasStarted A u.blobs i begun.id now begun.mid
           w = begun.started
@@ -411,7 +412,7 @@ module _ (A J : Type 0) (y : Yields) (may : J → EndValue → Type 0) (from : S
               (subst (λ (e : EngineValue). OneTurn b u e ds g.led.built.led.calls 0) (sym same)
               (subst (λ xs. OneTurn b u begun.mid xs g.led.built.led.calls 0) (sym grown) (
                 on_by b u begun.mid (cs ++ c ∷ []) g.led.built.led.calls (started i begun.id ∷ launched begun.id (job_of w).action (record { layout = own.own.owed.layout; command = own.own.owed.command }) ∷ []) 0
-                    (going_started t u now begun.mid cs i begun.id k g room w c id
+                    (going_started t u now begun.mid cs i begun.id k g room w next c id
                     (own_still within (λ e b at right. at) (refl, refl) c (job_of w) own.own)
                     (record { layout = own.own.owed.layout; command = own.own.owed.command }) own.own.owed.laid own.own.owed.of_step own.started own.none) refl,
                 refl,
@@ -421,7 +422,7 @@ module _ (A J : Type 0) (y : Yields) (may : J → EndValue → Type 0) (from : S
               let within_mid : i < length begun.mid.finished = subst (λ (e : EngineValue). i < length e.finished) (sym (after w)) lt in
               let call : Call = taken begun.id begun.job.action v in
               subst (λ xs. OneTurn b u new xs g.led.built.led.calls (taken_in true i now new)) (sym same) (
-                on_by b u new cs g.led.built.led.calls (started i begun.id ∷ call ∷ []) (taken_in true i now new) (going_back t u now begun.mid cs i begun.id k g room w new call
+                on_by b u new cs g.led.built.led.calls (started i begun.id ∷ call ∷ []) (taken_in true i now new) (going_back t u now begun.mid cs i begun.id k g room w next new call
                     (none_starts a b quiet) (λ d x child. absurd child) (λ js. refl)
                     (ap (λ (e : EngineValue). e.jobs) f.after) (ap (λ (e : EngineValue). e.commands) f.after, ap (λ (e : EngineValue). e.frames) f.after)
                     (record {
@@ -432,7 +433,7 @@ module _ (A J : Type 0) (y : Yields) (may : J → EndValue → Type 0) (from : S
                       result = held.held.result;
                       reads = held.held.reads;
                       recorded = held.held.recorded;
-                    })) (sym (one_in (finished_at begun.mid new begun.id i v (job_of w) within_mid f (job_is w) refl))),
+                    }) tt) (sym (one_in (finished_at begun.mid new begun.id i v (job_of w) within_mid f (job_is w) refl))),
                 refl,
               )
 

@@ -47,7 +47,7 @@ module _ {A : Type 0} {y : Yields} {t : Telling} {most : ℕ} where
   loses_none {calls} {e} = record { ids = []; calls = sym (append-nil calls); leads = refl }
 
   loses_one : {first all : List Call} {old now new : EngineValue} (id : ℕ) → LosesRest A y t most first all old now → IsLost id now new → running new.jobs ≤ most → LosesRest A y t most first (all ++ lost id ∷ []) old new
-  loses_one {first} {all} {old} {now} {new} id r gone few = loses_then r (record { ids = id ∷ []; calls = refl; leads = (new, gone, few, refl) })
+  loses_one {first} {all} {old} {now} {new} id r gone few = loses_then r (record { ids = id ∷ []; calls = refl; leads = (new, gone, (few, tt), refl) })
 
 -- a child is waited for and its job is lost
 module _ {J : Type 0} (now new : EngineValue) (c : Child J) (cs ds : List (Child J)) (is : cs ≡ c ∷ ds) (jobs : AreJobsOf IsJobOf now.jobs cs) where

@@ -1,6 +1,6 @@
 -- The calls of the build of two steps lead from the engine as it is opened to one in which both have finished.
-use Rattle.std.proofs.Common.{◌≡◌, ℕ, zero, suc, ◌<◌, ◌≤◌, ◌^◌, true, false, cond, List, [], ◌∷◌, ◌++◌, length, map, Option, Some, None, refl, ap, sym, ◌∙◌, arith, inl, inr, lit<}
-use Rattle.std.specs.Prelude.{codes, bytes_eq}
+use Rattle.std.proofs.Common.{◌≡◌, ℕ, zero, suc, ◌<◌, ◌≤◌, ◌^◌, true, false, cond, List, [], ◌∷◌, ◌++◌, length, map, Option, Some, None, refl, ap, sym, subst, ◌∙◌, arith, inl, inr, lit<}
+use Rattle.std.specs.Prelude.{codes, bytes_eq, slice_get}
 use Rattle.std.specs.List.{AllByRecursion, list_any}
 use Rattle.std.specs.Ptr.{null_ptr}
 use Rattle.std.specs.declared.vec.Vec.{Vec}
@@ -14,7 +14,7 @@ use Rattle.messages.specs.Directory.{directory_bytes}
 use Rattle.action_messages.specs.Action.{with_input}
 use Rattle.actions.specs.declared.outcome.Output.TheVariants as outputs
 use Rattle.actions.specs.Outcome.{OutcomeValue}
-use Rattle.plan.specs.Values.{output}
+use Rattle.plan.specs.Values.{output, StepValue}
 use Rattle.tree.specs.Tree.{Tree, empty}
 use Rattle.tree.specs.Form.{NodeValue, form, root}
 use Rattle.tree.specs.Folded.{visited, unseen, first_visits, IsFoldOf}
@@ -23,15 +23,17 @@ use Rattle.tree.specs.Merging.{in_tree, NodeWithin, MergeLines, merged}
 use Rattle.tree.specs.Stage.{◌and_then◌}
 use Rattle.tree.specs.declared.folding.Folded.{Folded}
 use Rattle.tree.proofs.MergeApart.{graft_passes, all_named, are_apart}
+use Rattle.verifier.specs.Together.{AreThere}
 use Rattle.verifier.specs.TwoSteps as two
 use Rattle.verifier.proofs.TwoSteps.{sources_named, input_named, gen_action_named, use_action_named}
 use Rattle.verifier.proofs.TwoStepsRecorded.{gen_result_held, use_result_held, gen_recorded, use_recorded}
 use Rattle.runs.specs.Calls.{IsOther, Disagrees, IsLeastIn, with_finished, with_job}
 use Rattle.runs.specs.Engine.{FinishedValue, JobValue, EngineValue}
-use Rattle.runs.specs.Looking.{together_in}
+use Rattle.runs.specs.Calls.{IsReady}
+use Rattle.runs.specs.Looking.{outcomes_in, together_in}
 use Rattle.runs.specs.TwoSteps as example
 use Rattle.runs.proofs.TwoStepsServed.{engine_valid}
-use Rattle.worker.specs.Calls.{Call, WasStarted, FinishedAsRecorded, IsBuiltBy}
+use Rattle.worker.specs.Calls.{Call, WasStarted, FinishedAsRecorded, IsStartable, IsLeastStartable, IsBuiltBy}
 use Rattle.worker.specs.Outcomes.{Yields}
 use Rattle.worker.specs.Stored.{HasNoneFinished}
 use Rattle.worker.specs.TwoSteps as worked
@@ -251,6 +253,31 @@ use_taken = record {
   recorded = use_recorded;
 }
 
+-- ---- the steps, each as it comes next
+
+same_step : (s step : StepValue) → ◌≡◌ {A = Option StepValue} (Some s) (Some step) → s ≡ step
+same_step s step is = cc
+
+-- a step is ready whose lines' origins are there
+pub ready_for : (e : EngineValue) (i : ℕ) (s : StepValue) → slice_get e.plan.steps i ≡ Some s → AreThere (outcomes_in e.finished) s.lines → IsReady e i
+ready_for e i s at there = λ step is. subst (λ (x : StepValue). AreThere (outcomes_in e.finished) x.lines) {y = step} (same_step s step (sym at ∙ is)) there
+
+gen_next : IsLeastStartable worked.first 0
+gen_next = record {
+  startable = record { waiting = record { unfinished = refl; idle = refl }; ready = ready_for worked.first 0 _ refl tt };
+  least = λ k lt. absurd (omega (arith, lt));
+}
+
+use_next : IsLeastStartable gen_done 1
+use_next = record {
+  startable = record { waiting = record { unfinished = refl; idle = refl }; ready = ready_for gen_done 1 _ refl ((example.gen_outcome, refl), tt) };
+  least = none;
+}
+  where
+    none : (k : ℕ) → k < 1 → IsStartable gen_done k → ⊥
+    none zero lt h = let unfinished = h.waiting.unfinished in cc
+    none (suc k) lt h = omega (arith, lt)
+
 -- ---- the build
 
 pub none_finished : HasNoneFinished worked.first
@@ -262,7 +289,7 @@ abbrev built : {A : Type 0} (alloc : A) (y : Yields) → IsBuiltBy A y two.telli
 built alloc y = record {
   led = record {
     calls = worked.calls;
-    leads = (gen_runs, gen_started alloc, omega arith, (gen_done, gen_taken _, omega arith, (use_runs, use_started alloc, omega arith, (worked.last, use_taken, omega arith, refl))));
+    leads = (gen_runs, gen_started alloc, (omega arith, gen_next), (gen_done, gen_taken _, (omega arith, tt), (use_runs, use_started alloc, (omega arith, use_next), (worked.last, use_taken, (omega arith, tt), refl))));
   };
   puts = record { put = []; are = refl; each = tt; others = λ d b at. inl at };
 }

@@ -1,6 +1,6 @@
 -- The calls of an engine that lead from one to another.
-use Rattle.std.specs.Prelude.{suc, ◌≡◌, ◌⊎◌, ◌≤◌, ℕ, List, [], ◌∷◌, ◌++◌, Option, Some, None}
-use Rattle.std.specs.Prelude.{slice_get}
+use Rattle.std.specs.Prelude.{suc, ◌≡◌, ◌⊎◌, ◌<◌, ◌≤◌, ℕ, List, [], ◌∷◌, ◌++◌, length, Option}
+use Rattle.std.specs.Prelude.{Some, None, slice_get}
 use Rattle.std.specs.List.{AllByRecursion}
 use Rattle.blob_digest.specs.Digest.{DigestValue}
 use Rattle.action_messages.specs.ActionResult.{ActionResultValue}
@@ -117,13 +117,41 @@ Does A yields t later (ran id d v) old new = FinishedByChild yields t id d v old
 Does A yields t later (taken id d v) old new = FinishedAsRecorded t later id d v old new
 Does A yields t later (lost id) old new = IsLost id old new
 
--- The calls, one after another, lead from one engine to the other, and at most this many jobs run
--- after each.
+-- ---- which call comes next
+
+-- a step that hasn't finished and doesn't run
+pub record IsWaiting (e : EngineValue) (i : ℕ) : Type 0 where
+  pub unfinished : finished_in i e ≡ None
+  pub idle : jobs_of i e.jobs ≡ 0
+
+pub record IsStartable (e : EngineValue) (i : ℕ) : Type 0 where
+  pub waiting : IsWaiting e i
+  pub ready : IsReady e i
+
+-- the least step that may be started
+pub record IsLeastStartable (e : EngineValue) (i : ℕ) : Type 0 where
+  pub startable : IsStartable e i
+  pub least : (k : ℕ) → k < i → IsStartable e k → ⊥
+
+abbrev pub HasNoneStartable : EngineValue → Type 0
+HasNoneStartable e = (k : ℕ) → k < length e.plan.steps → IsStartable e k → ⊥
+
+-- The step that is started is the least that may be. A child's job finishes only where no step may
+-- be started, or as many jobs run as may.
+abbrev pub IsNext : ℕ → Call → EngineValue → Type 0
+IsNext most (started i id) e = IsLeastStartable e i
+IsNext most (ran id d v) e = running e.jobs < most → HasNoneStartable e
+IsNext most c e = Unit {0}
+
+-- ---- what calls come to
+
+-- The calls, each as it comes next, lead from one engine to the other, and at most this many jobs
+-- run after each.
 abbrev pub Leads : (A : Type 0) → Yields → Telling → ℕ → List Call → EngineValue → EngineValue
     → Type 0
 Leads A yields t most [] old new = new ≡ old
 Leads A yields t most (c ∷ cs) old new =
-    (mid : EngineValue) × Does A yields t cs c old mid × (running mid.jobs ≤ most)
+    (mid : EngineValue) × Does A yields t cs c old mid × ((running mid.jobs ≤ most) × IsNext most c old)
     × Leads A yields t most cs mid new
 
 -- Some calls lead from the one engine to the other.
@@ -163,14 +191,3 @@ pub record IsBuiltWith (A : Type 0) (yields : Yields) (from to : Starts) (before
   pub children : StartsAll (children_of built.led.calls) from to
   pub blobs : KeepsRight before.blobs t.blobs
   pub takes : TakesRecorded built.led.calls before
-
--- ---- which step is started
-
--- a step that hasn't finished and doesn't run
-pub record IsWaiting (e : EngineValue) (i : ℕ) : Type 0 where
-  pub unfinished : finished_in i e ≡ None
-  pub idle : jobs_of i e.jobs ≡ 0
-
-pub record IsStartable (e : EngineValue) (i : ℕ) : Type 0 where
-  pub waiting : IsWaiting e i
-  pub ready : IsReady e i

@@ -109,6 +109,7 @@ pub(crate) fn take_turn<A: Allocator + Copy, S: BlobSink<A>, N: Runner<A>>(
     ensures going { (entry : N) (before : Telling) (most : ℕ) (first : EngineValue)
         → YieldsNoMore (N.yields runner.old) (N.yields entry)
         → IsTurn most engine.old children.old.items turn
+        → IsNextTurn most engine.old children.old.items turn
         → (g : IsGoing A (N.yields entry) N.may_give (N.starts entry) (N.starts runner.old)
         before (S.tells sink.old) most first
         engine.old children.old.items)

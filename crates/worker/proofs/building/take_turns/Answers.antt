@@ -45,14 +45,14 @@ before_turn-before-requires-clause-there g c = own_jobs g.row.A.Denot (g.N.Runne
 pub progress_after-progress-requires-clause-there : goal.progress_after-progress-requires-clause-there
 progress_after-progress-requires-clause-there g c =
     own_jobs g.row.A.Denot (g.N.Runner.yields c.args.runner.now) g.N.Runner.may_give (g.N.Runner.starts c.args.runner.now) (g.N.Runner.starts c.take_turn.new.runner) (g.S.BlobSource.tells c.args.sink.now) (g.S.BlobSource.tells c.take_turn.new.sink) c.args.jobs c.args.engine.now c.take_turn.new.engine c.take_turn.new.children.items
-    (c.take_turn.ensures.going c.args.runner.now (g.S.BlobSource.tells c.args.sink.now) c.args.jobs c.args.engine.now c.loop-turn.invariant.within c.in-Some.ensures.turn c.loop-turn.invariant.going.0).0.going
+    (c.take_turn.ensures.going c.args.runner.now (g.S.BlobSource.tells c.args.sink.now) c.args.jobs c.args.engine.now c.loop-turn.invariant.within c.in-Some.ensures.turn c.in-Some.ensures.next c.loop-turn.invariant.going.0).0.going
 
 pub loop-turn-preserved : goal.loop-turn-preserved
 loop-turn-preserved g c =
     let told = g.W.Watcher.told in
     let new = c.take_turn.new.engine in
     let was = c.loop-turn.invariant.going in
-    let turn = c.in_ok-take_turn.ensures.going c.args.runner.now (g.S.BlobSource.tells c.args.sink.now) c.args.jobs c.args.engine.now c.loop-turn.invariant.within c.in-Some.ensures.turn was.0 in
+    let turn = c.in_ok-take_turn.ensures.going c.args.runner.now (g.S.BlobSource.tells c.args.sink.now) c.args.jobs c.args.engine.now c.loop-turn.invariant.within c.in-Some.ensures.turn c.in-Some.ensures.next was.0 in
     let on = turn.0 in
     let going = on.going in
     let calls = was.0.led.built.led.calls in
@@ -80,7 +80,7 @@ pub returns-in_err-take_turn-clause-going : goal.returns-in_err-take_turn-clause
 returns-in_err-take_turn-clause-going g c =
     let p = err_from_is_err_and c.from_residual.result c.from_residual.ensures.1 in
     let was = c.loop-turn.invariant.going in
-    let on = c.in_err-take_turn.ensures.going c.args.runner.now (g.S.BlobSource.tells c.args.sink.now) c.args.jobs c.args.engine.now c.loop-turn.invariant.within c.in-Some.ensures.turn was.0 in
+    let on = c.in_err-take_turn.ensures.going c.args.runner.now (g.S.BlobSource.tells c.args.sink.now) c.args.jobs c.args.engine.now c.loop-turn.invariant.within c.in-Some.ensures.turn c.in-Some.ensures.next was.0 in
     let heard = watched_moved g.row.A.Denot (g.N.Runner.yields c.args.runner.now) c.args.jobs c.args.engine.now (g.S.BlobSource.tells c.loop-turn.sink) (g.S.BlobSource.tells c.take_turn.new.sink) was.0.led.built.led.calls on.0.going.led.built.led.calls on.0.more on.0.are on.2 c.take_turn.ensures.right was.2.0.0 in
     rw (p.1, p.2) (on.0.going, on.1, heard, tt)
 
