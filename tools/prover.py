@@ -14,7 +14,7 @@ import time
 TOP = os.path.dirname(os.path.dirname(os.path.realpath(__file__)))
 PARTS = ("src", "specs", "proofs")
 # The processor seconds that a check may take, and the seconds by the clock, which pass faster beside other work.
-LONGEST = 3600
+LONGEST = 7200
 LATEST = 10800
 
 # What the prover says of a name that a proof file has, and that isn't there.

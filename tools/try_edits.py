@@ -2,7 +2,8 @@
 """Judges the mistakes of the repository's crates: try_edits.py [CRATE[/MISTAKE] ..]
 
 A mistake turns what some functions of a crate mean (crates/NAME/mistakes/*.edit; docs/CONTRIBUTING.md has the format). Each
-crate is checked once with all its mistakes in it, and each function that one turns has to be refused for a goal of its own.
+crate is checked with up to 20 of its mistakes at once in it, and each function that one turns has to be refused for a goal of its
+own.
 The functions that none turns aren't proved again: they are taken by their contracts. A mistake fails that is proved, that makes
 the text unreadable, or that is refused only since a proof names what is gone.
 What can't stand in one check beside the others (it turns the same function, or no function but a type or a constant) gets a
@@ -30,7 +31,9 @@ from prover import Workspace
 
 # What one check is taken to need of memory, in bytes; and those of the crates that were seen to take more.
 ROOM = 4_500_000_000
-ROOMS = {"commands": 6_500_000_000, "cli": 6_000_000_000}
+ROOMS = {"commands": 8_000_000_000, "cli": 8_000_000_000}
+# So many mistakes stand in one check at most, which bounds its time and memory.
+MOST = 20
 
 
 class Memory:
@@ -119,7 +122,7 @@ class Judge:
             return left[:1]
         taken, functions, texts = [], set(), dict(self.texts)
         for it in left:
-            if it.is_of_types or functions & it.functions:
+            if len(taken) == MOST or it.is_of_types or functions & it.functions:
                 continue
             try:
                 texts.update(mistakes.apply(it, texts.__getitem__))

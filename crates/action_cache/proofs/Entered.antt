@@ -4,7 +4,6 @@ use Rattle.std.specs.List.{IsDistinct}
 use Rattle.std.specs.Map.{keys_of, lookup}
 use Rattle.std.specs.Option.{option_map_or}
 use Rattle.std.specs.Cmp.Lexicographic.{nat_list_eq_equiv}
-use Rattle.std.proofs.lemmas.List.{length-map}
 use Rattle.std.proofs.lemmas.Map.Entries.{lookup-filter-keys}
 use Rattle.std.proofs.lemmas.Slice.Eq.{bytes_eq-Decides}
 use Rattle.eviction.specs.Kept.{Held, Kept, is_pinned, cost_of, others}
@@ -30,9 +29,9 @@ module _ (reader : Reader) (s : Kept (List ℕ)) (flat : s.overhead ≡ 0) (d : 
   entered_marked result_limit results t =
       let st = state_of s.limit result_limit s.entries results in
       let alike = all_filter (λ (e : List ℕ × Held). blob_is_pinned reader st (e.0, e.1.bytes) ≡ is_pinned e) (λ (e : List ℕ × Held). not (bytes_eq h e.0)) s.entries (alike_marked reader s.limit result_limit s.entries results t d) in
-      (λ i. enter (blob_is_pinned reader st) (λ x. length x.1) s.limit (sym (stored_key_is s.entries h) i, b) (filter-map (λ (e : List ℕ × Held). (e.0, e.1.bytes)) (λ x. not (bytes_eq h x.0)) s.entries i) (length-map {B = List ℕ × List ℕ} s.entries (λ (e : List ℕ × Held). (e.0, e.1.bytes)) i))
-      ∙ enter_through (λ (e : List ℕ × Held). (e.0, e.1.bytes)) is_pinned (blob_is_pinned reader st) (cost_of s.overhead) (λ x. length x.1) (λ e. sym (add-zero (length e.1.bytes)) ∙ ap (λ n. length e.1.bytes + n) (sym flat)) s.limit (length s.entries) (new_entry bytes_eq s h b) (others bytes_eq h s.entries) alike
-      ∙ through (enter is_pinned (cost_of s.overhead) s.limit (new_entry bytes_eq s h b) (others bytes_eq h s.entries) (length s.entries))
+      (λ i. enter (blob_is_pinned reader st) (λ x. length x.1) s.limit (sym (stored_key_is s.entries h) i, b) (filter-map (λ (e : List ℕ × Held). (e.0, e.1.bytes)) (λ x. not (bytes_eq h x.0)) s.entries i))
+      ∙ enter_through (λ (e : List ℕ × Held). (e.0, e.1.bytes)) is_pinned (blob_is_pinned reader st) (cost_of s.overhead) (λ x. length x.1) (λ e. sym (add-zero (length e.1.bytes)) ∙ ap (λ n. length e.1.bytes + n) (sym flat)) s.limit (new_entry bytes_eq s h b) (others bytes_eq h s.entries) alike
+      ∙ through (enter is_pinned (cost_of s.overhead) s.limit (new_entry bytes_eq s h b) (others bytes_eq h s.entries))
     where
       through : (o : Option (List (List ℕ × Held))) → option_map plain o ≡ option_map (λ (t : Kept (List ℕ)). plain t.entries) (option_map (with_entries s) o)
       through None = refl

@@ -13,7 +13,7 @@ use Rattle.blob_store.proofs.BlobLemmas.{all_filter, all_spared_last}
 use Rattle.action_cache.specs.References.{Reader, is_complete, references, outputs_of}
 use Rattle.action_cache.specs.Machine.{CacheState, Marked, Answer, done, given, nothing, refused, too_large, hash_differs, pinned_differs, bad_result, not_pinned, why_incomplete, under, others_than, fronted, found, blob_is_pinned, with_blobs, with_results, blobs_entered, results_entered, or_full, blob_stored, put_blob, got_blob, get_blob, result_used, got_result, get_result, differs_pinned, put_result, marked, pinned_now, pin, unpinned_now, unpin}
 use Rattle.action_cache.specs.Asking.{CacheAsk, PutBlob, GetBlob, PutResult, GetResult, Pin, Unpin, after_ask, IsWithin}
-use Rattle.action_cache.proofs.Thinning.{filter_shorter, Enters, enters, thins_last, thins_all, pinned_found, all_found}
+use Rattle.action_cache.proofs.Thinning.{Enters, enters, thins_last, thins_all, pinned_found, all_found}
 use Rattle.action_cache.proofs.Keeping.{under_fronted, under_others, all_under, each_under, fronted_distinct, fronted_all, fronted_total, entered_distinct, is_wanted, ArePinnedWhole, still_whole, wanted_held}
 
 -- a blob stands under its hash
@@ -63,7 +63,7 @@ module _ (reader : Reader) where
 
     pub blobs_enter : (h bytes : List ℕ) (out : List (List ℕ × List ℕ)) → sha256 bytes ≡ h → is_some (found reader s h) ≡ false → blobs_entered reader s h bytes ≡ Some out → Leads s (with_blobs reader s out)
     blobs_enter h bytes out has absent e =
-        let n = enters (blob_is_pinned reader s) (λ b. length b.1) s.limit (h, bytes) (others_than h s.blobs) (length s.blobs) out (filter_shorter (λ b. not (bytes_eq h b.0)) s.blobs) e in
+        let n = enters (blob_is_pinned reader s) (λ b. length b.1) s.limit (h, bytes) (others_than h s.blobs) out e in
         blobs_change out (λ b w. ap (under b) n.out_is ∙ kept n.most b w) n.within
         (subst AreUnderHashes (sym n.out_is) (has, all_spared_last IsUnderHash (blob_is_pinned reader s) n.most (others_than h s.blobs) (all_filter IsUnderHash (λ b. not (bytes_eq h b.0)) s.blobs k.hashes)))
       where
@@ -185,7 +185,7 @@ module _ (reader : Reader) where
 
     result_enters : (h bytes : List ℕ) (out : List (List ℕ × Marked)) → results_entered reader s h bytes ≡ Some out
         → Enters (λ (r : List ℕ × Marked). r.1.pinned) (λ (r : List ℕ × Marked). length r.1.bytes + 64) s.result_limit (h, new_result h bytes) (others_than h s.results) out
-    result_enters h bytes out e = enters (λ (r : List ℕ × Marked). r.1.pinned) (λ (r : List ℕ × Marked). length r.1.bytes + 64) s.result_limit (h, new_result h bytes) (others_than h s.results) (length s.results) out (filter_shorter (λ (r : List ℕ × Marked). not (bytes_eq h r.0)) s.results) e
+    result_enters h bytes out e = enters (λ (r : List ℕ × Marked). r.1.pinned) (λ (r : List ℕ × Marked). length r.1.bytes + 64) s.result_limit (h, new_result h bytes) (others_than h s.results) out e
 
     result_put : (h bytes : List ℕ) (out : List (List ℕ × Marked)) → differs_pinned reader s bytes (under h s.results) ≡ false → results_entered reader s h bytes ≡ Some out → Leads s (with_results reader s out)
     result_put h bytes out off e =

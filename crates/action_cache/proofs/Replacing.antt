@@ -6,7 +6,7 @@ use Rattle.std.specs.Option.{option_map_or}
 use Rattle.std.specs.Cmp.Lexicographic.{nat_list_eq_equiv}
 use Rattle.std.proofs.lemmas.Bool.Decides.{nat_tests}
 use Rattle.std.proofs.lemmas.Slice.Eq.{bytes_eq-Decides}
-use Rattle.std.proofs.lemmas.List.{length-map, reverse-reverse}
+use Rattle.std.proofs.lemmas.List.{reverse-reverse}
 use Rattle.std.proofs.lemmas.List.Elements.{filter-append}
 use Rattle.eviction.specs.Kept.{Held, Kept, is_pinned, cost_of, others, moved_to_front}
 use Rattle.eviction.specs.Entering.{enter, spared, spared_last, new_entry, evicted, entered, can_enter}
@@ -56,10 +56,10 @@ module _ (reader : Reader) (limit : ℕ) (blobs : List (List ℕ × Held)) (s : 
       let same : option_map_or (λ (r : Marked). r.pinned) (under h (marks s.entries)) false ≡ nat_lt 0 (pins_of bytes_eq s.entries h) =
       ap (λ o. option_map_or (λ (r : Marked). r.pinned) o false) (under-marks h s.entries) ∙ mark_of (lookup (bytes_eq h) s.entries) in
       (λ i. enter (λ (r : List ℕ × Marked). r.1.pinned) (λ r. length r.1.bytes + 64) s.limit (sym (stored_key_is s.entries h) i, let m : Marked = record { bytes = b; pinned = same i } in m)
-      (filter-map (λ (e : List ℕ × Held). (e.0, mark e.1)) (λ x. not (bytes_eq h x.0)) s.entries i) (length-map {B = List ℕ × Marked} s.entries (λ (e : List ℕ × Held). (e.0, mark e.1)) i))
-      ∙ enter_through (λ (e : List ℕ × Held). (e.0, mark e.1)) is_pinned (λ (r : List ℕ × Marked). r.1.pinned) (cost_of s.overhead) (λ r. length r.1.bytes + 64) (λ e. ap (λ n. length e.1.bytes + n) (sym flat)) s.limit (length s.entries) (new_entry bytes_eq s h b) (others bytes_eq h s.entries)
+      (filter-map (λ (e : List ℕ × Held). (e.0, mark e.1)) (λ x. not (bytes_eq h x.0)) s.entries i))
+      ∙ enter_through (λ (e : List ℕ × Held). (e.0, mark e.1)) is_pinned (λ (r : List ℕ × Marked). r.1.pinned) (cost_of s.overhead) (λ r. length r.1.bytes + 64) (λ e. ap (λ n. length e.1.bytes + n) (sym flat)) s.limit (new_entry bytes_eq s h b) (others bytes_eq h s.entries)
       (all_refl is_pinned (others bytes_eq h s.entries))
-      ∙ through s (enter is_pinned (cost_of s.overhead) s.limit (new_entry bytes_eq s h b) (others bytes_eq h s.entries) (length s.entries))
+      ∙ through s (enter is_pinned (cost_of s.overhead) s.limit (new_entry bytes_eq s h b) (others bytes_eq h s.entries))
 
   -- the two lists hold the same pinned bytes
   record SamePinned (old new : List (List ℕ × Held)) : Type 0 where

@@ -26,12 +26,6 @@ module _ {E : Type 0} (cost : E → ℕ) where
         | false ↦ omega arith
       ]
 
-pub filter_shorter : {E : Type 0} (p : E → Bool) (xs : List E) → length (filter p xs) ≤ length xs
-filter_shorter p [] = omega arith
-filter_shorter p (x ∷ xs) =
-    let on = filter_shorter p xs in
-    elim (p x) as (λ b. length (cond b (x ∷ filter p xs) (filter p xs)) ≤ suc (length xs)) [ true ↦ omega arith | false ↦ omega arith ]
-
 module _ {E : Type 0} (pinned : E → Bool) where
   spared_all : (m : ℕ) (es : List E) → length es ≤ m → spared pinned m es ≡ filter pinned es
   spared_all m [] l = refl
@@ -52,21 +46,21 @@ module _ {E : Type 0} (pinned : E → Bool) where
     pub out_is : out ≡ new ∷ spared_last pinned most others
     pub within : total cost out ≤ limit
 
-  pub enters : (cost : E → ℕ) (limit : ℕ) (new : E) (others : List E) (most : ℕ) (out : List E) → length others ≤ most
-      → enter pinned cost limit new others most ≡ Some out → Enters cost limit new others out
-  enters cost limit new others most out l e = by_room (has_room pinned cost limit new others) refl e
+  pub enters : (cost : E → ℕ) (limit : ℕ) (new : E) (others out : List E)
+      → enter pinned cost limit new others ≡ Some out → Enters cost limit new others out
+  enters cost limit new others out e = by_room (has_room pinned cost limit new others) refl e
     where
       count : ℕ
-      count = evicted_for pinned cost limit new others most
+      count = evicted_for pinned cost limit new others
 
       by_room : (b : Bool) → has_room pinned cost limit new others ≡ b → cond b (Some (new ∷ spared_last pinned count others)) None ≡ Some out → Enters cost limit new others out
       by_room true room e =
           let is : new ∷ spared_last pinned count others ≡ out = cc in
-          let last : fits pinned cost limit new others most ≡ true = rw (spared_last_all most others l) room in
+          let last : fits pinned cost limit new others (length others) ≡ true = rw (spared_last_all (length others) others (omega arith)) room in
           record {
             most = count;
             out_is = sym is;
-            within = subst (λ x. total cost x ≤ limit) is (is_le (total cost (new ∷ spared_last pinned count others)) limit (least_passes (fits pinned cost limit new others) most last));
+            within = subst (λ x. total cost x ≤ limit) is (is_le (total cost (new ∷ spared_last pinned count others)) limit (least_passes (fits pinned cost limit new others) (length others) last));
           }
       by_room false room e = absurd cc
 

@@ -17,16 +17,7 @@ use Rattle.action_cache.specs.Machine.{pinned_differs, incomplete}
 -- how a refusal of the layers below is told
 abbrev pub of_message : MessageError → CacheError
 of_message message.Memory = cache.Memory
-of_message (message.Wire e) = cache.BadResult (message.Wire e)
-of_message message.BadName = cache.BadResult message.BadName
-of_message message.Unsorted = cache.BadResult message.Unsorted
-of_message message.SameName = cache.BadResult message.SameName
-of_message message.BadPath = cache.BadResult message.BadPath
-of_message (message.Unsupported n) = cache.BadResult (message.Unsupported n)
-of_message (message.MissingField n) = cache.BadResult (message.MissingField n)
-of_message message.BadTree = cache.BadResult message.BadTree
-of_message (message.BadDigest e) = cache.BadResult (message.BadDigest e)
-of_message (message.BadText n) = cache.BadResult (message.BadText n)
+of_message e = cache.BadResult e
 
 -- how a refusal by the blobs is told
 abbrev pub of_blob : BlobError → CacheError

@@ -97,7 +97,6 @@ module _ (reader : Reader) (s : CacheState) where
   abbrev pub blobs_entered : List ℕ → List ℕ → Option (List (List ℕ × List ℕ))
   blobs_entered h bytes =
       enter blob_is_pinned (λ b. length b.1) s.limit (h, bytes) (others_than h s.blobs)
-      (length s.blobs)
 
   -- a result keeps its mark
   abbrev pub results_entered : List ℕ → List ℕ → Option (List (List ℕ × Marked))
@@ -107,7 +106,7 @@ module _ (reader : Reader) (s : CacheState) where
         pinned = option_map_or (λ r. r.pinned) (under h s.results) false;
       } in
       enter (λ r. r.1.pinned) (λ r. length r.1.bytes + 64) s.result_limit (h, new)
-      (others_than h s.results) (length s.results)
+      (others_than h s.results)
 
   -- done, if there is such a state; else there is no room
   abbrev pub or_full : Option CacheState → Answer × CacheState

@@ -3,7 +3,7 @@ use Rattle.std.specs.Prelude.{ℕ, List, bytes_eq, Option, Some, None}
 use Rattle.std.specs.List.{fold}
 use Rattle.blob_digest.specs.DigestValue.{DigestValue}
 use Rattle.eviction.specs.Kept.{Held, Kept, moved_to_front}
-use Rattle.action_cache.specs.Machine.{CacheState, Answer, done, given, nothing, refused}
+use Rattle.action_cache.specs.Machine.{CacheState, Answer, given, nothing}
 use Rattle.action_cache.specs.Tied.{plain, marks}
 
 -- without counts
@@ -33,6 +33,4 @@ answer_of (Some b) = given b
 -- the bytes that an answer gives
 abbrev pub bytes_given : Answer → Option (List ℕ)
 bytes_given (given b) = Some b
-bytes_given done = None
-bytes_given nothing = None
-bytes_given (refused r) = None
+bytes_given answer = None

@@ -1,6 +1,6 @@
 -- What meets the premises of the laws: a result without outputs, which is read from no bytes, and the refusal of a record
 -- that is cut.
-use Rattle.std.proofs.Common.{◌≡◌, [], ◌∷◌, None, pos, refl, inl, lit<}
+use Rattle.std.proofs.Common.{[], ◌∷◌, None, pos, refl, inl, lit<}
 use Rattle.wire.specs.declared.error.WireError.TheVariants.{Truncated}
 use Rattle.wire.specs.Reading.{fields_by, fields_within, record_by}
 use Rattle.wire.specs.Varint.{varint_by, groups_by}

@@ -12,10 +12,10 @@ use Rattle.canonical.specs.declared.shape.Entry.{Entry}
 use Rattle.canonical.specs.Fields.{element_fields, int_field, bytes_field, message_field}
 use Rattle.messages.specs.declared.error.MessageError.{MessageError}
 use Rattle.messages.specs.declared.error.MessageError.TheVariants.{SameName}
-use Rattle.messages.specs.Order.{bytes_cmp}
+use Rattle.messages.specs.Order.{bytes_cmp, IsAscending}
 use Rattle.messages.specs.Shapes.{single, repeated}
 use Rattle.messages.specs.DigestMessage.{digest_bytes}
-use Rattle.action_messages.specs.Ascending.{IsAscendingBy, ascending_behind}
+use Rattle.action_messages.specs.Ascending.{ascending_behind}
 use Rattle.action_messages.specs.Overlaps.{ArePathsApart, some_under, some_cross, texts_of}
 use Rattle.action_messages.specs.Fields.{refused_unless}
 use Rattle.action_messages.specs.Stream.{StreamValue, IsStream}
@@ -45,9 +45,9 @@ symlink_paths symlinks = map (λ l. l.path) symlinks
 
 -- the paths of the three lists
 pub record AreOutputPaths (files directories symlinks : List (List (List ℕ))) : Type 0 where
-  pub files_ascend : IsAscendingBy bytes_cmp (texts_of files)
-  pub directories_ascend : IsAscendingBy bytes_cmp (texts_of directories)
-  pub symlinks_ascend : IsAscendingBy bytes_cmp (texts_of symlinks)
+  pub files_ascend : IsAscending (texts_of files)
+  pub directories_ascend : IsAscending (texts_of directories)
+  pub symlinks_ascend : IsAscending (texts_of symlinks)
   pub apart : ArePathsApart (files ++ directories ++ symlinks)
 
 pub record IsActionResult (r : ActionResultValue) : Type 0 where

@@ -19,7 +19,7 @@ use Rattle.messages.specs.Path.{IsPath, path_of, path_text}
 use Rattle.messages.specs.Shapes.{single, repeated}
 use Rattle.messages.specs.Told.{shape_checked}
 use Rattle.action_messages.specs.Fields.{string_of, refused_unless}
-use Rattle.action_messages.specs.Ascending.{IsAscendingBy, ascending_behind}
+use Rattle.action_messages.specs.Ascending.{ascending_behind}
 use Rattle.action_messages.specs.Overlaps.{ArePathsApart, some_under, texts_of}
 use Rattle.action_messages.specs.Setting.{SettingValue, setting_bytes, decoded_setting}
 
@@ -56,7 +56,7 @@ pub record IsCommand (c : CommandValue) : Type 0 where
   pub names_ascend : IsAscending (variable_names c.environment)
   pub working_directory : IfSome c.working_directory IsPath
   pub output_paths : AllByRecursion IsPath c.output_paths
-  pub outputs_ascend : IsAscendingBy bytes_cmp (texts_of c.output_paths)
+  pub outputs_ascend : IsAscending (texts_of c.output_paths)
   pub outputs_apart : ArePathsApart c.output_paths
 
 abbrev pub command_shape : List Entry

@@ -1,9 +1,8 @@
 -- The outputs of a result of all kinds, in one order.
 use Rattle.std.specs.Prelude.{◌≡◌, ℕ, List, [], ◌∷◌, map}
-use Rattle.messages.specs.Order.{bytes_cmp}
+use Rattle.messages.specs.Order.{IsAscending}
 use Rattle.action_messages.specs.declared.recorded_output.RecordedOutput.{RecordedOutput}
 use Rattle.action_messages.specs.declared.recorded_output.RecordedOutput.TheVariants as outputs
-use Rattle.action_messages.specs.Ascending.{IsAscendingBy}
 use Rattle.action_messages.specs.Overlaps.{texts_of}
 use Rattle.action_messages.specs.OutputFile.{OutputFileValue}
 use Rattle.action_messages.specs.OutputDirectory.{OutputDirectoryValue}
@@ -51,7 +50,7 @@ links_among (link l ∷ xs) = l ∷ links_among xs
 
 -- the files, directories and links of a result, all together by the texts of their paths
 pub record AreOutputs (r : ActionResultValue) (xs : List RecordedValue) : Type 0 where
-  pub ascend : IsAscendingBy bytes_cmp (texts_of (map recorded_path xs))
+  pub ascend : IsAscending (texts_of (map recorded_path xs))
   pub files : files_among xs ≡ r.files
   pub directories : directories_among xs ≡ r.directories
   pub symlinks : links_among xs ≡ r.symlinks

@@ -6,12 +6,11 @@ ghost use Rattle.wire.specs.Steps.{Gives};
 ghost use Rattle.canonical.specs.Fields.{int_field, bytes_field, message_field};
 ghost use Rattle.messages.specs.DigestMessage.{digest_bytes};
 ghost use Rattle.messages.specs.Gives.{GivesUnlessMemory};
-ghost use Rattle.messages.specs.Order.{bytes_cmp};
+ghost use Rattle.messages.specs.Order.{IsAscending};
 ghost use Rattle.messages.specs.declared.error.MessageError.TheVariants.{SameName, Memory};
 ghost use Rattle.action_messages.specs.Reads.{Reads};
 ghost use Rattle.action_messages.specs.Unordered.{IsOrderingOf, AreOutputsValid, output_paths};
 ghost use Rattle.action_messages.specs.Refused.{IsRefusedResult};
-ghost use Rattle.action_messages.specs.Ascending.{IsAscendingBy};
 ghost use Rattle.action_messages.specs.Overlaps.{ArePathsApart, texts_of};
 ghost use Rattle.action_messages.specs.OutputFile.{IsOutputFile};
 ghost use Rattle.action_messages.specs.OutputDirectory.{IsOutputDirectory};
@@ -73,9 +72,9 @@ fn some_overlap<F: Listed, D: Listed, S: Listed>(
     directories: &[D],
     symlinks: &[S],
 ) -> bool
-    requires files { IsAscendingBy bytes_cmp (texts_of (map F.path_in files.now)) }
-    requires directories { IsAscendingBy bytes_cmp (texts_of (map D.path_in directories.now)) }
-    requires symlinks { IsAscendingBy bytes_cmp (texts_of (map S.path_in symlinks.now)) }
+    requires files { IsAscending (texts_of (map F.path_in files.now)) }
+    requires directories { IsAscending (texts_of (map D.path_in directories.now)) }
+    requires symlinks { IsAscending (texts_of (map S.path_in symlinks.now)) }
     ensures { result
         ≡ some_overlap
         (texts_of (map F.path_in files.now))

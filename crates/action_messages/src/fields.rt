@@ -1,8 +1,8 @@
-ghost use Rattle.std.specs.Prelude.{◌≡◌, ◌≤◌, ◌++◌, [], IsOk, OnOk, map};
+ghost use Rattle.std.specs.Prelude.{◌≡◌, ◌++◌, [], IsOk, OnOk, map};
 ghost use Rattle.std.specs.String.{string_bytes};
 ghost use Rattle.wire.specs.Spelling.{spelling};
 ghost use Rattle.wire.specs.Steps.{Gives};
-ghost use Rattle.wire.specs.Record.{records_of};
+ghost use Rattle.wire.specs.Record.{IsFieldNumber, records_of};
 ghost use Rattle.canonical.specs.Fields.{element_fields, elements_at};
 ghost use Rattle.canonical.specs.Told.{each};
 ghost use Rattle.canonical.specs.View.{slices};
@@ -97,8 +97,7 @@ pub(crate) fn write_strings<A: Allocator>(
     number: u32,
     strings: &[String<A>],
 ) -> Result<(), AllocError>
-    requires at_least { 1 ≤ number }
-    requires at_most { number ≤ 536870911 }
+    requires number { IsFieldNumber number }
     ensures { OnOk result
         (out.new.items
         ≡ out.old.items ++ spelling (element_fields number (map string_bytes strings.now))) }
@@ -115,8 +114,7 @@ pub(crate) fn write_paths<A: Allocator>(
     number: u32,
     paths: &[Path<A>],
 ) -> Result<(), AllocError>
-    requires at_least { 1 ≤ number }
-    requires at_most { number ≤ 536870911 }
+    requires number { IsFieldNumber number }
     ensures { OnOk result
         (out.new.items
         ≡ out.old.items ++ spelling (element_fields number (texts_of paths.now))) }

@@ -1,8 +1,8 @@
 ghost use Rattle.std.specs.Prelude.{◌≡◌, ℕ, List, map, None, OnOk, IfOk, IsPermutation};
 ghost use Rattle.std.specs.List.{AllByRecursion, list_any};
 ghost use Rattle.wire.specs.Steps.{Gives};
-ghost use Rattle.messages.specs.Order.{bytes_cmp, has_name, share_name};
-ghost use Rattle.action_messages.specs.Ascending.{IsAscendingBy, IsSortedByText, ascending_behind};
+ghost use Rattle.messages.specs.Order.{IsAscending, bytes_cmp, has_name, share_name};
+ghost use Rattle.action_messages.specs.Ascending.{IsSortedByText, ascending_behind};
 ghost use Rattle.action_messages.specs.Overlaps.{IsPlace, is_under, lies_under_some, some_under};
 ghost use Rattle.action_messages.specs.Overlaps.{some_cross, texts_of};
 
@@ -83,7 +83,7 @@ pub(crate) fn check_paths<L: Listed>(items: &[L]) -> Result<(), MessageError>
 
 /// Where a text stands among those of ascending paths, or where it would stand, by binary search.
 pub fn place_of<L: Listed>(items: &[L], text: &[u8]) -> Result<usize, usize>
-    requires { IsAscendingBy bytes_cmp (texts_of (map L.path_in items.now)) }
+    requires { IsAscending (texts_of (map L.path_in items.now)) }
     ensures { IsPlace (texts_of (map L.path_in items.now)) text.now result }
 {
     let mut low = 0;
@@ -101,7 +101,7 @@ pub fn place_of<L: Listed>(items: &[L], text: &[u8]) -> Result<usize, usize>
 
 /// Whether a path of ascending ones has this text, by binary search.
 pub(crate) fn has_text<L: Listed>(items: &[L], text: &[u8]) -> bool
-    requires { IsAscendingBy bytes_cmp (texts_of (map L.path_in items.now)) }
+    requires { IsAscending (texts_of (map L.path_in items.now)) }
     ensures { result ≡ has_name (texts_of (map L.path_in items.now)) text.now }
 {
     place_of(items, text).is_ok()
@@ -109,7 +109,7 @@ pub(crate) fn has_text<L: Listed>(items: &[L], text: &[u8]) -> bool
 
 /// Whether the path of this text lies under one of ascending ones.
 pub fn lies_under_some<L: Listed>(text: &[u8], items: &[L]) -> bool
-    requires { IsAscendingBy bytes_cmp (texts_of (map L.path_in items.now)) }
+    requires { IsAscending (texts_of (map L.path_in items.now)) }
     ensures { result ≡ lies_under_some (texts_of (map L.path_in items.now)) text.now }
 {
     for (index, byte) in text.iter().enumerate() {
@@ -122,7 +122,7 @@ pub fn lies_under_some<L: Listed>(text: &[u8], items: &[L]) -> bool
 
 /// Whether a path lies under one of the others, which ascend.
 pub(crate) fn some_under<L: Listed, M: Listed>(items: &[L], others: &[M]) -> bool
-    requires { IsAscendingBy bytes_cmp (texts_of (map M.path_in others.now)) }
+    requires { IsAscending (texts_of (map M.path_in others.now)) }
     ensures { result
         ≡ some_under (texts_of (map L.path_in items.now)) (texts_of (map M.path_in others.now)) }
 {
@@ -136,7 +136,7 @@ pub(crate) fn some_under<L: Listed, M: Listed>(items: &[L], others: &[M]) -> boo
 
 /// Whether a path is one of the others, which ascend.
 fn some_shared<L: Listed, M: Listed>(items: &[L], others: &[M]) -> bool
-    requires { IsAscendingBy bytes_cmp (texts_of (map M.path_in others.now)) }
+    requires { IsAscending (texts_of (map M.path_in others.now)) }
     ensures { result
         ≡ share_name (texts_of (map L.path_in items.now)) (texts_of (map M.path_in others.now)) }
 {
@@ -150,8 +150,8 @@ fn some_shared<L: Listed, M: Listed>(items: &[L], others: &[M]) -> bool
 
 /// Whether a path of one ascending list overlaps one of another.
 pub(crate) fn some_cross<L: Listed, M: Listed>(items: &[L], others: &[M]) -> bool
-    requires items { IsAscendingBy bytes_cmp (texts_of (map L.path_in items.now)) }
-    requires others { IsAscendingBy bytes_cmp (texts_of (map M.path_in others.now)) }
+    requires items { IsAscending (texts_of (map L.path_in items.now)) }
+    requires others { IsAscending (texts_of (map M.path_in others.now)) }
     ensures { result
         ≡ some_cross (texts_of (map L.path_in items.now)) (texts_of (map M.path_in others.now)) }
 {

@@ -1,4 +1,5 @@
 ghost use Rattle.std.specs.Prelude.{◌≡◌, ◌≤◌, ◌<◌, ◌+◌, ◌++◌, None, IsOk, OnOk, option_map};
+ghost use Rattle.wire.specs.Record.{IsFieldNumber};
 ghost use Rattle.wire.specs.Spelling.{spelling};
 ghost use Rattle.canonical.specs.Fields.{bytes_field, message_field};
 ghost use Rattle.messages.specs.DigestMessage.{digest_bytes};
@@ -68,8 +69,7 @@ fn write_digest<A: Allocator + Copy>(
     number: u32,
     digest: Option<Digest>,
 ) -> Result<(), AllocError>
-    requires at_least { 1 ≤ number }
-    requires at_most { number ≤ 536870911 }
+    requires number { IsFieldNumber number }
     ensures appended { OnOk result
         (out.new.items
         ≡ out.old.items ++ spelling (message_field number (option_map digest_bytes digest))) }

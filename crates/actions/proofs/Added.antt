@@ -8,7 +8,8 @@ use Rattle.messages.specs.Path.{IsPath}
 use Rattle.actions.specs.declared.outcome.Output.{Output}
 use Rattle.action_messages.specs.Ascending.{IsAscendingBy}
 use Rattle.action_messages.specs.Overlaps.{ArePathsApart, texts_of}
-use Rattle.actions.specs.Outcome.{OutcomeValue, IsOutcome, AddsOutput, HasRoom, LeavesNoRoom, output_value, outputs_in, paths_of_outputs}
+use Rattle.actions.specs.Outcome.{OutcomeValue, IsOutcome, AddsOutput, LeavesNoRoom, output_value, outputs_in, paths_of_outputs}
+use Rattle.actions.specs.Parts.{HasRoom}
 use Rattle.actions.proofs.OutcomeLookups.{paths_in, same_paths, paths_of}
 
 module _ {A : Type 0} where

@@ -15,7 +15,8 @@ use Rattle.actions.specs.declared.outcome.Output.TheVariants.{File, Link, Tree}
 use Rattle.action_messages.specs.Ascending.{IsAscendingBy}
 use Rattle.action_messages.specs.Overlaps.{texts_of}
 use Rattle.actions.specs.Outcome.{OutcomeValue, IsOutcome, output_value, outputs_in, paths_of_outputs}
-use Rattle.actions.specs.OutcomeLookup.{StandsOver, LooksBelow, LooksIn, names_left, within_output, LiesWithin, TakesMemory, LooksWithMemory}
+use Rattle.actions.specs.OutcomeLookup.{StandsOver, LooksBelow, LooksIn, within_output, LiesWithin, TakesMemory, LooksWithMemory}
+use Rattle.actions.specs.Parts.{names_left}
 use Rattle.actions.proofs.TreeLookups.{holds_mapped, some_part}
 
 module _ {A : Type 0} where

@@ -8,7 +8,8 @@ use Rattle.messages.specs.Path.{IsPath, LiesUnder, parts_of, path_text}
 use Rattle.messages.proofs.Orders.{has_none}
 use Rattle.messages.proofs.Paths.{parts-seam, parts_of_path}
 use Rattle.action_messages.specs.Overlaps.{IsPlace, lies_under_some, texts_of}
-use Rattle.actions.specs.OutcomeLookup.{StandsOver, IsOver}
+use Rattle.actions.specs.OutcomeLookup.{StandsOver}
+use Rattle.actions.specs.Parts.{IsOver}
 use Rattle.action_messages.proofs.Searches.{cut, under_not_found}
 use Rattle.action_messages.proofs.Places.{place_test}
 use Rattle.action_messages.proofs.Apart.{ArePaths, row_none}

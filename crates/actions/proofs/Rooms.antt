@@ -18,7 +18,7 @@ use Rattle.messages.proofs.Orders.{flipped}
 use Rattle.messages.proofs.Paths.{parts_of_path}
 use Rattle.action_messages.specs.Ascending.{IsAscendingBy}
 use Rattle.action_messages.specs.Overlaps.{ArePathsApart, IsPlace, is_under, lies_under_some, texts_of}
-use Rattle.actions.specs.Outcome.{HasRoom}
+use Rattle.actions.specs.Parts.{HasRoom}
 use Rattle.action_messages.proofs.Apart.{Apart, ArePaths, weaker, row_none, text_under, under_text, apart_of}
 use Rattle.actions.proofs.Outcomes.{apart_back}
 use Rattle.actions.proofs.PathLookups.{path_at, not_listed, row_same}

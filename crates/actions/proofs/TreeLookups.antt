@@ -25,7 +25,8 @@ use Rattle.tree.specs.Lookup.{Looked, nothing, looked, LooksFrom}
 use Rattle.tree.specs.Merging.{in_tree, IsHeldIn}
 use Rattle.tree.proofs.Children.{child_value}
 use Rattle.actions.specs.declared.outcome.Output.TheVariants as outputs
-use Rattle.actions.specs.OutcomeLookup.{IsFirstChild, NoFault, IsChildOf, LooksUnder, NamesLink, TakesMemory}
+use Rattle.actions.specs.OutcomeLookup.{IsFirstChild, NoFault, NamesLink, TakesMemory}
+use Rattle.actions.specs.Parts.{IsChildOf, LooksUnder}
 
 -- ---- what lists hold
 

@@ -2,3 +2,4 @@ pub mod Outcome
 pub mod OutcomeLookup
 pub mod Recorded
 pub mod LooksAt
+pub mod Parts

@@ -1,8 +1,8 @@
 -- What an action comes to, by digests: an exit code, and files, symbolic links and whole
 -- directories at output paths.
-use Rattle.std.specs.Prelude.{◌≡◌, ℕ, ◌≤◌, ℤ, length, Option, Some, None, List, ◌∷◌, ◌++◌, map}
+use Rattle.std.specs.Prelude.{◌≡◌, ℕ, ℤ, List, ◌∷◌, ◌++◌, map}
 use Rattle.std.specs.Prelude.{Contains}
-use Rattle.std.specs.List.{AllByRecursion, insert}
+use Rattle.std.specs.List.{AllByRecursion}
 use Rattle.blob_digest.specs.Digest.{digest_of}
 use Rattle.messages.specs.Order.{bytes_cmp}
 use Rattle.messages.specs.Path.{IsPath, Overlap as OverlapEachOther}
@@ -81,15 +81,3 @@ LeavesNoRoom o path =
 abbrev pub ExplainsAdd : {A : Type 0} → OutcomeValue → List (List ℕ) → AddError A → Type 0
 ExplainsAdd o path (Overlap p) = (p ≡ path) × LeavesNoRoom o path
 ExplainsAdd o path Memory = Unit {0}
-
--- ---- what the private functions that add speak of
-
--- where a path would stand among others by the order of the texts, or that one of them leaves no
--- room for it
-abbrev pub HasRoom : List (List (List ℕ)) → List (List ℕ) → Option ℕ → Type 0
-HasRoom paths path None =
-    (other : List (List ℕ)) × Contains paths other × OverlapEachOther other path
-HasRoom paths path (Some place) =
-    (place ≤ length paths) × AllByRecursion IsPath (insert paths place path)
-    × IsAscendingBy bytes_cmp (texts_of (insert paths place path))
-    × ArePathsApart (insert paths place path)

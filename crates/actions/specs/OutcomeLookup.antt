@@ -1,21 +1,16 @@
 -- Looking up a path in an outcome: at an output's path, or below that of a whole directory.
-use Rattle.std.specs.Prelude.{slice_get, Option, Some, None, ◌≡◌, ◌≢◌, ◌⊎◌, ℕ, List, [], ◌∷◌, ◌++◌}
+use Rattle.std.specs.Prelude.{◌≡◌, ◌≢◌, ◌⊎◌, ℕ, List, [], ◌∷◌, ◌++◌}
 use Rattle.std.specs.Prelude.{Contains}
-use Rattle.std.specs.Borrow.{Bor}
 use Rattle.std.specs.List.{AllByRecursion}
 use Rattle.blob_digest.specs.Digest.{DigestValue, digest_of}
 use Rattle.messages.specs.DirectoryRules.{DirectoryValue, symlink_names}
 use Rattle.messages.specs.Directory.{directory_bytes}
-use Rattle.messages.specs.Path.{parts_of}
-use Rattle.messages.specs.declared.node.Node.{Node}
-use Rattle.messages.specs.declared.node.Node.TheVariants.{Dir}
-use Rattle.messages.specs.Tree.{TreeValue, child_digests}
+use Rattle.messages.specs.Tree.{TreeValue}
 use Rattle.messages.specs.Node.{child}
 use Rattle.blob_source.specs.Told.{Fault}
 use Rattle.tree.specs.Lookup.{Looked, nothing, found, LooksFrom}
 use Rattle.tree.specs.Merging.{WithinValue, in_source, in_tree}
 use Rattle.actions.specs.declared.outcome.Output.TheVariants.{File, Link, Tree}
-use Rattle.actions.specs.declared.looking_up.Over.{Over}
 use Rattle.actions.specs.Outcome.{OutputValue, OutcomeValue, output_node, tree_node}
 
 -- the first of the directories below a tree's root whose encoding has the digest
@@ -82,27 +77,3 @@ TakesMemory (Tree t) (name ∷ names) = NamesLink t (name ∷ names)
 abbrev pub LooksWithMemory : OutcomeValue → List (List ℕ) → Type 0
 LooksWithMemory o path = (e : List (List ℕ) × OutputValue) × Contains o.outputs e
     × (names : List (List ℕ)) × (path ≡ e.0 ++ names) × TakesMemory e.1 names
-
--- ---- what the private functions of a look-up speak of
-
--- the names of the text that is left of a path, if some is left
-abbrev pub names_left : Option (Bor (List ℕ)) → List (List ℕ)
-names_left None = []
-names_left (Some text) = parts_of text.now
-
--- where the path at or above another stands, and that what is left of the other comes after its
--- names
-abbrev pub IsOver : List (List (List ℕ)) → List (List ℕ) → Option Over → Type 0
-IsOver paths path None = AllByRecursion (λ above. ¬ StandsOver above path) paths
-IsOver paths path (Some over) =
-    (above : List (List ℕ)) × (slice_get paths over.place ≡ Some above)
-    × (path ≡ above ++ names_left over.below)
-
--- what stands below a directory of a tree, name by name
-abbrev pub LooksUnder : TreeValue → DirectoryValue → List (List ℕ) → Looked → Type 0
-LooksUnder t m [] r = ⊥
-LooksUnder t m (name ∷ names) r = LooksFrom (IsFirstChild t) NoFault names (child name m) r
-
--- a node that is a directory has the digest of one of the tree's children
-abbrev pub IsChildOf : {A : Type 0} → TreeValue → Node A → Type 0
-IsChildOf t node = (digest : DigestValue) → node ≡ Dir digest → Contains (child_digests t) digest

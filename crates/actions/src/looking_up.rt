@@ -11,10 +11,10 @@ ghost use Rattle.action_messages.specs.Ascending.{IsAscendingBy};
 ghost use Rattle.action_messages.specs.Overlaps.{texts_of};
 ghost use Rattle.actions.specs.Outcome.{output_value};
 ghost use Rattle.actions.specs.declared.outcome.Output.TheVariants as outputs;
-ghost use Rattle.actions.specs.OutcomeLookup.{IsFirstChild, LooksInTree, LooksBelow, LooksUnder};
-ghost use Rattle.actions.specs.OutcomeLookup.{LooksIn, LiesWithin, IsOver, IsChildOf};
+ghost use Rattle.actions.specs.OutcomeLookup.{IsFirstChild, LooksInTree, LooksBelow};
+ghost use Rattle.actions.specs.OutcomeLookup.{LooksIn, LiesWithin, within_output};
 ghost use Rattle.actions.specs.OutcomeLookup.{LooksWithMemory, NamesLink, TakesMemory};
-ghost use Rattle.actions.specs.OutcomeLookup.{within_output, names_left};
+ghost use Rattle.actions.specs.Parts.{IsChildOf, IsOver, LooksUnder, names_left};
 
 use crate::outcome::{Outcome, Output};
 use action_messages::{Listed, place_of};

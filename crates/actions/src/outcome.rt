@@ -4,9 +4,10 @@ ghost use Rattle.messages.specs.Order.{bytes_cmp};
 ghost use Rattle.messages.specs.Path.{IsPath};
 ghost use Rattle.action_messages.specs.Ascending.{IsAscendingBy};
 ghost use Rattle.action_messages.specs.Overlaps.{ArePathsApart, is_under, texts_of};
-ghost use Rattle.actions.specs.Outcome.{IsOutcome, AddsOutput, ExplainsAdd, HasRoom, output_value};
+ghost use Rattle.actions.specs.Outcome.{IsOutcome, AddsOutput, ExplainsAdd, output_value};
 ghost use Rattle.actions.specs.Outcome.{outputs_in};
 ghost use Rattle.actions.specs.OutcomeLookup.{StandsOver};
+ghost use Rattle.actions.specs.Parts.{HasRoom};
 
 use action_messages::{Listed, lies_under_some, place_of};
 use blob_digest::Digest;

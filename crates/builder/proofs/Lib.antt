@@ -4,4 +4,5 @@ pub mod Within
 mod Failing
 mod Staying
 mod AsRun
+mod TwoStepsOpened
 mod TwoStepsRuns

@@ -1,20 +1,22 @@
 -- That a build ran, and what is told of it; and where each step has finished there is a record.
-use Rattle.std.proofs.Common.{◌≡◌, ℕ, List, [], ◌∷◌, Option, Some, None, Result, refl, ap, subst, inr, ◌∙◌}
+use Rattle.std.proofs.Common.{◌≡◌, ◌≤◌, ◌+◌, ℕ, ◌*◌, arith, List, [], ◌∷◌, length, Option, Some, None, Result, refl, ap, subst, inr, ◌∙◌}
 use Rattle.std.specs.Prelude.{IsSome, option_map}
 use Rattle.std.specs.List.{AllByRecursion}
 use Rattle.std.specs.Result.{IsErrAnd}
 use Rattle.std.proofs.lemmas.Result.{err_from_is_err_and}
 use Rattle.blob_digest.specs.Digest.{DigestValue}
-use Rattle.blob_source.specs.Source.{AsksSome, Telling}
+use Rattle.blob_source.specs.Source.{Asks, AsksSome, Telling}
 use Rattle.plan.specs.Record.{RecordValue, names_of}
 use Rattle.plan.specs.Values.{PlanValue}
 use Rattle.runs.specs.Calls.{HaveAllFinished, IsOpened, kept_digests, recorded_build}
 use Rattle.runs.specs.Engine.{FinishedValue, EngineValue}
+use Rattle.tree.specs.Memo.{Asked, Covers, Known, KnowsNothing, Learns}
+use Rattle.tree.proofs.Learning.{nothing_known}
 use Rattle.worker.specs.Calls.{running, IsBuiltWith}
 use Rattle.worker.specs.Outcomes.{Yields}
 use Rattle.worker.specs.Watching.{IsProgress, IsWatched}
 use Rattle.worker.proofs.Acts.{led_same, puts_act}
-use Rattle.builder.specs.Built.{Builds, BuiltValue, Ran, Seen}
+use Rattle.builder.specs.Built.{AsksRootOnce, Builds, BuiltValue, Ran, Seen}
 use Rattle.builder.specs.Telling.{CanBeTold, IsBuildTold}
 use Rattle.builder.specs.declared.error.BuildPlanError.{BuildPlanError}
 use Rattle.builder.specs.declared.error.BuildPlanError.TheVariants as errors
@@ -26,9 +28,9 @@ use Rattle.builder.specs.declared.fault.Place.{Place}
 use Rattle.builder.specs.declared.telling.Told.{Told}
 use Rattle.builder.proofs.Serving.{none_finished}
 
-abbrev pub ran_by : (A : Type 0) (y : Yields) (most : ℕ) (plan : PlanValue) (sources : DigestValue) (old new : Seen) (opening ending : Telling) (first last : EngineValue) → AsksSome old.store opening → IsOpened opening.blobs plan sources first
-    → (led : IsBuiltWith A y old.started new.started opening ending most first last) → IsWatched (IsProgress A y ending most first led.built.led.calls) old.heard new.heard → AsksSome ending new.store → Ran A y most plan sources old new first last
-ran_by A y most plan sources old new opening ending first last asked opened led watched later =
+abbrev pub ran_by : (A : Type 0) (y : Yields) (most : ℕ) (plan : PlanValue) (sources : DigestValue) (old new : Seen) (opening ending : Telling) (first last : EngineValue) → Asks (2 * length plan.steps) old.store opening → IsOpened opening.blobs plan sources first
+    → (led : IsBuiltWith A y old.started new.started opening ending most first last) → IsWatched (IsProgress A y ending most first led.built.led.calls) old.heard new.heard → AsksSome ending new.store → AsksRootOnce last ending new.store → Ran A y most plan sources old new first last
+ran_by A y most plan sources old new opening ending first last asked opened led watched later once =
     let same = led_same A y ending most led.built.led in
     record {
       opening = opening;
@@ -41,6 +43,7 @@ ran_by A y most plan sources old new opening ending first last asked opened led 
       own = puts_act A y ending most opening first last led.built (none_finished first opened.none_finished) (ap running opened.none_runs);
       watched = watched;
       later = later;
+      once = once;
     }
 
 -- memory ran out as it was told
@@ -67,3 +70,8 @@ none_recorded e all none =
     let kept = kept_all e.finished all in
     let there = none ∙ ap (option_map {U = RecordValue} (λ ds. record { names = names_of e.plan; digests = ds })) kept.1 in
     cc
+
+-- what is asked for the root, by a memo that knew nothing
+pub root_once : {Looks : Asked → Type 0} {refused : Type 0} {known after : Known} {old new : Telling} → KnowsNothing known → Learns Looks refused known after old new
+    → (list : List Asked) → Covers Looks list → new.calls ≤ old.calls + length list
+root_once nothing learns list covers = let all = nothing_known nothing list in let few = learns.once list covers in omega (arith, all, few)

@@ -17,7 +17,7 @@ use Rattle.verifier.specs.TwoSteps as two
 use Rattle.verifier.proofs.FreshRuns.{found_one, kept_rest, one_answer}
 use Rattle.verifier.proofs.TwoSteps.{sources_named, fits, table_valid}
 use Rattle.verifier.proofs.TwoStepsRun.{gen_digest, use_digest}
-use Rattle.verifier.proofs.TwoStepsBlobs.{all_blobs, none_clash, kept_one, in_tree, of_nothing, of_gen, of_uses, made_by_gen, made_by_uses, of_meaning}
+use Rattle.verifier.proofs.TwoStepsBlobs.{all_blobs, none_clash, in_tree, of_nothing, of_gen, of_uses, made_by_gen, made_by_uses, of_meaning}
 use Rattle.runs.specs.Engine.{FinishedValue, finished_in}
 use Rattle.runs.specs.Mirrors.{IsFormOf, IsConcernedIn}
 use Rattle.runs.specs.TwoSteps as example
@@ -25,6 +25,8 @@ use Rattle.runs.proofs.TwoStepsServed.{in_engine, gen_form, use_form}
 use Rattle.worker.specs.Stored.{IsToldOrTree}
 use Rattle.worker.specs.TwoSteps as worked
 use Rattle.builder.specs.AsRun.{FinishedWith, IsAbout}
+use Rattle.builder.specs.TwoSteps as store
+use Rattle.builder.proofs.TwoStepsOpened.{kept_value, tree_value}
 
 -- ---- what holds in each state
 
@@ -146,9 +148,9 @@ of_events b s (e ∷ es) end own (obeys, mid, at, rest) (inr (next, is, h)) =
     let same : next ≡ mid = cc in
     of_events b mid es end (own_mid s mid e own obeys at) rest (subst (λ (s : State). IsBlobOfEvents two.plan two.meaning two.tree s es b) same h)
 
-concerned : (b : List ℕ) (es : List Event) (s : State) → IsRun two.table two.plan two.meaning two.tree opening es s → IsConcernedIn two.blobs worked.last two.meaning two.tree es b → Contains all_blobs b
-concerned b es s run (inl (inl (inl v))) = kept_one b v
-concerned b es s run (inl (inl (inr h))) = in_tree b h
+concerned : (b : List ℕ) (es : List Event) (s : State) → IsRun two.table two.plan two.meaning two.tree opening es s → IsConcernedIn store.telling.blobs worked.last two.meaning two.tree es b → Contains all_blobs b
+concerned b es s run (inl (inl (inl v))) = kept_value b v
+concerned b es s run (inl (inl (inr h))) = tree_value b h
 concerned b es s run (inl (inr (inl (inl h)))) = of_nothing b h
 concerned b es s run (inl (inr (inl (inr h)))) = of_meaning b h
 concerned b es s run (inl (inr (inr (inl (pair, (k, lt, e), h))))) = absurd (omega (arith, lt))
@@ -183,7 +185,7 @@ says job w (inr is) v h = subst (λ (j : ℕ × ActionMeaning). (o : Outcome) ×
 
 -- ---- the build is about this
 
-pub is_about : IsAbout two.plan two.sources two.blobs worked.calls worked.last two.tree two.meaning two.table
+pub is_about : IsAbout two.plan two.sources store.telling.blobs worked.calls worked.last two.tree two.meaning two.table
 is_about = record {
   ordered = tt;
   root_is = sources_named;
@@ -193,8 +195,8 @@ is_about = record {
   apart = λ es s run x y c d e. none_clash x y (concerned x es s run c) (concerned y es s run d) e;
 }
 
-told_or_tree : (b : List ℕ) → IsToldOrTree two.blobs worked.last b → Contains all_blobs b
-told_or_tree b (inl v) = kept_one b v
+told_or_tree : (b : List ℕ) → IsToldOrTree store.telling.blobs worked.last b → Contains all_blobs b
+told_or_tree b (inl v) = kept_value b v
 told_or_tree b (inr (i, f, at, (p, t, inside, is))) = by i f at inside
   where
     by : (i : ℕ) (f : FinishedValue) → finished_in i example.engine ≡ Some f → Contains f.outcome.outputs (p, outputs.Tree t) → Contains all_blobs b
@@ -213,5 +215,5 @@ told_or_tree b (inr (i, f, at, (p, t, inside, is))) = by i f at inside
         none (suc k, lt, e) = omega (arith, lt)
     by (suc (suc i)) f at inside = absurd cc
 
-pub apart_stored : NoClash (IsToldOrTree two.blobs worked.last)
+pub apart_stored : NoClash (IsToldOrTree store.telling.blobs worked.last)
 apart_stored x y c d e = none_clash x y (told_or_tree x c) (told_or_tree y d) e

@@ -32,13 +32,14 @@ module _ {A : Type 0} (z y : Yields) (most : ℕ) (plan : PlanValue) (sources : 
         own = r.own;
         watched = record { told = []; heard = tt; each = tt };
         later = r.later;
+        once = r.once;
       }
 
   builds_within : (came : Result BuiltValue (BuildPlanError A)) → Builds A z most plan sources old new came → Builds A y most plan sources (store_alone old.store) (store_alone new.store) came
-  builds_within (Ok b) (first, last, r, h) = (first, last, ran_within first last r, record { end = h.end; stored = h.stored; answered = h.answered; heard = tt; unfailed = refl })
+  builds_within (Ok b) (first, last, r, h) = (first, last, ran_within first last r, record { turns = h.turns; end = h.end; stored = h.stored; answered = h.answered; heard = tt; unfailed = refl })
   builds_within (Err (Opening error)) h = record { asked = h.asked; stands = h.stands; none = λ before k. tt; unfailed = refl; unheard = refl }
   builds_within (Err (Step error)) (first, last, r, h) = (first, last, ran_within first last r, refused_within A z y new.store within h)
-  builds_within (Err (Root error)) (first, last, r, h) = (first, last, ran_within first last r, record { complete = h.complete; stands = h.stands; unfailed = refl })
+  builds_within (Err (Root error)) (first, last, r, h) = (first, last, ran_within first last r, record { turns = h.turns; complete = h.complete; stands = h.stands; unfailed = refl })
 
   pub told_within : (told : Result (Told A) (BuildPlanError A)) → IsBuildTold z most plan sources old new told → IsBuildTold y most plan sources (store_alone old.store) (store_alone new.store) told
   told_within told h = record { came = h.came; builds = builds_within h.came h.builds; tells = h.tells }

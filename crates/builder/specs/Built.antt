@@ -1,26 +1,30 @@
 -- What a build came to.
-use Rattle.std.specs.Prelude.{◌≡◌, ◌<◌, ℕ, List, length, Option, Some, None, Result, Ok, Err}
+use Rattle.std.specs.Prelude.{◌≡◌, ◌+◌, ◌*◌, ◌<◌, ◌≤◌, ℕ, List, length, Option, Some, None, Result}
+use Rattle.std.specs.Prelude.{Ok, Err}
 use Rattle.std.specs.Result.{IsErrAnd}
 use Rattle.std.specs.List.{AllByRecursion}
 use Rattle.blob_digest.specs.Digest.{DigestValue, NoClash}
 use Rattle.blob_source.specs.Sink.{KeepsRight}
-use Rattle.blob_source.specs.Source.{AsksSome, Blobs, Telling}
+use Rattle.blob_source.specs.Source.{Asks, AsksSome, Blobs, Telling}
 use Rattle.plan.specs.Record.{RecordValue}
 use Rattle.plan.specs.Values.{PlanValue}
-use Rattle.runs.specs.Calls.{HaveAllFinished, IsOpened, IsOpenFault, IsRootFault, recorded_build}
+use Rattle.runs.specs.Calls.{HaveAllFinished, IsOpened, IsOpenFault, IsRootFault, opening_calls}
+use Rattle.runs.specs.Calls.{recorded_build}
 use Rattle.runs.specs.Engine.{EngineValue}
 use Rattle.runs.specs.Looking.{together_in}
+use Rattle.runs.specs.LooksAt.{RootNeeds}
 use Rattle.runs.specs.Mirrors.{IsMirrored}
 use Rattle.runs.specs.Served.{IsServedYes}
 use Rattle.runs.specs.declared.error.OpenError.{OpenError}
 use Rattle.runs.specs.declared.error.RunsError.{RunsError}
 use Rattle.tree.specs.Folded.{first_visits}
 use Rattle.tree.specs.Form.{NodeValue, root}
+use Rattle.tree.specs.Memo.{Asked, Covers}
 use Rattle.tree.specs.Tree.{Tree, Leaf}
 use Rattle.verifier.specs.Build.{Meaning, ActionMeaning, Outcome, Event, State}
 use Rattle.verifier.specs.Verdict.{IsVerdict}
 use Rattle.verifier.specs.declared.verdict.Verdict.TheVariants.{Yes}
-use Rattle.worker.specs.Calls.{Call, IsBuiltWith}
+use Rattle.worker.specs.Calls.{Call, AreTurns, IsBuiltWith}
 use Rattle.worker.specs.Counted.{Counts}
 use Rattle.worker.specs.Outcomes.{Yields}
 use Rattle.worker.specs.Steps.{IsActionOf}
@@ -67,6 +71,11 @@ pub record IsAnsweredYes (A : Type 0) (told : Telling) (last : EngineValue)
       → IsVerdict {A = A} told last.sources last.plan b.noted.digests b.root
       (Yes b.root (length last.plan.steps))
 
+-- The store is asked at most once for each Directory that the root's lines need.
+abbrev pub AsksRootOnce : EngineValue → Telling → Telling → Type 0
+AsksRootOnce last old new = (list : List Asked) → Covers (RootNeeds new.blobs last) list
+    → new.calls ≤ old.calls + length list
+
 -- All that contracts see of a build's store, runner and watcher: what the store tells; which
 -- children the runner may have started, how many weren't waited for, and how often it failed; and
 -- what the watcher was told.
@@ -92,12 +101,13 @@ store_alone told = seen told (λ children. Unit {0}) 0 0 None
 
 module _ (A : Type 0) (yields : Yields) (most : ℕ) (plan : PlanValue) (sources : DigestValue)
     (old new : Seen) where
-  -- A build of the plan: an engine was opened by what the store told as it was asked, calls led
-  -- from it to another, and then the store was only asked. The children that were started, the
+  -- A build of the plan: an engine was opened by what the store told as it was asked, for a frame
+  -- and a command of each step; calls led from it to another, and then the store was only asked,
+  -- for what the root's lines need. The children that were started, the
   -- results that were put and the numbers that the watcher was told are those of the calls.
   pub record Ran (first last : EngineValue) : Type 0 where
     pub opening : Telling
-    pub asked : AsksSome old.store opening
+    pub asked : Asks (2 * length plan.steps) old.store opening
     pub opened : IsOpened opening.blobs plan sources first
     -- what the store told after the calls
     pub ending : Telling
@@ -109,26 +119,31 @@ module _ (A : Type 0) (yields : Yields) (most : ℕ) (plan : PlanValue) (sources
     pub watched : IsWatched (IsProgress A yields ending most first led.built.led.calls)
         old.heard new.heard
     pub later : AsksSome ending new.store
+    pub once : AsksRootOnce last ending new.store
 
-  -- A build came to its root: each step has finished, and the store has what it came to. The root
-  -- and the record are answered yes by what the store told, and the watcher was told of the end.
+  -- A build came to its root: in turns each step has finished, and the store has what it came to.
+  -- The root and the record are answered yes by what the store told, and the watcher was told of
+  -- the end.
   pub record ReachesRoot (first last : EngineValue) (calls : List Call) (ending : Telling)
       (b : BuiltValue) : Type 0 where
+    pub turns : AreTurns calls
     pub end : IsEnd A last new.store b
     pub stored : IsStored new.store last
     pub answered : IsAnsweredYes A new.store last b
     pub heard : IsUpToDate A yields ending most first last calls old.heard new.heard
     pub unfailed : new.failed ≡ old.failed
 
-  -- each step has finished, and the root is refused
-  pub record RefusesRoot (last : EngineValue) (error : RunsError A) : Type 0 where
+  -- in turns each step has finished, and the root is refused
+  pub record RefusesRoot (last : EngineValue) (calls : List Call) (error : RunsError A)
+      : Type 0 where
+    pub turns : AreTurns calls
     pub complete : HaveAllFinished last
     pub stands : IsRootFault new.store.blobs last error
     pub unfailed : new.failed ≡ old.failed
 
   -- The plan is refused, at its first step without a meaning: the store was only asked.
   pub record RefusesPlan (error : OpenError A) : Type 0 where
-    pub asked : AsksSome old.store new.store
+    pub asked : Asks (opening_calls (length plan.steps) error) old.store new.store
     pub stands : IsOpenFault new.store.blobs plan.steps error
     pub none : StartsNone old.started new.started
     pub unfailed : new.failed ≡ old.failed
@@ -141,7 +156,7 @@ module _ (A : Type 0) (yields : Yields) (most : ℕ) (plan : PlanValue) (sources
   EndsWith first last ran (Err (Opening error)) = ⊥
   EndsWith first last ran (Err (Step error)) = IsRefusedBuild A yields new.store most
       ran.led.built.led.calls first last error.step error.refusal
-  EndsWith first last ran (Err (Root error)) = RefusesRoot last error
+  EndsWith first last ran (Err (Root error)) = RefusesRoot last ran.led.built.led.calls error
 
   -- what came of the plan: it was refused, or one build of it ran and came to this
   abbrev pub Builds : Result BuiltValue (BuildPlanError A) → Type 0
@@ -161,3 +176,10 @@ pub record EndsInOrder {T A : Type 0} (most : ℕ) (old new : Seen)
   pub device : IsErrAnd result (λ e. IsRunnerFailure (fault_of e)) → old.failed < new.failed
   pub alone : most ≡ 1
       → Counts old.failed new.failed (IsErrAnd result (λ e. IsRunnerFailure (fault_of e)))
+
+-- a build came to this answer, as a relation says, and ends in order
+pub record ComesInOrder {T A : Type 0}
+    (Comes : Seen → Seen → Result T (BuildPlanError A) → Type 0) (most : ℕ) (old new : Seen)
+    (result : Result T (BuildPlanError A)) : Type 0 where
+  pub came : Comes old new result
+  pub order : EndsInOrder most old new result

@@ -4,3 +4,4 @@ pub mod Lines
 pub mod Why
 pub mod Telling
 pub mod AsRun
+pub mod TwoSteps

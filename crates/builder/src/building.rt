@@ -1,6 +1,6 @@
 ghost use Rattle.std.specs.Prelude.{◌≡◌, ◌<◌, IfErr, IfOk, IsErrOf};
 ghost use Rattle.blob_source.specs.Called.{Called};
-ghost use Rattle.builder.specs.Built.{Builds, EndsInOrder, IsEnd, seen};
+ghost use Rattle.builder.specs.Built.{AsksRootOnce, Builds, ComesInOrder, IsEnd, seen};
 ghost use Rattle.runs.specs.Calls.{HaveAllFinished, IsRootFault};
 
 use crate::error::BuildPlanError;
@@ -47,6 +47,7 @@ fn end<A: Allocator + Copy, S: BlobSink<A>>(
     ensures refused { IfErr result (IsRootFault (S.tells sink.new).blobs engine.now) }
     ensures called { Called (S.tells sink.old) (S.tells sink.new)
         (IsErrOf result (RunsError.Source TreeError.Fetch)) }
+    ensures once { AsksRootOnce engine.now (S.tells sink.old) (S.tells sink.new) }
 {
     let mut memo = Memo::new(alloc);
     let Folded { root, directories } = engine.root_tree(alloc, &mut memo, sink)?;
@@ -75,12 +76,7 @@ pub fn build_plan<A: Allocator + Copy, S: BlobSink<A>, N: Runner<A>, W: Watcher>
     // One build of the plan ran, from what the store told before, or none was opened: the children,
     // the results and the numbers that the watcher was told are those of its calls. It came to its
     // root, which is answered yes; or the plan, a step or the root is refused, as the error says.
-    ensures build { Builds A (N.yields runner.old) jobs plan.now sources
-        (seen (S.tells sink.old) (N.starts runner.old) (N.alive runner.old)
-        (N.failures runner.old) (W.told watcher.old))
-        (seen (S.tells sink.new) (N.starts runner.new) (N.alive runner.new)
-        (N.failures runner.new) (W.told watcher.new)) result }
-    ensures order { EndsInOrder jobs
+    ensures build { ComesInOrder (Builds A (N.yields runner.old) jobs plan.now sources) jobs
         (seen (S.tells sink.old) (N.starts runner.old) (N.alive runner.old)
         (N.failures runner.old) (W.told watcher.old))
         (seen (S.tells sink.new) (N.starts runner.new) (N.alive runner.new)

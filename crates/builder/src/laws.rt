@@ -3,6 +3,7 @@ ghost use Rattle.blob_digest.specs.Digest.{DigestValue, NoClash};
 ghost use Rattle.blob_source.specs.Sink.{KeepsRight};
 ghost use Rattle.blob_source.specs.Source.{Telling};
 ghost use Rattle.builder.specs.AsRun.{IsAbout, IsARun};
+ghost use Rattle.builder.specs.TwoSteps as store;
 ghost use Rattle.plan.specs.Plan.{IsPlan};
 ghost use Rattle.plan.specs.Values.{PlanValue};
 ghost use Rattle.runs.specs.Calls.{IsOpened};
@@ -31,13 +32,19 @@ pub fn a_build_is_a_run<A: Allocator, N: Runner<A>>(runner: &N)
         → IsARun told.blobs last t meaning X }
 {}
 
-/// The build of two steps meets what is asked of a build: in each of its runs, whatever overlaps,
-/// is lost or repeated, its jobs come to what the table says, and no two different blobs share a
-/// digest. A law: it does nothing.
-pub fn two_steps_meet_the_premises()
-    // for `a_build_is_a_run`
-    ensures about { IsAbout two.plan two.sources two.blobs example.calls example.last two.tree
-        two.meaning two.table }
+/// The premises of what is said of a build can be met together: by the build of two steps, each of
+/// which takes what the store has for its action. In each of its runs, whatever overlaps, is lost
+/// or repeated, its jobs come to what the table says, and no two different blobs share a digest. A
+/// law: it does nothing.
+pub fn two_steps_meet_the_premises<A: Allocator, N: Runner<A>>(alloc: &A, runner: &N)
+    ensures plan { IsPlan two.plan }
+    ensures valid { IsEngine example.first }
+    ensures opened { IsOpened store.telling.blobs two.plan two.sources example.first }
+    ensures still { KeepsRight store.telling.blobs store.telling.blobs }
+    ensures led { (led : IsLed A (N.yields runner.now) store.telling 1 example.first example.last)
+        × (led.calls ≡ example.calls) }
+    ensures about { IsAbout two.plan two.sources store.telling.blobs example.calls example.last
+        two.tree two.meaning two.table }
     // for what its store has
-    ensures apart { NoClash (IsToldOrTree two.blobs example.last) }
+    ensures apart { NoClash (IsToldOrTree store.telling.blobs example.last) }
 {}

@@ -1,5 +1,5 @@
 ghost use Rattle.std.specs.Prelude.{◌≡◌, ◌<◌, IfOk, Ok};
-ghost use Rattle.builder.specs.Built.{EndsInOrder, seen};
+ghost use Rattle.builder.specs.Built.{ComesInOrder, seen};
 ghost use Rattle.builder.specs.Telling.{IsBuildTold, Tells};
 
 use crate::building::{Built, build_plan};
@@ -69,12 +69,7 @@ pub fn tell_build<A: Allocator + Copy, S: BlobSink<A>, N: Runner<A>, W: Watcher>
     // What is told is what came of the plan: the line, the record and the Directories are those of
     // a build that came to its root; or line and words tell the refusal; or the error, which has no
     // number, is the build's own.
-    ensures told { IsBuildTold (N.yields runner.old) jobs plan.now sources.now
-        (seen (S.tells sink.old) (N.starts runner.old) (N.alive runner.old)
-        (N.failures runner.old) (W.told watcher.old))
-        (seen (S.tells sink.new) (N.starts runner.new) (N.alive runner.new)
-        (N.failures runner.new) (W.told watcher.new)) result }
-    ensures order { EndsInOrder jobs
+    ensures told { ComesInOrder (IsBuildTold (N.yields runner.old) jobs plan.now sources.now) jobs
         (seen (S.tells sink.old) (N.starts runner.old) (N.alive runner.old)
         (N.failures runner.old) (W.told watcher.old))
         (seen (S.tells sink.new) (N.starts runner.new) (N.alive runner.new)

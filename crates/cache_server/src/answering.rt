@@ -1,4 +1,4 @@
-ghost use Rattle.std.specs.Prelude.{IfErr, OnOk, [], map};
+ghost use Rattle.std.specs.Prelude.{◌⊎◌, IfErr, OnErr, OnOk, [], map};
 ghost use Rattle.http_core.specs.Event.{event_of};
 ghost use Rattle.cache_server.specs.Connection.{IsFoundBy};
 ghost use Rattle.cache_server.specs.Writing.{StopsTelling, TellsBut};
@@ -45,6 +45,7 @@ pub(crate) fn answer_and_flush<A: Allocator + Copy, W: Outgoing>(
         (W.contents writer.old) (W.contents writer.new) cache.new) }
     ensures fault { IfErr result (IsFoundBy ⊥ (W.broken writer.new)) }
     ensures flushed { OnOk result (W.flushed writer.old → W.flushed writer.new) }
+    ensures sent_on { OnErr result (W.broken writer.new ⊎ W.flushed writer.new) }
 {
     if events.is_empty() {
         return Ok(());

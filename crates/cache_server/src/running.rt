@@ -1,4 +1,4 @@
-ghost use Rattle.std.specs.Prelude.{◌≡◌, ◌<◌, ◌≤◌, length, take, IfOk, IfErr, OnErr, OnOk};
+ghost use Rattle.std.specs.Prelude.{◌≡◌, ◌<◌, ◌≤◌, ◌⊎◌, length, take, IfOk, IfErr, OnErr, OnOk};
 ghost use Rattle.std.specs.Io.KnownBytes.{Consumes, IsAtEnd, Keeps};
 ghost use Rattle.cache_server.specs.Connection.{BreaksOff, IsFoundBy, Runs};
 
@@ -30,7 +30,10 @@ pub fn run<A: Allocator + Copy, R: Incoming, W: Outgoing>(
         (R.remaining reader.old) (R.remaining reader.new)
         (W.contents writer.old) (W.contents writer.new) cache.new) }
     ensures faults { IfErr result (IsFoundBy (R.broken reader.new) (W.broken writer.new)) }
+    // Nothing is held back, if nothing was before; after a fault so it is unless the writer failed.
     ensures flushed { OnOk result (W.flushed writer.old → W.flushed writer.new) }
+    ensures sent_on { OnErr result
+        (W.broken writer.new ⊎ (W.flushed writer.old → W.flushed writer.new)) }
 {
     let mut session = Session::new(alloc, prefix)?;
     let mut buffer = [0; PIECE];

@@ -3,6 +3,7 @@ use Rattle.std.proofs.Common.{◌≡◌, ℕ, zero, suc, ◌+◌, ◌<◌, ◌�
 use Rattle.std.specs.List.{AllByRecursion}
 use Rattle.std.specs.List.Sorted.{IsStrictlyIncreasing}
 use Rattle.std.proofs.lemmas.Bool.{ltb-true, ltb-false}
+use Rattle.wire.specs.Record.{IsFieldNumber}
 use Rattle.canonical.specs.declared.shape.Entry.{Entry}
 use Rattle.canonical.specs.Shape.{is_ascending_past, is_shape}
 
@@ -11,9 +12,8 @@ abbrev pub Ascends : ℕ → List Entry → Type 0
 Ascends n [] = Unit {0}
 Ascends n (entry ∷ entries) = (n < entry.number) × Ascends entry.number entries
 
-pub record IsNumbered (entry : Entry) : Type 0 where
-  pub least : 1 ≤ entry.number
-  pub most : entry.number ≤ 536870911
+abbrev pub IsNumbered : Entry → Type 0
+IsNumbered entry = IsFieldNumber entry.number
 
 pub and_first : (a b : Bool) → (a && b) ≡ true → a ≡ true
 and_first true b h = refl
@@ -51,17 +51,10 @@ ascends entries h = ascends_in 0 entries h
 
 numbered_in : (n : ℕ) (entries : List Entry) → is_ascending_past n entries ≡ true → AllByRecursion IsNumbered entries
 numbered_in n [] h = tt
-numbered_in n (entry ∷ entries) h = let s = steps n entry entries h in let above = s.above in (record { least = omega arith; most = s.most }, numbered_in entry.number entries s.rest)
+numbered_in n (entry ∷ entries) h = let s = steps n entry entries h in let above = s.above in ((omega arith, s.most), numbered_in entry.number entries s.rest)
 
 pub numbered : (entries : List Entry) → is_shape entries ≡ true → AllByRecursion IsNumbered entries
 numbered entries h = numbered_in 0 entries h
-
-range_in : (entries : List Entry) → AllByRecursion IsNumbered entries → AllByRecursion (λ e. (1 ≤ e.number) × (e.number ≤ 536870911)) entries
-range_in [] num = tt
-range_in (entry ∷ entries) num = ((num.0.least, num.0.most), range_in entries num.1)
-
-pub in_range : (entries : List Entry) → is_shape entries ≡ true → AllByRecursion (λ e. (1 ≤ e.number) × (e.number ≤ 536870911)) entries
-in_range entries h = range_in entries (numbered entries h)
 
 pub increasing : (n : ℕ) (entries : List Entry) → Ascends n entries → IsStrictlyIncreasing (map (λ e. e.number) entries)
 increasing n [] asc k lt = absurd (omega arith)

@@ -14,7 +14,7 @@ use Rattle.wire.specs.Reading.{any_fields_of}
 use Rattle.wire.specs.Record.{Record, records_of}
 use Rattle.wire.specs.Steps.{◌>>=◌}
 use Rattle.wire.proofs.AnyLists.{spelled_fields, fields_spelled}
-use Rattle.wire.proofs.Steps.{bind_ok, ok_is}
+use Rattle.wire.proofs.Steps.{bind_ok, ok_is, with_front, with_none, regroup}
 use Rattle.canonical.specs.declared.error.CanonError.{CanonError}
 use Rattle.canonical.specs.declared.error.CanonError.TheVariants as errors
 use Rattle.canonical.specs.declared.shape.Entry.{Entry}
@@ -22,7 +22,7 @@ use Rattle.canonical.specs.Checking.{ChecksUnlessMemory}
 use Rattle.canonical.specs.Known.{SpellsEach, IsFieldOf, is_skipped, AreKnown, any_refusals_of, any_entry_kept, any_kept_if, any_field_kept, any_checked, any_fields_checked}
 use Rattle.canonical.specs.Shape.{shape_entry, has_wire_type, keeps_text}
 use Rattle.std.proofs.Math.ListN.{drop_of_length-le}
-use Rattle.canonical.proofs.Behind.{with_front, with_none, regroup, as_items}
+use Rattle.canonical.proofs.Behind.{as_items}
 use Rattle.canonical.proofs.Columns.{none_holds}
 
 -- ---- the loop

@@ -14,7 +14,8 @@ use Rattle.canonical.specs.declared.error.CanonError.{CanonError}
 use Rattle.canonical.specs.declared.error.CanonError.TheVariants as errors
 use Rattle.canonical.specs.declared.shape.Entry.{Entry}
 use Rattle.canonical.specs.Known.{SpellsEach, AreKnown, GoesOn, any_field_kept, any_checked, any_fields_checked}
-use Rattle.canonical.proofs.Behind.{with_front, with_none, with_first, as_items}
+use Rattle.wire.proofs.Steps.{with_front, with_none, with_first}
+use Rattle.canonical.proofs.Behind.{as_items}
 use Rattle.canonical.proofs.KnownFields.{Items, known_given, as_items_append}
 
 known_front : (entries : List Entry) (skipped : List ℕ) (rs : List Record) (items : Items) → AreKnown entries skipped rs → any_checked entries skipped (as_items rs ++ items) ≡ with_front rs (any_checked entries skipped items)

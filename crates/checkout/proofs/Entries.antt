@@ -1,7 +1,7 @@
 -- What is written, entry by entry.
-use Rattle.std.proofs.Common.{◌≡◌, ℕ, suc, ap, List, [], ◌∷◌, ◌++◌, refl, sym, ◌∙◌, subst, append_assoc, append-nil, arith, length, map, inl, inr}
+use Rattle.std.proofs.Common.{◌≡◌, ℕ, ap, List, [], ◌∷◌, ◌++◌, refl, sym, ◌∙◌, subst, append_assoc, append-nil, arith, length}
 use Rattle.std.proofs.lemmas.List.{map-append}
-use Rattle.std.specs.Prelude.{◌⊎◌, Result, Ok, Err, OnErr, OnOk, IfOk}
+use Rattle.std.specs.Prelude.{Result, Ok, Err, OnErr, OnOk, IfOk}
 use Rattle.blob_digest.specs.Digest.{DigestValue}
 use Rattle.messages.specs.Path.{path_text}
 use Rattle.messages.specs.declared.node.Node.TheVariants.{File, Link, Dir}
@@ -9,13 +9,17 @@ use Rattle.blob_source.specs.Source.{Blobs, Grows}
 use Rattle.tree.specs.Tree.{Name, Standing, nothing, a_leaf, a_directory}
 use Rattle.tree.specs.Form.{NodeValue}
 use Rattle.tree.specs.declared.flat_tree.FlatEntry.{FlatEntry}
-use Rattle.tree.specs.FlatTree.{FlatValue, path_values}
+use Rattle.tree.specs.FlatTree.{FlatValue, entry_value, path_values}
+use Rattle.tree.specs.Memo.{Asked}
 use Rattle.tree.proofs.Descent.{under_still}
 use Rattle.checkout.specs.declared.error.CheckoutError.{CheckoutError}
-use Rattle.checkout.specs.Refused.{Refuses, FailsOneEntry, FailsEntries, FailsCheckout, StopsAtRefusal}
-use Rattle.checkout.specs.Folder.{FolderWorks, FolderValue, Written, Tries, WritesTillLast, empty_folder, with_written, IsHad}
+use Rattle.checkout.specs.Refused.{Refuses, FailsOneEntry, FailsEntries, FailsCheckout}
+use Rattle.checkout.specs.Refused.FailsOneEntry.{untried, refused}
+use Rattle.checkout.specs.Refused.FailsCheckout.{in_tree, in_folder, in_entries}
+use Rattle.checkout.specs.Folder.{FolderWorks, FolderValue, Written, Tried, Tries, with_written}
 use Rattle.checkout.specs.Folder.Written.{a_folder, a_file, a_link}
-use Rattle.checkout.specs.Written.{place_below, IsWrittenFor, AreWritten, IsGained, MakesEntry, MakesEntries}
+use Rattle.checkout.specs.Written.{place_below, places_of, IsWrittenFor, AreWritten, IsGained, MakesEntry, MakesEntries, EntryLooksAt, EntriesLookAt}
+use Rattle.checkout.proofs.Telling.{entry_looks}
 
 -- what was told stays told
 pub written_still : {B C : Blobs} → Grows B C → (s : Standing NodeValue) (w : Written) → IsWrittenFor B s w → IsWrittenFor C s w
@@ -43,21 +47,37 @@ one_more B folder [] ws p s w h of = subst (λ vs. AreWritten B folder ((p, s) �
 one_more B folder (e ∷ es) [] p s w h of = absurd h
 one_more B folder (e ∷ es) (v ∷ vs) p s w h of = (h.0, h.1, one_more B folder es vs p s w h.2 of)
 
--- calls, and those after them
-pub tries_none : {W : Type 0} (tried : W → List (List ℕ) → Type 0) (w : W) → Tries tried w w []
+-- ---- calls, and those after them
+
+pub tries_none : {W : Type 0} (tried : W → Tried) (w : W) → Tries tried w w []
 tries_none tried w paths h = subst (tried w) (sym (append-nil paths)) h
 
-pub tries_then : {W : Type 0} (tried : W → List (List ℕ) → Type 0) (old mid new : W) (ps qs : List (List ℕ)) → Tries tried old mid ps → Tries tried mid new qs → Tries tried old new (ps ++ qs)
+pub tries_then : {W : Type 0} (tried : W → Tried) (old mid new : W) (ps qs : List (List ℕ)) → Tries tried old mid ps → Tries tried mid new qs → Tries tried old new (ps ++ qs)
 tries_then tried old mid new ps qs first next paths h = subst (tried new) (append_assoc paths ps qs) (next (paths ++ ps) (first paths h))
 
--- the entries before those that are left are written, each by one call
-pub record SoFar {F : Type 0} (works : FolderWorks F) (tries : List (List ℕ) → Type 0) (B : Blobs) (old now : F) (folder : List ℕ) (all left : FlatValue) : Type 0 where
+one_tried : {A : Type 0} {refuses : Refuses} {tries later : Tried} {B : Blobs} {place : List ℕ} {s : Standing NodeValue} {e : CheckoutError A} → ((more : List (List ℕ)) → tries more → later more)
+    → FailsOneEntry refuses tries B place s e → FailsOneEntry refuses later B place s e
+one_tried by (untried none why) = untried (by [] none) why
+one_tried {place = place} by (refused one why) = refused (by (place ∷ []) one) why
+
+-- ---- the entries before those that are left are written, each by one call
+
+pub record SoFar {F : Type 0} (works : FolderWorks F) (tries : Tried) (B : Blobs) (old now : F) (folder : List ℕ) (all left : FlatValue) : Type 0 where
   pub done : FlatValue
   pub split : all ≡ done ++ left
   pub made : MakesEntries works B old now folder done
-  pub calls : tries (map (λ w. w.0) made.written)
+  pub calls : tries (places_of folder done)
 
-module _ {F W : Type 0} (works : FolderWorks F) (tried : W → List (List ℕ) → Type 0) (first : W) (folder : List ℕ) (all : FlatValue) where
+pub none_left : {X : Type 0} (xs : List X) → length xs ≡ 0 → xs ≡ []
+none_left [] h = refl
+none_left (x ∷ xs) h = absurd (omega (arith, h))
+
+-- those that are left, said otherwise
+left_is : {A F : Type 0} {works : FolderWorks F} {tries : Tried} {B : Blobs} {old now : F} {folder : List ℕ} {all : FlatValue} {es fs : List (List Name × FlatEntry A)}
+    → es ≡ fs → SoFar works tries B old now folder all (path_values es) → SoFar works tries B old now folder all (path_values fs)
+left_is {works = works} {tries} {B} {old} {now} {folder} {all} is so_far = subst (λ es. SoFar works tries B old now folder all (path_values es)) is so_far
+
+module _ {F W : Type 0} (works : FolderWorks F) (tried : W → Tried) (first : W) (folder : List ℕ) (all : FlatValue) where
   pub none_yet : (B : Blobs) (old : F) → SoFar works (Tries tried first first) B old old folder all all
   none_yet B old = record {
     done = [];
@@ -70,87 +90,74 @@ module _ {F W : Type 0} (works : FolderWorks F) (tried : W → List (List ℕ) �
     calls = tries_none tried first;
   }
 
-  pub next_one : {B C : Blobs} (old mid new : F) (before after : W) (p : List Name) (s : Standing NodeValue) (left : FlatValue) (place : List ℕ) → Grows B C
-      → place ≡ place_below folder (path_text p) → SoFar works (Tries tried first before) B old mid folder all ((p, s) ∷ left) → MakesEntry works C mid new place s → Tries tried before after (place ∷ [])
-      → SoFar works (Tries tried first after) C old new folder all left
-  next_one {B} {C} old mid new before after p s left place grows at so_far one call =
+  pub next_one : {A : Type 0} {B C : Blobs} {es left : List (List Name × FlatEntry A)} {p : List Name} {x : FlatEntry A} (old mid new : F) (before after : W) (place : List ℕ) → es ≡ (p, x) ∷ left → Grows B C
+      → place ≡ place_below folder (path_text p) → SoFar works (Tries tried first before) B old mid folder all (path_values es) → MakesEntry works C mid new place (entry_value x) → Tries tried before after (place ∷ [])
+      → SoFar works (Tries tried first after) C old new folder all (path_values left)
+  next_one {B = B} {C} {left = left} {p} {x} old mid new before after place steps grows at yet one call =
+      let s = entry_value x in
+      let so_far = left_is steps yet in
       let ws = so_far.made.written in
+      let done = so_far.done in
       record {
-        done = so_far.done ++ (p, s) ∷ [];
-        split = so_far.split ∙ sym (append_assoc so_far.done ((p, s) ∷ []) left);
+        done = done ++ (p, s) ∷ [];
+        split = so_far.split ∙ sym (append_assoc done ((p, s) ∷ []) (path_values left));
         made = record {
           written = ws ++ (place_below folder (path_text p), one.written) ∷ [];
-          of_entries = one_more C folder so_far.done ws p s one.written (all_still grows folder so_far.done ws so_far.made.of_entries) one.of_entry;
+          of_entries = one_more C folder done ws p s one.written (all_still grows folder done ws so_far.made.of_entries) one.of_entry;
           gains = λ v h.
               subst (λ q. works.has new (record v { written = v.written ++ (ws ++ (q, one.written) ∷ []) })) at
               (subst (λ vs. works.has new (record v { written = vs })) (append_assoc v.written ws ((place, one.written) ∷ []))
               (one.gains (with_written ws v) (so_far.made.gains v h)));
         };
-        calls = subst (Tries tried first after) (ap (λ q. map (λ w. w.0) ws ++ q ∷ []) at ∙ sym (map-append (λ (w : List ℕ × Written). w.0) ws ((place_below folder (path_text p), one.written) ∷ [])))
-            (tries_then tried first before after (map (λ w. w.0) ws) (place ∷ []) so_far.calls call);
+        calls = subst (Tries tried first after)
+            (ap (λ q. places_of folder done ++ q ∷ []) at ∙ sym (map-append (λ (e : List Name × Standing NodeValue). place_below folder (path_text e.0)) done ((p, s) ∷ [])))
+            (tries_then tried first before after (places_of folder done) (place ∷ []) so_far.calls call);
       }
 
   -- the next one isn't written
-  pub next_fails : {B C : Blobs} {A : Type 0} {tries : List (List ℕ) → Type 0} (refuses : Refuses) (old mid : F) (p : List Name) (s : Standing NodeValue) (left : FlatValue) (e : CheckoutError A) → Grows B C
-      → SoFar works tries B old mid folder all ((p, s) ∷ left) → FailsOneEntry refuses C (place_below folder (path_text p)) s e → FailsEntries (IsGained works old) refuses C folder all e
-  next_fails refuses old mid p s left e grows so_far fails = record {
-    done = so_far.done;
-    path = p;
-    standing = s;
-    left = left;
-    whole = so_far.split;
-    written = so_far.made.written;
-    of_done = all_still grows folder so_far.done so_far.made.written so_far.made.of_entries;
-    before = (mid, so_far.made.gains);
-    fails = fails;
-  }
+  pub next_fails : {A : Type 0} {B C : Blobs} {es left : List (List Name × FlatEntry A)} {p : List Name} {x : FlatEntry A} (refuses : Refuses) (old mid : F) (before after : W) (place : List ℕ) (e : CheckoutError A) → es ≡ (p, x) ∷ left → Grows B C
+      → place ≡ place_below folder (path_text p) → SoFar works (Tries tried first before) B old mid folder all (path_values es) → FailsOneEntry refuses (Tries tried before after) C place (entry_value x) e
+      → FailsEntries (IsGained works old) refuses (Tries tried first after) C folder all e
+  next_fails {C = C} {left = left} {p} {x} refuses old mid before after place e steps grows at yet fails =
+      let so_far = left_is steps yet in
+      record {
+        done = so_far.done;
+        path = p;
+        standing = entry_value x;
+        left = path_values left;
+        whole = so_far.split;
+        written = so_far.made.written;
+        of_done = all_still grows folder so_far.done so_far.made.written so_far.made.of_entries;
+        before = (mid, so_far.made.gains);
+        fails = subst (λ q. FailsOneEntry refuses (λ more. Tries tried first after (places_of folder so_far.done ++ more)) C q (entry_value x) e) at
+            (one_tried (λ more. tries_then tried first before after (places_of folder so_far.done) more so_far.calls) fails);
+      }
 
-  -- the calls so far, and after them none, or one more
-  pub no_more : {B : Blobs} (old now : F) (last : W) (left : FlatValue) → SoFar works (Tries tried first last) B old now folder all left → WritesTillLast (IsGained works old) (Tries tried first last)
-  no_more old now last left so_far = record {
-    written = so_far.made.written;
-    holds = (now, so_far.made.gains);
-    last = [];
-    one = omega arith;
-    calls = subst (Tries tried first last) (sym (append-nil (map (λ w. w.0) so_far.made.written))) so_far.calls;
-  }
+  -- it is looked at among all
+  pub next_looked : {A : Type 0} {B : Blobs} {tries : Tried} {old now : F} {es left : List (List Name × FlatEntry A)} {p : List Name} {x : FlatEntry A} → es ≡ (p, x) ∷ left
+      → SoFar works tries B old now folder all (path_values es) → (a : Asked) → EntryLooksAt (entry_value x) a → EntriesLookAt all a
+  next_looked {left = left} {p} {x} steps yet a h =
+      let so_far = left_is steps yet in
+      entry_looks so_far.done (path_values left) p (entry_value x) all a so_far.split h
 
-  pub one_more_call : {B : Blobs} (old now : F) (before after : W) (place : List ℕ) (left : FlatValue) → SoFar works (Tries tried first before) B old now folder all left
-      → Tries tried before after [] ⊎ Tries tried before after (place ∷ []) → WritesTillLast (IsGained works old) (Tries tried first after)
-  one_more_call old now before after place left so_far (inl none) = record {
-    written = so_far.made.written;
-    holds = (now, so_far.made.gains);
-    last = [];
-    one = omega arith;
-    calls = tries_then tried first before after (map (λ w. w.0) so_far.made.written) [] so_far.calls none;
-  }
-  one_more_call old now before after place left so_far (inr call) = record {
-    written = so_far.made.written;
-    holds = (now, so_far.made.gains);
-    last = place ∷ [];
-    one = omega arith;
-    calls = tries_then tried first before after (map (λ w. w.0) so_far.made.written) (place ∷ []) so_far.calls call;
-  }
+  all_is : {B : Blobs} {tries : Tried} {old now : F} (so_far : SoFar works tries B old now folder all []) → so_far.done ≡ all
+  all_is so_far = sym (so_far.split ∙ append-nil so_far.done)
 
-  pub all_done : {B : Blobs} {tries : List (List ℕ) → Type 0} (old now : F) → SoFar works tries B old now folder all [] → MakesEntries works B old now folder all
-  all_done {B} old now so_far = subst (MakesEntries works B old now folder) (sym (so_far.split ∙ append-nil so_far.done)) so_far.made
+  pub all_done : {A : Type 0} {B : Blobs} {tries : Tried} (es : List (List Name × FlatEntry A)) (old now : F) → length es ≡ 0 → SoFar works tries B old now folder all (path_values es) → MakesEntries works B old now folder all
+  all_done {B = B} es old now none yet =
+      let so_far = left_is (none_left es none) yet in
+      subst (MakesEntries works B old now folder) (all_is so_far) so_far.made
 
--- ---- what a folder has when an entry isn't written, said otherwise
+  pub all_tried : {A : Type 0} {B : Blobs} {tries : Tried} (es : List (List Name × FlatEntry A)) (old now : F) → length es ≡ 0 → SoFar works tries B old now folder all (path_values es) → tries (places_of folder all)
+  all_tried {tries = tries} es old now none yet =
+      let so_far = left_is (none_left es none) yet in
+      subst (λ fs. tries (places_of folder fs)) (all_is so_far) so_far.calls
 
--- the calls of the entries, after that which took the folder
-pub stops_after : {F W : Type 0} (works : FolderWorks F) (tried : W → List (List ℕ) → Type 0) (old mid new : W) (taken : F) (path : List ℕ) → Tries tried old mid (path ∷ []) → works.has taken (empty_folder path)
-    → WritesTillLast (IsGained works taken) (Tries tried mid new) → StopsAtRefusal (IsHad works) (Tries tried old new) path
-stops_after works tried old mid new taken path take empty h = inr (inr (record {
-  written = h.written;
-  holds = (h.holds.0, h.holds.1 (empty_folder path) empty);
-  last = h.last;
-  one = h.one;
-  calls = tries_then tried old mid new (path ∷ []) (map (λ w. w.0) h.written ++ h.last) take h.calls;
-}))
+-- ---- what a folder has, and what was tried, when an entry isn't written, said otherwise
 
-pub fails_had : {A : Type 0} {has has' : List (List ℕ × Written) → Type 0} {refuses : Refuses} {B : Blobs} {folder : List ℕ} {es : FlatValue} {e : CheckoutError A}
-    → ((ws : List (List ℕ × Written)) → has ws → has' ws) → FailsEntries has refuses B folder es e → FailsEntries has' refuses B folder es e
-fails_had by h = record {
+pub fails_had : {A : Type 0} {has has' : List (List ℕ × Written) → Type 0} {refuses : Refuses} {tries tries' : Tried} {B : Blobs} {folder : List ℕ} {es : FlatValue} {e : CheckoutError A}
+    → ((ws : List (List ℕ × Written)) → has ws → has' ws) → ((ps : List (List ℕ)) → tries ps → tries' ps) → FailsEntries has refuses tries B folder es e → FailsEntries has' refuses tries' B folder es e
+fails_had {folder = folder} by on h = record {
   done = h.done;
   path = h.path;
   standing = h.standing;
@@ -159,14 +166,16 @@ fails_had by h = record {
   written = h.written;
   of_done = h.of_done;
   before = by h.written h.before;
-  fails = h.fails;
+  fails = one_tried (λ more. on (places_of folder h.done ++ more)) h.fails;
 }
 
-pub checkout_had : {A : Type 0} {has has' : FolderValue → Type 0} {refuses : Refuses} {B : Blobs} {d : DigestValue} {folder : List ℕ} {e : CheckoutError A}
-    → ((v : FolderValue) → has v → has' v) → FailsCheckout has refuses B d folder e → FailsCheckout has' refuses B d folder e
-checkout_had by (inl fails) = inl fails
-checkout_had by (inr (es, told, inl fails)) = inr (es, told, inl fails)
-checkout_had {folder = folder} by (inr (es, told, inr fails)) = inr (es, told, inr (fails_had (λ ws. by (record { path = folder; written = ws })) fails))
+-- and so when a tree isn't written
+pub checkout_had : {A : Type 0} {has has' : FolderValue → Type 0} {refuses : Refuses} {tries tries' : Tried} {B : Blobs} {d : DigestValue} {folder : List ℕ} {e : CheckoutError A}
+    → ((v : FolderValue) → has v → has' v) → ((ps : List (List ℕ)) → tries ps → tries' ps) → FailsCheckout has refuses tries B d folder e → FailsCheckout has' refuses tries' B d folder e
+checkout_had by on (in_tree none why) = in_tree (on [] none) why
+checkout_had {folder = folder} by on (in_folder es told one why) = in_folder es told (on (folder ∷ []) one) why
+checkout_had {folder = folder} by on (in_entries es told fails) =
+    in_entries es told (fails_had (λ ws. by (record { path = folder; written = ws })) (λ ps. on (folder ∷ ps)) fails)
 
 -- what was made, where the call that made it came to a value
 pub where_ok : {T E F : Type 0} {P Q : Type 0} (r : Result T E) (made : Result T F) → IfOk r (λ value. made ≡ Ok value) → OnOk made P → (P → Q) → OnOk r Q
@@ -177,14 +186,6 @@ where_ok (Ok value) (Err e) same h by = absurd (err_is_no_ok e value same)
     err_is_no_ok e value same = cc
 where_ok (Err e) made same h by = tt
 
-pub listed_length : {A : Type 0} (es : List (List Name × FlatEntry A)) → length (path_values es) ≡ length es
-listed_length [] = refl
-listed_length (e ∷ es) = ap (λ n. suc n) (listed_length es)
-
 pub told_anyway : {T E : Type 0} {P : Type 0} (r : Result T E) → P → OnErr r P
 told_anyway (Ok value) p = tt
 told_anyway (Err e) p = p
-
-pub none_left : {X : Type 0} (xs : List X) → length xs ≡ 0 → xs ≡ []
-none_left [] h = refl
-none_left (x ∷ xs) h = absurd (omega (arith, h))

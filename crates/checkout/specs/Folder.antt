@@ -1,5 +1,5 @@
 -- A folder that was empty, and what was written into it since.
-use Rattle.std.specs.Prelude.{ℕ, ◌≤◌, List, [], ◌∷◌, ◌++◌, map, length, Bool}
+use Rattle.std.specs.Prelude.{ℕ, List, [], ◌∷◌, ◌++◌, Bool}
 use Rattle.std.specs.declared.io.Error.{Error}
 
 -- what was written at a path: a folder, a file with its bytes and whether it is a program, or a
@@ -40,18 +40,13 @@ Gains works old new path w =
 
 -- ---- calls, made or refused
 
--- The writer was called for these paths besides, in this order, and for nothing else.
-abbrev pub Tries : {W : Type 0} → (W → List (List ℕ) → Type 0) → W → W → List (List ℕ) → Type 0
-Tries tried old new more = (paths : List (List ℕ)) → tried old paths → tried new (paths ++ more)
+-- for which paths a writer was called, in this order, and for nothing else
+abbrev pub Tried : Type 1
+Tried = List (List ℕ) → Type 0
 
--- Each call wrote one of these things, but for one more call at most, the last.
-pub record WritesTillLast (has : List (List ℕ × Written) → Type 0)
-    (tries : List (List ℕ) → Type 0) : Type 0 where
-  pub written : List (List ℕ × Written)
-  pub holds : has written
-  pub last : List (List ℕ)
-  pub one : length last ≤ 1
-  pub calls : tries (map (λ w. w.0) written ++ last)
+-- for which it was called besides
+abbrev pub Tries : {W : Type 0} → (W → Tried) → W → W → Tried
+Tries tried old new more = (paths : List (List ℕ)) → tried old paths → tried new (paths ++ more)
 
 -- ---- the system
 

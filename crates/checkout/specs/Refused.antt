@@ -15,8 +15,8 @@ use Rattle.tree.specs.Tree.{Name, Standing, a_leaf}
 use Rattle.tree.specs.Form.{NodeValue}
 use Rattle.tree.specs.FlatTree.{FlatValue}
 use Rattle.tree.specs.Unfolded.{IsUnfolded, IsDeep, IsFaultBelow}
-use Rattle.checkout.specs.Folder.{FolderValue, Written, WritesTillLast}
-use Rattle.checkout.specs.Written.{place_below, AreWritten}
+use Rattle.checkout.specs.Folder.{FolderValue, Tried, Written}
+use Rattle.checkout.specs.Written.{AreWritten, place_below, places_of}
 use Rattle.checkout.specs.declared.error.CheckoutError.{CheckoutError}
 use Rattle.checkout.specs.declared.error.CheckoutError.TheVariants.{Missing, Wrong, Malformed}
 use Rattle.checkout.specs.declared.error.CheckoutError.TheVariants.{TooDeep, Fetch, Place, Memory}
@@ -58,23 +58,30 @@ StopsUnfold (trees.Absent path) = ⊥
 StopsUnfold (trees.Conflict path) = ⊥
 StopsUnfold e = Unit {0}
 
--- Why the system made nothing at a path. That memory ran out is told as that.
+-- Why the system made nothing at a path, which it refused. That memory ran out is told as that.
 abbrev pub FailsPlace : {A : Type 0} → Refuses → List ℕ → CheckoutError A → Type 0
 FailsPlace refuses place (Place p fault) = (error_kind fault ≢ OutOfMemory)
     × (string_bytes p ≡ place) × refuses place fault
-FailsPlace refuses place Memory = Unit {0}
+FailsPlace refuses place Memory = (fault : Error) × refuses place fault
 FailsPlace refuses place e = ⊥
 
--- Why an entry isn't written: it is a file whose content isn't had, or the system refuses it there.
-abbrev pub FailsOneEntry : {A : Type 0} → Refuses → Blobs → List ℕ → Standing NodeValue
-    → CheckoutError A → Type 0
-FailsOneEntry refuses B place s e = FailsPlace refuses place e
+-- Why no call is made for an entry: memory ran out, or it is a file whose content isn't had.
+abbrev pub FailsUntried : {A : Type 0} → Blobs → Standing NodeValue → CheckoutError A → Type 0
+FailsUntried B s e = (e ≡ Memory)
     ⊎ ((d : DigestValue) × (x : Bool) × (s ≡ a_leaf (File d x)) × FailsContent B d e)
 
--- Why entries aren't written: one isn't, and those before it are. `has` says what a folder has
--- after these.
+-- Why an entry isn't written: no call is made for it, or the one that is made makes nothing.
+pub data FailsOneEntry {A : Type 0} (refuses : Refuses) (tries : Tried) (B : Blobs)
+    (place : List ℕ) (s : Standing NodeValue) (e : CheckoutError A) : Type 0 where
+  untried : tries [] → FailsUntried B s e → FailsOneEntry refuses tries B place s e
+  refused : tries (place ∷ []) → FailsPlace refuses place e
+      → FailsOneEntry refuses tries B place s e
+
+-- Why entries aren't written: one isn't, and those before it are, by a call each. `has` says what a
+-- folder has after these.
 pub record FailsEntries {A : Type 0} (has : List (List ℕ × Written) → Type 0) (refuses : Refuses)
-    (B : Blobs) (folder : List ℕ) (entries : FlatValue) (e : CheckoutError A) : Type 0 where
+    (tries : Tried) (B : Blobs) (folder : List ℕ) (entries : FlatValue) (e : CheckoutError A)
+    : Type 0 where
   pub done : FlatValue
   pub path : List Name
   pub standing : Standing NodeValue
@@ -83,20 +90,19 @@ pub record FailsEntries {A : Type 0} (has : List (List ℕ × Written) → Type 
   pub written : List (List ℕ × Written)
   pub of_done : AreWritten B folder done written
   pub before : has written
-  pub fails : FailsOneEntry refuses B (place_below folder (path_text path)) standing e
+  pub fails : FailsOneEntry refuses (λ more. tries (places_of folder done ++ more)) B
+      (place_below folder (path_text path)) standing e
 
--- Why the tree under a digest isn't written, the first reason: it isn't had, or the folder isn't
--- taken, or one of the tree's entries isn't written, while the folder has those before it.
-abbrev pub FailsCheckout : {A : Type 0} → (FolderValue → Type 0) → Refuses → Blobs → DigestValue
-    → List ℕ → CheckoutError A → Type 0
-FailsCheckout has refuses B d folder e = FailsTree B d e
-    ⊎ ((entries : FlatValue) × IsUnfolded B d entries
-    × (FailsPlace refuses folder e ⊎ FailsEntries
-    (λ written. has (record { path = folder; written = written })) refuses B folder entries e))
-
--- Nothing is tried after a refusal: there was no call; or one, for the folder; or after that each
--- call wrote one thing, but for one more at most, the last.
-abbrev pub StopsAtRefusal : (FolderValue → Type 0) → (List (List ℕ) → Type 0) → List ℕ → Type 0
-StopsAtRefusal has tries folder = tries [] ⊎ (tries (folder ∷ [])
-    ⊎ WritesTillLast (λ written. has (record { path = folder; written = written }))
-    (λ paths. tries (folder ∷ paths)))
+-- Why the tree under a digest isn't written, the first reason, and what was tried until then: it
+-- isn't had, and nothing was; or the folder isn't taken, and that alone was; or one of the tree's
+-- entries isn't written, while the folder has those before it.
+pub data FailsCheckout {A : Type 0} (has : FolderValue → Type 0) (refuses : Refuses)
+    (tries : Tried) (B : Blobs) (d : DigestValue) (folder : List ℕ) (e : CheckoutError A)
+    : Type 0 where
+  in_tree : tries [] → FailsTree B d e → FailsCheckout has refuses tries B d folder e
+  in_folder : (entries : FlatValue) → IsUnfolded B d entries → tries (folder ∷ [])
+      → FailsPlace refuses folder e → FailsCheckout has refuses tries B d folder e
+  in_entries : (entries : FlatValue) → IsUnfolded B d entries
+      → FailsEntries (λ written. has (record { path = folder; written = written })) refuses
+      (λ more. tries (folder ∷ more)) B folder entries e
+      → FailsCheckout has refuses tries B d folder e

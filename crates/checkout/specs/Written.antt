@@ -1,5 +1,5 @@
 -- What is written of the tree that a source tells.
-use Rattle.std.specs.Prelude.{◌≡◌, ◌⊎◌, ℕ, ◌+◌, ◌≤◌, List, [], ◌∷◌, ◌++◌, length, Contains}
+use Rattle.std.specs.Prelude.{◌≡◌, ◌⊎◌, ℕ, ◌+◌, ◌≤◌, List, [], ◌∷◌, ◌++◌, map, length, Contains}
 use Rattle.blob_digest.specs.Digest.{DigestValue}
 use Rattle.messages.specs.Path.{path_text}
 use Rattle.messages.specs.declared.node.Node.TheVariants.{File, Link}
@@ -9,13 +9,17 @@ use Rattle.tree.specs.Memo.{Asked, LooksAtBlob}
 use Rattle.tree.specs.Tree.{Name, Standing, a_leaf, a_directory}
 use Rattle.tree.specs.Form.{NodeValue}
 use Rattle.tree.specs.FlatTree.{FlatValue}
-use Rattle.tree.specs.Unfolded.{IsUnfolded}
-use Rattle.checkout.specs.Folder.{FolderWorks, Written, FolderValue, with_written}
+use Rattle.tree.specs.Unfolded.{AreFound, IsUnfolded}
+use Rattle.checkout.specs.Folder.{FolderWorks, FolderValue, Tried, Written, with_written}
 use Rattle.checkout.specs.Folder.Written.{a_folder, a_file, a_link}
 
 -- the text of a path below a folder
 abbrev pub place_below : List ℕ → List ℕ → List ℕ
 place_below folder path = folder ++ 47 ∷ path
+
+-- and those of entries
+abbrev pub places_of : List ℕ → FlatValue → List (List ℕ)
+places_of folder entries = map (λ e. place_below folder (path_text e.0)) entries
 
 -- What is written for an entry: for a directory a folder, for a file the content that is told under
 -- its digest and whether it is a program, for a link a link with its target.
@@ -41,6 +45,14 @@ pub record HoldsTree (has : FolderValue → Type 0) (B : Blobs) (d : DigestValue
   pub of_entries : AreWritten B folder entries written
   pub holds : has (record { path = folder; written = written })
 
+-- The writer was called for the folder, and then for each entry of the tree that is told under a
+-- digest, in order.
+pub record TriesTree (tries : Tried) (B : Blobs) (d : DigestValue) (folder : List ℕ)
+    : Type 0 where
+  pub entries : FlatValue
+  pub unfolded : IsUnfolded B d entries
+  pub calls : tries (folder ∷ places_of folder entries)
+
 -- a tree is told under the digest
 abbrev pub IsToldTree : Blobs → DigestValue → Type 0
 IsToldTree B d = (entries : FlatValue) × IsUnfolded B d entries
@@ -59,11 +71,11 @@ abbrev pub CheckoutLooksAt : Blobs → DigestValue → Asked → Type 0
 CheckoutLooksAt B d a = UnfoldLooksAt B d a
     ⊎ ((entries : FlatValue) × IsUnfolded B d entries × EntriesLookAt entries a)
 
--- At most one call for the tree's root and each of its entries.
+-- At most one call for each path of the tree, as far as it is told.
 pub record AsksEachOnce (d : DigestValue) (old new : Telling) : Type 0 where
-  pub entries : FlatValue
-  pub unfolded : IsUnfolded new.blobs d entries
-  pub few : new.calls ≤ old.calls + 1 + length entries
+  pub places : FlatValue
+  pub found_there : AreFound new.blobs d places
+  pub few : new.calls ≤ old.calls + length places
 
 -- ---- entry by entry
 

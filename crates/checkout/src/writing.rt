@@ -7,13 +7,14 @@ ghost use Rattle.tree.specs.FlatTree.{entry_value, path_values};
 ghost use Rattle.tree.specs.LooksAt.{UnfoldLooksAt};
 ghost use Rattle.tree.specs.Memo.{AsksNoOther, LooksAtBlob};
 ghost use Rattle.tree.specs.TreeError.{Explains, FailsBlob};
-ghost use Rattle.tree.specs.Unfolded.{ExplainsUnfold, IsUnfolded, directories_at, directories_in};
-ghost use Rattle.checkout.specs.Folder.{IsHad, Tries, WritesTillLast, empty_folder};
-ghost use Rattle.checkout.specs.Written.{HoldsTree, IsGained, MakesEntry, MakesEntries};
+ghost use Rattle.tree.specs.Unfolded.{AsksDirectories, ExplainsUnfold, IsUnfolded};
+ghost use Rattle.tree.specs.Unfolded.{directories_at, directories_in};
+ghost use Rattle.checkout.specs.Folder.{IsHad, Tries};
+ghost use Rattle.checkout.specs.Written.{HoldsTree, IsGained, MakesEntry, MakesEntries, TriesTree};
 ghost use Rattle.checkout.specs.Written.{AsksEachOnce, CheckoutLooksAt, EntriesLookAt};
-ghost use Rattle.checkout.specs.Written.{EntryLooksAt, IsToldTree, place_below};
+ghost use Rattle.checkout.specs.Written.{EntryLooksAt, IsToldTree, place_below, places_of};
 ghost use Rattle.checkout.specs.Refused.{FailsAt, FailsContent, FailsOneEntry, FailsEntries};
-ghost use Rattle.checkout.specs.Refused.{FailsTree, FailsCheckout, StopsAtRefusal, StopsUnfold};
+ghost use Rattle.checkout.specs.Refused.{FailsCheckout, FailsTree, StopsUnfold};
 
 use crate::error::CheckoutError;
 use crate::writer::FolderWriter;
@@ -93,6 +94,8 @@ fn read_tree<A: Allocator + Copy, S: BlobSource<A>>(
     ensures told { IfOk result (IsUnfolded (S.tells source.new).blobs root.now) }
     ensures few { IfOk result (λ tree.
         (S.tells source.new).calls ≤ (S.tells source.old).calls + 1 + directories_in tree) }
+    ensures once { AsksDirectories (S.tells source.new).blobs root.now
+        (S.tells source.old) (S.tells source.new) }
     ensures refused { IfErr result (FailsTree (S.tells source.new).blobs root.now) }
     ensures called { Called (S.tells source.old) (S.tells source.new)
         (IsErrOf result CheckoutError.Fetch) }
@@ -123,13 +126,12 @@ fn write_entry<A: Allocator + Copy, S: BlobSource<A>, W: FolderWriter>(
 ) -> Result<(), CheckoutError<A>>
     ensures made { OnOk result (MakesEntry W.works (S.tells source.new).blobs folder.old
         folder.new place.now (entry_value entry.now)) }
-    ensures few { OnOk result ((S.tells source.new).calls + directories_at (entry_value entry.now)
-        ≤ (S.tells source.old).calls + 1) }
-    ensures refused { IfErr result (FailsOneEntry W.works.refuses (S.tells source.new).blobs
+    ensures tried { OnOk result (Tries W.tried writer.old writer.new (place.now ∷ [])) }
+    ensures few { (S.tells source.new).calls + directories_at (entry_value entry.now)
+        ≤ (S.tells source.old).calls + 1 }
+    ensures refused { IfErr result (FailsOneEntry W.works.refuses
+        (Tries W.tried writer.old writer.new) (S.tells source.new).blobs
         place.now (entry_value entry.now)) }
-    ensures tries { OnOk result (Tries W.tried writer.old writer.new (place.now ∷ [])) }
-    ensures once { Tries W.tried writer.old writer.new []
-        ⊎ Tries W.tried writer.old writer.new (place.now ∷ []) }
     ensures called { Called (S.tells source.old) (S.tells source.new)
         (IsErrOf result CheckoutError.Fetch) }
     ensures only { AsksNoOther (EntryLooksAt (entry_value entry.now))
@@ -160,13 +162,13 @@ fn write_entries<A: Allocator + Copy, S: BlobSource<A>, W: FolderWriter>(
 ) -> Result<(), CheckoutError<A>>
     ensures made { OnOk result (MakesEntries W.works (S.tells source.new).blobs folder.old
         folder.new path.now (path_values entries.items)) }
-    ensures few { OnOk result
-        ((S.tells source.new).calls + directories_in (path_values entries.items)
-        ≤ (S.tells source.old).calls + length entries.items) }
+    ensures tried { OnOk result (Tries W.tried writer.old writer.new
+        (places_of path.now (path_values entries.items))) }
+    ensures few { (S.tells source.new).calls + directories_in (path_values entries.items)
+        ≤ (S.tells source.old).calls + length entries.items }
     ensures refused { IfErr result (FailsEntries (IsGained W.works folder.old) W.works.refuses
-        (S.tells source.new).blobs path.now (path_values entries.items)) }
-    ensures stops { WritesTillLast (IsGained W.works folder.old)
-        (Tries W.tried writer.old writer.new) }
+        (Tries W.tried writer.old writer.new) (S.tells source.new).blobs path.now
+        (path_values entries.items)) }
     ensures called { Called (S.tells source.old) (S.tells source.new)
         (IsErrOf result CheckoutError.Fetch) }
     ensures only { AsksNoOther (EntriesLookAt (path_values entries.items))
@@ -194,15 +196,15 @@ pub fn check_out<A: Allocator + Copy, S: BlobSource<A>, W: FolderWriter>(
 ) -> Result<W::Folder, CheckoutError<A>>
     ensures written { IfOk result (λ folder.
         HoldsTree (W.works.has folder) (S.tells source.new).blobs root.now path.now) }
+    ensures tried { OnOk result (TriesTree (Tries W.tried writer.old writer.new)
+        (S.tells source.new).blobs root.now path.now) }
     // Until the tree is told no folder is taken.
     ensures unwritten { OnErr result
         (IsToldTree (S.tells source.new).blobs root.now ⊎ (writer.new ≡ writer.old)) }
-    ensures few { OnOk result (AsksEachOnce root.now (S.tells source.old) (S.tells source.new)) }
-    ensures refused { IfErr result
-        (FailsCheckout (IsHad W.works) W.works.refuses (S.tells source.new).blobs
-        root.now path.now) }
-    // Once something isn't taken or written, nothing more is tried.
-    ensures stops { StopsAtRefusal (IsHad W.works) (Tries W.tried writer.old writer.new) path.now }
+    ensures few { AsksEachOnce root.now (S.tells source.old) (S.tells source.new) }
+    // Once something isn't told, taken or written, nothing more is tried.
+    ensures refused { IfErr result (FailsCheckout (IsHad W.works) W.works.refuses
+        (Tries W.tried writer.old writer.new) (S.tells source.new).blobs root.now path.now) }
     ensures called { Called (S.tells source.old) (S.tells source.new)
         (IsErrOf result CheckoutError.Fetch) }
     // Nothing is asked for but the tree's Directories and its files' contents.

@@ -4,7 +4,7 @@ use Rattle.std.specs.Prelude.{codes}
 use Rattle.clap.specs.Words.{Row}
 use Rattle.command_lines.specs.CommandLine.{option_text}
 use Rattle.commands.specs.Faults.{OrMemory}
-use Rattle.commands.specs.Places.{FailsOver, FailsToConnect, IsConnected, IsToldOver}
+use Rattle.commands.specs.Places.{FailsOver, FailsToConnect, IsConnected, IsToldOver, puts_too}
 use Rattle.commands.proofs.Placed.{of_options, opened_to}
 use Rattle.commands.specs.Printed.{IsOfOptions}
 use Rattle.commands.specs.World.{Sight}
@@ -66,7 +66,7 @@ module _ {P Q : Telling → Type 0} (f : (told : Telling) → P told → Q told)
 
 -- the server was at fault, or memory ran out
 pub over_fails : (start : ConnectionValue) (address : List ℕ) (yields : Yields) (most : ℕ) (plan : PlanValue) (sources : DigestValue) (e : CommandError)
-    → OrMemory (λ x. ∥ FailsOver start address x ∥₁) e → FailsTelling start address yields most plan sources e
+    → OrMemory (λ x. ∥ FailsOver puts_too start address x ∥₁) e → FailsTelling start address yields most plan sources e
 over_fails start address yields most plan sources e (inl memory) = inl memory
 over_fails start address yields most plan sources e (inr over) = inr (inr over)
 
@@ -85,11 +85,11 @@ module _ (sees : Sight) (below : Below) (options : List Row) where
         starts : StartsBuild sees options asked.plan asked.sources
         starts = record { asks = read.asks; empty = empty; record_fits = fits }
 
-        by : (told : Telling) → IsToldOver start told → IsOfOptions sees options told
-        by = of_options sees options asked.server start read.server opened
+        by : (told : Telling) → IsToldOver puts_too start told → IsOfOptions puts_too sees options told
+        by = of_options sees options asked.server start read.server opened puts_too
 
         -- what was told is of a build of what was asked for
-        pub tells_of : (told : Told Global) → IsToldOf (IsToldOver start) (below (string_bytes asked.work)) asked.jobs asked.plan asked.sources told
+        pub tells_of : (told : Told Global) → IsToldOf (IsToldOver puts_too start) (below (string_bytes asked.work)) asked.jobs asked.plan asked.sources told
             → TellsAsked sees below options told
         tells_of told is = record {
           plan = asked.plan;

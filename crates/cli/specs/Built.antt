@@ -14,6 +14,7 @@ use Rattle.builder.specs.declared.telling.Told.TheVariants.{Built, Failed}
 use Rattle.clap.specs.Words.{Row}
 use Rattle.command_lines.specs.CommandLine.{option_text}
 use Rattle.commands.specs.Options.{IsServerOf, decimal_number}
+use Rattle.commands.specs.Places.{puts_too}
 use Rattle.commands.specs.Printed.{IsOfOptions}
 use Rattle.commands.specs.Refusal.{HasPlanRead}
 use Rattle.commands.specs.Told.{AppendsBeginning}
@@ -110,8 +111,8 @@ pub record TellsAsked (sees : Sight) (below : Below) (options : List Row) (told 
   pub plan : PlanValue
   pub sources : DigestValue
   pub starts : StartsBuild sees options plan sources
-  pub tells : IsToldOf (IsOfOptions sees options) (below (option_text options (codes "work")))
-      (jobs_asked options) plan sources told
+  pub tells : IsToldOf (IsOfOptions puts_too sees options)
+      (below (option_text options (codes "work"))) (jobs_asked options) plan sources told
 
 -- Its line was printed, and where it came to its root its record written.
 pub record PrintsBuild (sees : Sight) (below : Below) (options : List Row)

@@ -1,5 +1,5 @@
 -- What the words of the program come to: what was printed, or why nothing was.
-use Rattle.std.specs.Prelude.{◌≡◌, ◌≢◌, ℕ, List, Option, codes}
+use Rattle.std.specs.Prelude.{◌≡◌, ◌≢◌, ℕ, List, ◌++◌, Option, codes, string_bytes}
 use Rattle.std.specs.Io.KnownBytes.{Appends}
 use Rattle.clap.specs.Words.{IsAmong, Text, fault_of}
 use Rattle.clap.specs.declared.error.kind.ErrorKind.{ErrorKind}
@@ -7,14 +7,14 @@ use Rattle.clap.specs.declared.error.kind.ErrorKind.TheVariants.{DisplayHelp, Di
 use Rattle.command_lines.specs.CommandLine.{CallsCommand, options_of, program_line}
 use Rattle.verifier.specs.Verdict.{IsYes}
 use Rattle.cli.specs.Built.{BeginsBuild, Below, PrintsBuild}
-use Rattle.cli.specs.Help.{help_asked, version_line}
+use Rattle.cli.specs.Help.{IsTip, help_asked, version_line}
 use Rattle.cli.specs.Refused.{FailsBuild}
 use Rattle.commands.specs.Printed.{BeginsDigest, BeginsListening, BeginsVerdict, GetsAsked}
 use Rattle.commands.specs.Printed.{GetsPart, NotesStore, PrintsDigest, PrintsVerdict, ServesAsked}
 use Rattle.commands.specs.GetRefused.{FailsGet}
 use Rattle.commands.specs.PutRefused.{FailsPut}
 use Rattle.commands.specs.Refusal.{FailsVerify, IsPrintFault}
-use Rattle.commands.specs.ServeRefused.{FailsServe}
+use Rattle.commands.specs.ServeRefused.{FailsServe, IsAcceptFault}
 use Rattle.commands.specs.Status.{exit_status}
 use Rattle.commands.specs.Told.{AppendsBeginning, PrintsNoLine, TellsNoteOf, TellsOf}
 use Rattle.commands.specs.World.{Sight}
@@ -108,15 +108,16 @@ pub record AreFaulty (words : List Text) : Type 0 where
   pub no_help : ¬ WantsHelp words
   pub no_version : ¬ WantsVersion words
 
--- the error tells what is wrong with words
-abbrev pub TellsOfWords : CommandError → Type 0
-TellsOfWords (Words text) = Unit {0}
-TellsOfWords _ = ⊥
+-- the error tells what is wrong with words, in a text that ends with the tip on such a mistake
+abbrev pub TellsOfWords : List Text → ErrorKind → CommandError → Type 0
+TellsOfWords words kind (Words text) = (said : List ℕ) × (tip : List ℕ) × IsTip words kind tip
+    × (string_bytes text ≡ said ++ tip)
+TellsOfWords words kind _ = ⊥
 
 -- the words are at fault, or what they ask for couldn't be printed, or memory ran out
 pub data FailsInWords (words : List Text) (e : CommandError) : Type 0 where
   in_memory : e ≡ Memory → FailsInWords words e
-  in_fault : HasFault words → TellsOfWords e → FailsInWords words e
+  in_fault : (fault : HasFault words) → TellsOfWords words fault.kind e → FailsInWords words e
   in_help : WantsHelp words → IsPrintFault e → FailsInWords words e
   in_version : WantsVersion words → IsPrintFault e → FailsInWords words e
 
@@ -134,10 +135,12 @@ pub data Fails (sees : Sight) (below : Below) (words : List Text) (e : CommandEr
   in_serve : CallsCommand words (codes "serve") → FailsServe sees (options_of words) e
       → Fails sees below words e
 
--- an error with this status is why, and its line was told
+-- An error with this status is why, and its line was told. Nothing else was printed, unless the
+-- output is at fault, or a connection of `serve`.
 pub record EndsRefused (sees : Sight) (below : Below) (words : List Text) (status : ℕ)
-    (old new : Option (List ℕ)) : Type 0 where
+    (old new old_err new_err : Option (List ℕ)) : Type 0 where
   pub error : CommandError
   pub why : Fails sees below words error
   pub status_is : exit_status error ≡ status
-  pub told : TellsOf error old new
+  pub unprinted : ¬ IsPrintFault error → ¬ IsAcceptFault error → new ≡ old
+  pub told : TellsOf error old_err new_err

@@ -16,7 +16,7 @@ use Rattle.clap.specs.Words.{Row}
 use Rattle.command_lines.specs.CommandLine.{option_text}
 use Rattle.commands.specs.Faults.{IsDigestFault, IsFaultAtPath, OrMemory, error_of_file}
 use Rattle.commands.specs.Options.{OnNamedServer}
-use Rattle.commands.specs.Places.{FailsOver, IsToldOver}
+use Rattle.commands.specs.Places.{FailsOver, IsToldOver, puts_too}
 use Rattle.commands.specs.Printed.{IsOfOptions, IsConnectedTo}
 use Rattle.commands.specs.Refusal.{FailsPlan, FailsServer, IsPrintFault}
 use Rattle.commands.specs.Words.{AllValid, FailsFirst}
@@ -87,8 +87,8 @@ pub record StopsAtProcess (source : Telling → Type 0) (yields : Yields) (most 
 abbrev pub FailsTelling : ConnectionValue → List ℕ → Yields → ℕ → PlanValue → DigestValue
     → CommandError → Type 0
 FailsTelling start address yields most plan sources =
-    OrMemory (λ e. StopsAtProcess (IsToldOver start) yields most plan sources e
-    ⊎ ∥ FailsOver start address e ∥₁)
+    OrMemory (λ e. StopsAtProcess (IsToldOver puts_too start) yields most plan sources e
+    ⊎ ∥ FailsOver puts_too start address e ∥₁)
 
 -- what is asked for can be built, and a connection to the server was opened
 pub record ReachesServer (sees : Sight) (options : List Row) : Type 0 where
@@ -110,15 +110,15 @@ pub data FailsBuild (sees : Sight) (below : Below) (options : List Row) (e : Com
   in_plan : AllValid (build_words options) → IsSpelled (option_text options (codes "sources"))
       → FailsPlan sees options e → FailsBuild sees below options e
   in_server : (plan : PlanValue) (sources : DigestValue) → AsksBuild sees options plan sources
-      → ∥ OnNamedServer options (λ server. FailsServer sees server e) ∥₁
+      → ∥ OnNamedServer options (λ server. FailsServer puts_too sees server e) ∥₁
       → FailsBuild sees below options e
   in_folder : ReachesServer sees options → FailsFolder sees (option_text options (codes "work")) e
       → FailsBuild sees below options e
   in_place : ReachesServer sees options → sees.lists (option_text options (codes "work")) []
       → FailsAtPath sees (option_text options (codes "record")) e → FailsBuild sees below options e
   in_process : (plan : PlanValue) (sources : DigestValue) → StartsBuild sees options plan sources
-      → StopsAtProcess (IsOfOptions sees options) (below (option_text options (codes "work")))
-      (jobs_asked options) plan sources e
+      → StopsAtProcess (IsOfOptions puts_too sees options)
+      (below (option_text options (codes "work"))) (jobs_asked options) plan sources e
       → FailsBuild sees below options e
   in_record : (told : Told Global) → TellsAsked sees below options told → ended_of told ≡ Done
       → FailsToWrite sees (option_text options (codes "record")) e → FailsBuild sees below options e

@@ -1,6 +1,7 @@
 ghost use Rattle.std.specs.Prelude.{◌≡◌, ◌⊎◌, ◌<◌, ◌↔◌, ◌∷◌, [], IfErr, IfOk, IfSome, IsSome};
-ghost use Rattle.std.specs.Prelude.{OnErr, OnOk, codes, string_bytes};
+ghost use Rattle.std.specs.Prelude.{None, OnErr, OnOk, codes, string_bytes};
 ghost use Rattle.std.specs.Io.KnownBytes.{Appends};
+ghost use Rattle.builder.specs.Faults.{IsRunnerFailure, fault_of};
 ghost use Rattle.clap.specs.Words.{found_of, rows_of};
 ghost use Rattle.cli.specs.Built.{BeginsBuild, HoldsRoot, IsNoted, IsReadOf, IsToldOf, PrintsBuild};
 ghost use Rattle.cli.specs.Built.{TellsAsked, ended_of, jobs_asked, told_line, names_jobs};
@@ -8,9 +9,8 @@ ghost use Rattle.cli.specs.Refused.{FailsBuild, FailsFolder, FailsTelling, Fails
 ghost use Rattle.cli.specs.Refused.{TellsProcess, process_cause};
 ghost use Rattle.cli.specs.Running.{EndsFor};
 ghost use Rattle.commands.specs.Faults.{OrMemory};
-ghost use Rattle.commands.specs.Places.{FailsOver, IsFresh, IsToldOver};
+ghost use Rattle.commands.specs.Places.{FailsOver, IsFresh, IsToldOver, puts_too};
 ghost use Rattle.commands.specs.Refusal.{IsPrintFault};
-ghost use Rattle.commands.specs.Status.{exit_status};
 ghost use Rattle.commands.specs.Told.{AppendsBeginning};
 ghost use Rattle.commands.specs.Words.{IsCheckedBy};
 ghost use Rattle.command_lines.specs.CommandLine.{IsSet, option_text};
@@ -24,8 +24,8 @@ use builder::{BuildPlanError, Fault, Place, Told, fault_of, place_text, tell_bui
 use clap::ArgMatches;
 use command_lines::{is_set, text_of};
 use commands::{
-    Client, CommandError, Ended, Note, Origin, ProcessCause, ProcessFault, ServerOptions, World,
-    number_in, open, plan_in_file, print_all, read_digest, read_server, unlike,
+    Client, CommandError, Ended, Note, Origin, ProcessCause, ProcessFault, PutsToo, ServerOptions,
+    World, number_in, open, plan_in_file, print_all, read_digest, read_server, unlike,
 };
 use plan::Plan;
 use processes::ChildErrors;
@@ -103,13 +103,12 @@ fn errors_of<T>(matches: &ArgMatches<'_>, terminal: &Option<T>) -> ChildErrors
 fn put_root<S: Stream + Drop, K: Origin>(
     alloc: Global,
     server: &ServerOptions,
-    client: &mut Client<S, K>,
+    client: &mut Client<S, K, PutsToo>,
     told: &Told<Global>,
 ) -> Result<(), CommandError>
-    ensures held { OnOk result (HoldsRoot (IsToldOver K.start) told.now) }
-    ensures fault { IfErr result
-        (OrMemory (λ e. ∥ FailsOver K.start (string_bytes server.now.address) e ∥₁)) }
-    ensures status { IfErr result (λ e. exit_status e ≡ 3) }
+    ensures held { OnOk result (HoldsRoot (IsToldOver puts_too K.start) told.now) }
+    ensures fault { IfErr result (OrMemory
+        (λ e. ∥ FailsOver puts_too K.start (string_bytes server.now.address) e ∥₁)) }
 {
     match told {
         Told::Built { directories, .. } => match put_all(alloc, client, directories) {
@@ -142,7 +141,8 @@ struct Stopped {
 
 /// The process for which a build ended with this error.
 fn process_of(error: BuildPlanError<Global>) -> Option<Stopped>
-    ensures { IfSome result (EndsFor error) }
+    ensures some { IfSome result (EndsFor error) }
+    ensures none { result ≡ None → ¬ IsRunnerFailure (fault_of error) }
 {
     let BuildPlanError::Step(failed) = error else {
         return None;
@@ -190,15 +190,14 @@ fn build_in_folder<W: Workplace, K: Origin, T: Write + Drop>(
         (W.below (string_bytes asked.now.work)) }
     requires start { K.start ≡ connection_of W.Link.flow remote }
     requires fresh { IsFresh remote }
-    ensures told { IfOk result (IsToldOf (IsToldOver K.start)
+    ensures told { IfOk result (IsToldOf (IsToldOver puts_too K.start)
         (W.below (string_bytes asked.now.work)) asked.now.jobs asked.now.plan
         asked.now.sources) }
     ensures fault { IfErr result (FailsTelling K.start (string_bytes asked.now.server.address)
         (W.below (string_bytes asked.now.work)) asked.now.jobs asked.now.plan
         asked.now.sources) }
-    ensures status { IfErr result (λ e. exit_status e ≡ 3) }
 {
-    let mut client: Client<W::Link, K> = Client::new(remote);
+    let mut client: Client<W::Link, K, PutsToo> = Client::new(remote);
     let mut runner = runner;
     match tell_build(
         alloc,
@@ -216,10 +215,12 @@ fn build_in_folder<W: Workplace, K: Origin, T: Write + Drop>(
         Err(error) => match fault_of(&error) {
             Fault::Device(_) => match process_of(error) {
                 Some(stopped) => Err(process_error(alloc, &asked.plan, stopped)?),
-                None => Err(CommandError::Memory),
+                None => unreachable!(),
             },
             Fault::Fetch(_) => Err(client.error(alloc, &asked.server, FetchError::Failed)?),
-            _ => Err(CommandError::Memory),
+            Fault::Memory => Err(CommandError::Memory),
+            // What is refused was told in a line.
+            Fault::Refused(..) => unreachable!(),
         },
     }
 }
@@ -228,7 +229,6 @@ fn build_in_folder<W: Workplace, K: Origin, T: Write + Drop>(
 fn check_work<W: World>(alloc: Global, world: &W, path: &str) -> Result<(), CommandError>
     ensures empty { OnOk result (W.sees.lists path.now []) }
     ensures fault { IfErr result (FailsFolder W.sees path.now) }
-    ensures status { IfErr result (λ e. exit_status e ≡ 3) }
 {
     let names = world.list(alloc, path)?;
     if names.is_empty() {
@@ -251,7 +251,6 @@ fn write_record<W: World>(
     ensures whole { OnErr result (ended_of told.now ≡ Ended.Done) }
     ensures fault { IfErr result
         (FailsToWrite W.sees (option_text (rows_of (found_of matches.now)) (codes "record"))) }
-    ensures status { IfErr result (λ e. exit_status e ≡ 3) }
 {
     match told {
         Told::Built { noted, .. } => {
@@ -279,7 +278,6 @@ fn build_asked<W: Workplace, T: Write + Drop>(
     requires read { IsReadOf W.sees (rows_of (found_of matches.now)) asked.now }
     ensures tells { IfOk result (TellsAsked W.sees W.below (rows_of (found_of matches.now))) }
     ensures refused { IfErr result (FailsBuild W.sees W.below (rows_of (found_of matches.now))) }
-    ensures status { IfErr result (λ e. exit_status e ≡ 3) }
 {
     let remote = open(alloc, world, &asked.server)?;
     check_work(alloc, world, asked.work.as_str())?;
@@ -299,7 +297,6 @@ fn print_told<O: Write>(told: &Told<Global>, out: &mut O) -> Result<(), CommandE
     ensures begun { OnErr result
         (AppendsBeginning (O.contents out.old) (O.contents out.new) (told_line told.now)) }
     ensures fault { IfErr result IsPrintFault }
-    ensures status { IfErr result (λ e. exit_status e ≡ 3) }
 {
     let line = match told {
         Told::Built { line, .. } | Told::Failed { line, .. } => line,
@@ -334,7 +331,7 @@ pub(crate) fn run_build<W: Workplace, O: Write, T: Write + Drop>(
     // It is for the first fault: what comes before it has none.
     ensures refused { IfErr result (FailsBuild W.sees W.below (rows_of (found_of matches.now))) }
     ensures unprinted { IfErr result
-        (λ fault. exit_status fault ≡ 2 → O.contents out.new ≡ O.contents out.old) }
+        (λ fault. ¬ IsPrintFault fault → O.contents out.new ≡ O.contents out.old) }
 {
     let asked = read_asked(alloc, world, matches)?;
     let told = build_asked(alloc, world, matches, &asked, terminal)?;

@@ -1,7 +1,8 @@
 ghost use Rattle.std.specs.Prelude.{◌≡◌, ◌<◌, ◌≤◌, IfErr, IfOk, OnErr, map, string_bytes};
 ghost use Rattle.cli.specs.Ended.{AreFaulty, BeginsAsked, EndsNo, EndsRefused, Fails, IsDone};
 ghost use Rattle.cli.specs.Running.{Ends, TellsEnd};
-ghost use Rattle.commands.specs.Status.{exit_status};
+ghost use Rattle.commands.specs.Refusal.{IsPrintFault};
+ghost use Rattle.commands.specs.ServeRefused.{IsAcceptFault};
 
 use crate::building::run_build;
 use crate::showing::show;
@@ -38,9 +39,9 @@ where
         → EndsNo W.sees W.below (map string_bytes words.now)
         (O.contents out.old) (O.contents out.new) (E.contents err.old) (E.contents err.new) }
     // With another status the first fault was told: standard error grew by one line that begins
-    // `error: `, or by a beginning of it.
+    // `error: `, or by a beginning of it. Nothing was printed, unless it is of printing or serving.
     ensures refused { 2 ≤ result → EndsRefused W.sees W.below (map string_bytes words.now) result
-        (E.contents err.old) (E.contents err.new) }
+        (O.contents out.old) (O.contents out.new) (E.contents err.old) (E.contents err.new) }
     // With status 0 standard error stays as it was.
     ensures quiet { result ≡ 0 → E.contents err.new ≡ E.contents err.old }
     // With status 2 standard output stays as it was; so it does where the words are at fault.
@@ -87,8 +88,8 @@ where
         (Ends W.sees W.below (map string_bytes words.now)
         (O.contents out.old) (O.contents out.new)) }
     ensures refused { IfErr result (Fails W.sees W.below (map string_bytes words.now)) }
-    ensures unprinted { IfErr result
-        (λ fault. exit_status fault ≡ 2 → O.contents out.new ≡ O.contents out.old) }
+    ensures unprinted { IfErr result (λ fault. ¬ IsPrintFault fault → ¬ IsAcceptFault fault
+        → O.contents out.new ≡ O.contents out.old) }
     ensures silent { AreFaulty (map string_bytes words.now)
         → O.contents out.new ≡ O.contents out.old }
     ensures begun { OnErr result (BeginsAsked W.sees W.below (map string_bytes words.now)

@@ -1,12 +1,12 @@
-ghost use Rattle.std.specs.Prelude.{◌≡◌, ◌≢◌, ◌++◌, ℕ, List, [], IfErr, IfOk, OnErr, OnOk};
-ghost use Rattle.std.specs.Prelude.{codes, false, map, string_bytes, true};
+ghost use Rattle.std.specs.Prelude.{◌≡◌, ◌++◌, ℕ, List, IfErr, IfOk, OnErr, OnOk, map};
+ghost use Rattle.std.specs.Prelude.{string_bytes};
 ghost use Rattle.std.specs.Io.KnownBytes.{Appends};
+ghost use Rattle.std.specs.List.{list_any};
 ghost use Rattle.clap.specs.Words.{HasKind, fault_of};
 ghost use Rattle.cli.specs.Ended.{BeginsShown, FailsInWords, ShowsAsked, WantsHelp, WantsVersion};
-ghost use Rattle.cli.specs.Help.{are_of_verify};
+ghost use Rattle.cli.specs.Help.{IsTip, gives_place, lack_place};
 ghost use Rattle.command_lines.specs.CommandLine.{program_line};
 ghost use Rattle.commands.specs.Refusal.{IsPrintFault};
-ghost use Rattle.commands.specs.Status.{exit_status};
 ghost use Rattle.commands.specs.Told.{AppendsBeginning};
 
 use crate::help::help_asked;
@@ -33,7 +33,7 @@ pub(crate) fn show<O: Write>(
     ensures silent { ¬ WantsHelp (map string_bytes words.now)
         → ¬ WantsVersion (map string_bytes words.now) → O.contents out.new ≡ O.contents out.old }
     ensures unprinted { IfErr result
-        (λ fault. exit_status fault ≡ 2 → O.contents out.new ≡ O.contents out.old) }
+        (λ fault. ¬ IsPrintFault fault → O.contents out.new ≡ O.contents out.old) }
 {
     match error.kind() {
         ErrorKind::OutOfMemory => Err(CommandError::Memory),
@@ -53,37 +53,40 @@ fn print<O: Write>(text: &str, out: &mut O) -> Result<(), CommandError>
     ensures begun { OnErr result
         (AppendsBeginning (O.contents out.old) (O.contents out.new) text.now) }
     ensures fault { IfErr result IsPrintFault }
-    ensures status { IfErr result (λ e. exit_status e ≡ 3) }
 {
     print_all(out, text.as_bytes())
 }
 
-/// Whether the words begin with `verify`.
-fn are_of_verify(words: &[String]) -> bool
-    ensures { result ≡ are_of_verify (map string_bytes words.now) }
+/// Whether the words begin with `verify`, and name neither a server nor a store.
+fn lack_place(words: &[String]) -> bool
+    ensures { result ≡ lack_place (map string_bytes words.now) }
 {
-    match words.first() {
-        Some(word) => word.as_str() == "verify",
+    match words.split_first() {
+        Some((command, rest)) => command.as_str() == "verify" && !give_place(rest),
         None => false,
     }
 }
 
-/// What clap doesn't say: where the commands are told, and that `verify` needs one of two options,
-/// each of which it can do without.
+/// Whether one of the words gives a server or a store.
+fn give_place(words: &[String]) -> bool
+    ensures { result ≡ list_any gives_place (map string_bytes words.now) }
+{
+    words.iter().any(|word| gives_place(word.as_bytes()))
+}
+
+fn gives_place(word: &[u8]) -> bool
+    ensures { result ≡ gives_place word.now }
+{
+    word.starts_with(b"--server") || word.starts_with(b"--store")
+}
+
+/// What clap doesn't say.
 fn tip_on(kind: ErrorKind, words: &[String]) -> &'static str
-    ensures command { kind ≡ ErrorKind.InvalidSubcommand
-        → result.now ≡ codes "; tip: '--help' prints the commands" }
-    ensures place { kind ≡ ErrorKind.MissingRequiredArgument
-        → are_of_verify (map string_bytes words.now) ≡ true
-        → result.now ≡ codes "; tip: --server <ADDR> or --store <FOLDER> is needed too" }
-    ensures command_there { kind ≢ ErrorKind.InvalidSubcommand
-        → kind ≢ ErrorKind.MissingRequiredArgument → result.now ≡ [] }
-    ensures place_there { kind ≡ ErrorKind.MissingRequiredArgument
-        → are_of_verify (map string_bytes words.now) ≡ false → result.now ≡ [] }
+    ensures { IsTip (map string_bytes words.now) kind result.now }
 {
     if kind == ErrorKind::InvalidSubcommand {
         "; tip: '--help' prints the commands"
-    } else if kind == ErrorKind::MissingRequiredArgument && are_of_verify(words) {
+    } else if kind == ErrorKind::MissingRequiredArgument && lack_place(words) {
         "; tip: --server <ADDR> or --store <FOLDER> is needed too"
     } else {
         ""
@@ -92,7 +95,7 @@ fn tip_on(kind: ErrorKind, words: &[String]) -> &'static str
 
 /// The mistake in one line: clap's text without its usage, what it takes for meant, and the tip.
 fn mistake_line(alloc: Global, text: &str, tip: &str) -> Result<String, AllocError>
-    ensures { IfOk result (λ told. (front : List ℕ) × (string_bytes told ≡ front ++ tip.now)) }
+    ensures { IfOk result (λ told. (said : List ℕ) × (string_bytes told ≡ said ++ tip.now)) }
 {
     let mut told = String::new(alloc);
     let text = text.strip_prefix("error: ").unwrap_or(text);

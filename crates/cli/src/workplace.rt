@@ -1,10 +1,10 @@
 ghost use Rattle.std.specs.Prelude.{◌≡◌, string_bytes};
-ghost use Rattle.processes.specs.Running.{work_of};
+ghost use Rattle.processes.specs.Running.{errors_of, may_yield, work_of, workshop_of};
 ghost use Rattle.worker.specs.Outcomes.{YieldsNoMore};
 
 use commands::{System, World};
 use log::Log;
-use processes::{ChildErrors, Disk, ProcessRunner};
+use processes::{ChildErrors, Disk, ProcessRunner, Workshop};
 use service::ErrorTerminal;
 use std::alloc::Global;
 use std::net::{Net, TcpListener, TcpStream};
@@ -34,10 +34,14 @@ where
 {
     type Steps = ProcessRunner<Disk<'r, R>, Global>;
 
-    ghost below = { λ _ _ _ _. Unit {0} };
+    ghost below = { may_yield (⟦<Disk<'r, R> as Workshop>⟧.works) };
 
     fn steps(&self, work: String, errors: ChildErrors) -> ProcessRunner<Disk<'r, R>, Global>
         ensures work { work_of result ≡ string_bytes work }
+        ensures below { YieldsNoMore
+            (may_yield (⟦<Disk<'r, R> as Workshop>⟧.works) (work_of result))
+            (may_yield (⟦<Disk<'r, R> as Workshop>⟧.works) (string_bytes work)) }
+        ensures errors { errors_of (workshop_of result) ≡ errors }
     {
         ProcessRunner::new(Disk::new(self.0, errors), work)
     }

@@ -1,67 +1,96 @@
 -- What a get wrote, over the connection that was opened, or why nothing was written.
-use Rattle.std.proofs.Common.{◌≡◌, ◌⊎◌, ℕ, List, inl, inr, subst, sym, Ok, Err, IfErr, IfOk, OnErr, string_bytes}
+use Rattle.std.proofs.Common.{◌≡◌, ◌+◌, ◌≤◌, ◌∙◌, ℕ, List, ap, inr, length, subst, sym, Ok, Err, IfErr, IfOk, OnErr, string_bytes}
 use Rattle.std.specs.Prelude.{Option, Result, codes}
 use Rattle.std.specs.declared.alloc.Global.{Global}
 use Rattle.blob_digest.specs.Digest.{DigestValue}
 use Rattle.blob_source.specs.Source.{Telling}
 use Rattle.checkout.specs.Refused.{FailsCheckout}
+use Rattle.checkout.specs.Written.{AsksEachOnce, CheckoutLooksAt}
 use Rattle.checkout.specs.declared.error.CheckoutError.{CheckoutError}
 use Rattle.clap.specs.Words.{Row, first_of}
 use Rattle.command_lines.specs.CommandLine.{option_text}
 use Rattle.remote.specs.Line.{ConnectionValue}
+use Rattle.remote.specs.Remote.{blobs_of, telling_of}
+use Rattle.remote.specs.declared.remote.Remote.{Remote}
+use Rattle.tree.specs.Memo.{AsksNoOther}
 use Rattle.text_verifier.specs.Texts.{IsDigestText}
+use Rattle.commands.specs.Faults.{OrMemory}
 use Rattle.commands.specs.GetRefused.{FailsGet, FailsGot, FailsGetTree, TellsCheckout}
-use Rattle.commands.specs.GetRefused.FailsGet.{in_work}
-use Rattle.commands.specs.GetRefused.FailsGetTree.{in_memory, in_tree}
+use Rattle.commands.specs.GetRefused.FailsGet.{in_memory, in_work}
 use Rattle.commands.specs.Options.{IsServerOf}
-use Rattle.commands.specs.Places.{IsConnected, IsToldOver}
+use Rattle.commands.specs.Places.{IsConnected, IsFresh, IsToldOver, gets_alone}
 use Rattle.commands.specs.Printed.{BeginsGot, GetsAsked, GetsPart, IsGot, StartsGet}
+use Rattle.commands.specs.Trees.{AsksTree}
 use Rattle.commands.specs.Words.{AllValid, server_words}
 use Rattle.commands.specs.World.{Sight}
 use Rattle.commands.specs.declared.connecting.ServerOptions.{ServerOptions}
 use Rattle.commands.specs.declared.ended.Ended.{Ended}
 use Rattle.commands.specs.declared.error.CommandError.{CommandError}
-use Rattle.commands.specs.declared.error.CommandError.TheVariants.{Memory}
 use Rattle.commands.proofs.Placed.{opened_to}
+use Rattle.commands.proofs.Refused.{or_memory, or_weaker}
+use Rattle.commands.proofs.Tellings.{none_unasked}
 
 pub on_err : {T E : Type 0} {P Q : Type 0} (r : Result T E) → OnErr r P → (P → Q) → OnErr r Q
 on_err (Ok x) h by = h
 on_err (Err e) h by = by h
 
 pub tree_fails : (sees : Sight) (start : ConnectionValue) (address : List ℕ) (digest : DigestValue) (folder : List ℕ) (told : Telling)
-    (error : CheckoutError Global) (e : CommandError) → ∥ IsToldOver start told ∥₁ → FailsCheckout sees.holds sees.unwritten told.blobs digest folder error
-    → (e ≡ Memory) ⊎ TellsCheckout start address error e → FailsGetTree sees start address digest folder e
-tree_fails sees start address digest folder told error e over fails (inl memory) = in_memory memory
-tree_fails sees start address digest folder told error e over fails (inr tells) = in_tree told error over fails tells
+    (error : CheckoutError Global) (e : CommandError) → AsksTree start digest told → FailsCheckout sees.holds sees.unwritten sees.tries told.blobs digest folder error
+    → OrMemory (TellsCheckout start address error) e → OrMemory (FailsGetTree sees start address digest folder) e
+tree_fails sees start address digest folder told error e asks fails = or_weaker (TellsCheckout start address error) (FailsGetTree sees start address digest folder) e
+    (λ tells. record { told = told; asks = asks; error = error; fails = fails; tells = tells })
+
+-- what a checkout over a fresh client asks for
+pub asks_tree : {S : Type 0} (start : ConnectionValue) (digest : DigestValue) (fresh remote : Remote S Global) (told : Telling)
+    → remote ≡ fresh → IsFresh fresh → ∥ IsToldOver gets_alone start told ∥₁ → AsksNoOther (CheckoutLooksAt told.blobs digest) (telling_of remote).blobs told.blobs
+    → AsksEachOnce digest (telling_of remote) told → AsksTree start digest told
+asks_tree {S} start digest fresh remote told same unasked over only once = record {
+  over = over;
+  only = record { same = λ d other. only.same d other ∙ ap (λ (r : Remote S Global). (telling_of r).blobs d) same ∙ none_unasked (blobs_of fresh) d (unasked.blobs d) };
+  few = record {
+    places = once.places;
+    found_there = once.found_there;
+    few = subst (λ n. told.calls ≤ n + length once.places) (ap (λ (r : Remote S Global). (telling_of r).calls) same ∙ unasked.calls) once.few;
+  };
+}
 
 -- ---- by the options
 
+-- what a get over that connection came to, with words of this folder or with none
+pub record EndsGet (sees : Sight) (start : ConnectionValue) (address : List ℕ) (digest : DigestValue) (into : Option (List ℕ)) (old new : Option (List ℕ))
+    (result : Result Ended CommandError) : Type 0 where
+  pub got : IfOk result (IsGot sees into start address digest old new)
+  pub begun : OnErr result (BeginsGot sees into start digest old new)
+  pub fails : IfErr result (OrMemory (FailsGot sees into start address digest))
+
+-- it is what the options ask for
+pub record GetsByOptions (sees : Sight) (options : List Row) (old new : Option (List ℕ)) (result : Result Ended CommandError) : Type 0 where
+  pub answered : IfOk result (GetsAsked sees options old new)
+  pub begun : OnErr result (GetsPart sees options old new)
+  pub refused : IfErr result (FailsGet sees options)
+
 module _ (sees : Sight) (options : List Row) (start : ConnectionValue) (digest : DigestValue) (server : ServerOptions) (named : IsServerOf options server)
     (words : AllValid (server_words options)) (spelled : IsDigestText (option_text options (codes "digest")) digest) (opened : IsConnected sees server start)
-    (into : Option (List ℕ)) (is : first_of (codes "into") options ≡ into) (result : Result Ended CommandError) where
+    (into : Option (List ℕ)) (is : first_of (codes "into") options ≡ into) (old new : Option (List ℕ)) where
   starts : StartsGet sees options digest start
   starts = record { words = words; spelled = spelled; opened = opened_to sees options server start named opened }
 
-  pub asked_by : (old new : Option (List ℕ)) → IfOk result (IsGot sees into start (string_bytes server.address) digest old new) → IfOk result (GetsAsked sees options old new)
-  asked_by old new got = by result got
-    where
-      by : (r : Result Ended CommandError) → IfOk r (IsGot sees into start (string_bytes server.address) digest old new) → IfOk r (GetsAsked sees options old new)
-      by (Ok ended) h = record {
-        digest = digest;
-        start = start;
-        starts = starts;
-        got = subst (λ o. IsGot sees o start (option_text options (codes "server")) digest old new ended) (sym is)
-            (subst (λ a. IsGot sees into start a digest old new ended) named.address h);
-      }
-      by (Err e) h = tt
-
-  pub refused_by : IfErr result (FailsGot sees into start (string_bytes server.address) digest) → IfErr result (FailsGet sees options)
-  refused_by fails = by result fails
-    where
-      by : (r : Result Ended CommandError) → IfErr r (FailsGot sees into start (string_bytes server.address) digest) → IfErr r (FailsGet sees options)
-      by (Ok ended) h = tt
-      by (Err e) h = in_work digest start starts
-          (subst (λ o. FailsGot sees o start (option_text options (codes "server")) digest e) (sym is) (subst (λ a. FailsGot sees into start a digest e) named.address h))
-
-  pub begun_by : (old new : Option (List ℕ)) → OnErr result (BeginsGot sees into start digest old new) → OnErr result (GetsPart sees options old new)
-  begun_by old new h = on_err result h (λ begins. inr (digest, start, starts, subst (λ o. BeginsGot sees o start digest old new) (sym is) begins))
+  pub by_options : (result : Result Ended CommandError) → EndsGet sees start (string_bytes server.address) digest into old new result → GetsByOptions sees options old new result
+  by_options (Ok ended) h = record {
+    answered = record {
+      digest = digest;
+      start = start;
+      starts = starts;
+      got = subst (λ o. IsGot sees o start (option_text options (codes "server")) digest old new ended) (sym is)
+          (subst (λ a. IsGot sees into start a digest old new ended) named.address h.got);
+    };
+    begun = tt;
+    refused = tt;
+  }
+  by_options (Err e) h = record {
+    answered = tt;
+    begun = inr (digest, start, starts, subst (λ o. BeginsGot sees o start digest old new) (sym is) h.begun);
+    refused = or_memory (FailsGot sees into start (string_bytes server.address) digest) (FailsGet sees options) e in_memory
+        (λ fails. in_work digest start starts
+        (subst (λ o. FailsGot sees o start (option_text options (codes "server")) digest e) (sym is) (subst (λ a. FailsGot sees into start a digest e) named.address fails))) h.fails;
+  }

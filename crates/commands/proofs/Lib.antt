@@ -3,6 +3,8 @@ pub mod Checked
 pub mod Checking
 pub mod Exits
 pub mod Failures
+pub mod Hints
+pub mod OneHint
 pub mod Unread
 pub mod Writing
 pub mod Taken
@@ -12,3 +14,4 @@ pub mod SoFar
 pub mod Gotten
 pub mod Order
 pub mod Refused
+pub mod Silent

@@ -15,7 +15,7 @@ use Rattle.text_verifier.specs.declared.lack.Lack.{Lack}
 use Rattle.remote.specs.Line.{ConnectionValue}
 use Rattle.commands.specs.Faults.{OrMemory}
 use Rattle.commands.specs.Options.{IsServerOf}
-use Rattle.commands.specs.Places.{FailsInFolder, IsOfFolder, IsOfServer, IsConnected, IsAnsweredBy, IsToldOver, LacksAtServer, LacksInFolder}
+use Rattle.commands.specs.Places.{Access, FailsInFolder, IsOfFolder, IsOfServer, IsConnected, IsAnsweredBy, IsToldOver, LacksAtServer, LacksInFolder, gets_alone}
 use Rattle.commands.specs.Printed.{StartsPut, IsConnectedTo, IsOfOptions, IsOfPlace, IsNamedPlace, LacksAtPlace}
 use Rattle.commands.specs.Refusal.{FailsAtPlace, FailsServer}
 use Rattle.commands.specs.Words.{AllValid, server_words}
@@ -73,15 +73,15 @@ module _ (sees : Sight) (options : List Row) where
 
   module _ (server : ServerOptions) where
     pub on_server : (question : Question) (result : Result (Answer Global) CommandError) → IsNamedPlace options (Server server)
-        → IfOk result (IsAnsweredBy (IsOfServer sees server) (LacksAtServer sees server) question)
+        → IfOk result (IsAnsweredBy (IsOfServer gets_alone sees server) (LacksAtServer sees server) question)
         → IfOk result (IsAnsweredBy (IsOfPlace sees options) (LacksAtPlace sees options) question)
     on_server question result place h =
-        place_weaker question result (IsOfServer sees server) (IsOfPlace sees options) (LacksAtServer sees server) (LacksAtPlace sees options)
+        place_weaker question result (IsOfServer gets_alone sees server) (IsOfPlace sees options) (LacksAtServer sees server) (LacksAtPlace sees options)
         (λ t told. inr (place.0, (server, place.1, told))) (λ l lacks. inr (place.0, (server, place.1, lacks))) h
 
     pub on_server_fails : (result : Result (Answer Global) CommandError) → IsNamedPlace options (Server server)
-        → IfErr result (OrMemory (λ e. ∥ FailsServer sees server e ∥₁)) → IfErr result (OrMemory (λ e. ∥ FailsAtPlace sees options e ∥₁))
-    on_server_fails result place h = place_fails result (FailsServer sees server) (λ e fails. inr (place.0, (server, place.1, fails))) h
+        → IfErr result (OrMemory (λ e. ∥ FailsServer gets_alone sees server e ∥₁)) → IfErr result (OrMemory (λ e. ∥ FailsAtPlace sees options e ∥₁))
+    on_server_fails result place h = place_fails result (FailsServer gets_alone sees server) (λ e fails. inr (place.0, (server, place.1, fails))) h
 
 module _ (sees : Sight) (options : List Row) (server : ServerOptions) (start : ConnectionValue) (is : IsServerOf options server)
     (opened : IsConnected sees server start) where
@@ -93,5 +93,5 @@ module _ (sees : Sight) (options : List Row) (server : ServerOptions) (start : C
   starts_put valid = record { valid = valid; opened = opened_to }
 
   -- a client over it
-  pub of_options : (told : Telling) → IsToldOver start told → IsOfOptions sees options told
-  of_options told over = (server, is, record { start = start; opened = opened; over = over })
+  pub of_options : (access : Access) (told : Telling) → IsToldOver access start told → IsOfOptions access sees options told
+  of_options access told over = (server, is, record { start = start; opened = opened; over = over })

@@ -22,8 +22,8 @@ use Rattle.remote.specs.Table.{HasAnswer, IsSameBut, KeepsNone, answers, bytes_k
 use Rattle.remote.specs.declared.files.FileError.{FileError}
 use Rattle.remote.specs.declared.table.Table.{Table}
 use Rattle.text_verifier.specs.declared.lack.Lack.{Lack}
-use Rattle.commands.specs.Places.{CameAllOver, CameOver, Comes, FailsInStore, LacksAll, LacksOver, file_of}
-use Rattle.commands.specs.Places.Comes.{fresh, got, taken, refused}
+use Rattle.commands.specs.Places.{Access, CameAllOver, CameOver, Comes, FailsInStore, LacksAll, LacksOver, MaySend, file_of, gets_alone, puts_too}
+use Rattle.commands.specs.Places.Comes.{got, taken, refused}
 use Rattle.commands.specs.World.{Sight}
 
 -- ---- digests
@@ -83,40 +83,45 @@ told_anew P d before after held grows anew e b is = by (told_by before e) refl
 
 -- ---- a server
 
-module _ {A : Type 0} (start : ConnectionValue) (area : Area) (d : DigestValue) (old new : ConnectionValue) (before after : Table A) where
+-- a GET may always be sent
+pub may_get : (access : Access) (area : Area) (hash : List ℕ) → MaySend access (get area hash)
+may_get gets_alone area hash = refl
+may_get puts_too area hash = tt
+
+module _ {A : Type 0} (access : Access) (start : ConnectionValue) (area : Area) (d : DigestValue) (old new : ConnectionValue) (before after : Table A) where
   -- the connection came to stand so
-  pub comes_on : (result : Result (Option (Vec ℕ A)) FetchError) → LooksUp area d old new before after result → Comes start old → Comes start new
+  pub comes_on : (result : Result (Option (Vec ℕ A)) FetchError) → LooksUp area d old new before after result → Comes access start old → Comes access start new
   comes_on (Ok answer) looks came = elim (there_or_not (answers before d)) [
     | inl not ↦ got old new area d.hash (bytes_of answer) came (looks.answered not)
-    | inr has ↦ subst (Comes start) (sym (looks.kept has)) came
+    | inr has ↦ subst (Comes access start) (sym (looks.kept has)) came
   ]
-  comes_on (Err e) looks came = refused old new (get area d.hash) e came looks.refused
+  comes_on (Err e) looks came = refused old new (get area d.hash) e came (may_get access area d.hash) looks.refused
 
   -- what is kept came over it
-  pub came_on : (result : Result (Option (Vec ℕ A)) FetchError) → LooksUp area d old new before after result → Comes start old
+  pub came_on : (result : Result (Option (Vec ℕ A)) FetchError) → LooksUp area d old new before after result → Comes access start old
       → IfOk result (λ answer. bytes_of answer ≡ told_by after d) → GrowsAt d (told_by before) (told_by after)
-      → CameAllOver start area (told_by before) → CameAllOver start area (told_by after)
-  came_on (Ok answer) looks came told grows held = told_anew (λ e b. CameOver start area e.hash b) d before after held grows anew
+      → CameAllOver access start area (told_by before) → CameAllOver access start area (told_by after)
+  came_on (Ok answer) looks came told grows held = told_anew (λ e b. CameOver access start area e.hash b) d before after held grows anew
     where
-      anew : (b : List ℕ) → told_by before d ≡ None → told_by after d ≡ Some b → CameOver start area d.hash b
+      anew : (b : List ℕ) → told_by before d ≡ None → told_by after d ≡ Some b → CameOver access start area d.hash b
       anew b none is = elim (there_or_not (answers before d)) [
         | inl not ↦ record { old = old; new = new; before = came; is = inl (subst (Gets old new area d.hash) (told ∙ is) (looks.answered not)) }
         | inr has ↦ absurd (some_not_none (sym is ∙ ap bytes_kept ((looks.same has).same d) ∙ none))
       ]
-  came_on (Err e) looks came told grows held = told_anew (λ e b. CameOver start area e.hash b) d before after held grows anew
+  came_on (Err e) looks came told grows held = told_anew (λ e b. CameOver access start area e.hash b) d before after held grows anew
     where
-      anew : (b : List ℕ) → told_by before d ≡ None → told_by after d ≡ Some b → CameOver start area d.hash b
+      anew : (b : List ℕ) → told_by before d ≡ None → told_by after d ≡ Some b → CameOver access start area d.hash b
       anew b none is = absurd (some_not_none (sym is ∙ ap bytes_kept (looks.unheld.same d) ∙ none))
 
 pub comes_by_put : {T : Type 0} (start : ConnectionValue) (area : Area) (hash bytes : List ℕ) (old new : ConnectionValue) (result : Result T FetchError)
-    → OnOk result (Puts old new area hash bytes) → IfErr result (RefusesRequest old new (put area hash bytes)) → Comes start old → Comes start new
-comes_by_put start area hash bytes old new (Ok x) takes refuses came = taken old new area hash bytes came takes
-comes_by_put start area hash bytes old new (Err e) takes refuses came = refused old new (put area hash bytes) e came refuses
+    → OnOk result (Puts old new area hash bytes) → IfErr result (RefusesRequest old new (put area hash bytes)) → Comes puts_too start old → Comes puts_too start new
+comes_by_put start area hash bytes old new (Ok x) takes refuses came = taken old new area hash bytes came tt takes
+comes_by_put start area hash bytes old new (Err e) takes refuses came = refused old new (put area hash bytes) e came tt refuses
 
 module _ {A T : Type 0} (start : ConnectionValue) (area : Area) (d : DigestValue) (bytes : List ℕ) (old new : ConnectionValue) (before after : Table A) where
   -- what is kept came over it, or it took it
-  pub came_by_put : (result : Result T FetchError) → Stores area d bytes old new before after result → Comes start old
-      → PutsAt d bytes (told_by before) (told_by after) → CameAllOver start area (told_by before) → CameAllOver start area (told_by after)
+  pub came_by_put : (result : Result T FetchError) → Stores area d bytes old new before after result → Comes puts_too start old
+      → PutsAt d bytes (told_by before) (told_by after) → CameAllOver puts_too start area (told_by before) → CameAllOver puts_too start area (told_by after)
   came_by_put (Err e) stores came puts held f b is = held f b (sym (ap bytes_kept (stores.unheld.same f)) ∙ is)
   came_by_put (Ok x) stores came puts held f b is = elim (same_or_other d f) [
     | inr other ↦ held f b (sym (puts.others f other) ∙ is)
@@ -126,8 +131,8 @@ module _ {A T : Type 0} (start : ConnectionValue) (area : Area) (d : DigestValue
         old = old;
         new = new;
         before = came;
-        is = subst (λ x. Gets old new area x.hash (Some b) ⊎ Puts old new area x.hash b) (sym same)
-            (inr (subst (Puts old new area d.hash) (same_bytes (sym is_put ∙ subst (λ x. told_by after x ≡ Some b) same is)) stores.taken));
+        is = subst (λ x. Gets old new area x.hash (Some b) ⊎ (Unit {0} × Puts old new area x.hash b)) (sym same)
+            (inr (tt, subst (Puts old new area d.hash) (same_bytes (sym is_put ∙ subst (λ x. told_by after x ≡ Some b) same is)) stores.taken));
       }
     ]
   ]
@@ -135,12 +140,12 @@ module _ {A T : Type 0} (start : ConnectionValue) (area : Area) (d : DigestValue
 -- ---- what is lacked
 
 -- nothing is kept where nothing was asked
-pub none_unasked : {A : Type 0} (t : Table A) (d : DigestValue) (b : List ℕ) → (HasAnswer t d → ⊥) → told_by t d ≡ Some b → ⊥
-none_unasked t d b not is = by (answers t d) not is
+pub none_unasked : {A : Type 0} (t : Table A) (d : DigestValue) → (HasAnswer t d → ⊥) → told_by t d ≡ None
+none_unasked t d not = by (answers t d) not
   where
-    by : {X : Type 0} (o : Option (Option (Vec ℕ X))) → (o ≢ None → ⊥) → bytes_kept o ≡ Some b → ⊥
-    by None none e = some_not_none (sym e)
-    by (Some answer) none e = none some_not_none
+    by : {X : Type 0} (o : Option (Option (Vec ℕ X))) → (o ≢ None → ⊥) → bytes_kept o ≡ None
+    by None none = refl
+    by (Some answer) none = absurd (none some_not_none)
 
 pub none_lacked : {A : Type 0} (P : DigestValue → Type 0) (t : Table A) → ((d : DigestValue) → HasAnswer t d → ⊥) → LacksAll P t
 none_lacked P t unasked d none = absurd (unasked d (λ e. some_not_none (sym none ∙ e)))
@@ -160,27 +165,27 @@ lacked_anew P d before after others here held e none = elim (same_or_other d e) 
 ]
 
 -- the server replied so for each
-abbrev pub LacksAllOver : {A : Type 0} → ConnectionValue → Area → Table A → Type 0
-LacksAllOver start area kept = LacksAll (λ d. LacksOver start area d.hash) kept
+abbrev pub LacksAllOver : {A : Type 0} → Access → ConnectionValue → Area → Table A → Type 0
+LacksAllOver access start area kept = LacksAll (λ d. LacksOver access start area d.hash) kept
 
-module _ {A : Type 0} (start : ConnectionValue) (area : Area) (d : DigestValue) (old new : ConnectionValue) (before after : Table A) where
+module _ {A : Type 0} (access : Access) (start : ConnectionValue) (area : Area) (d : DigestValue) (old new : ConnectionValue) (before after : Table A) where
   -- a look-up that answers none had that as a reply, now or before
-  pub lacks_here : (answer : Option (Vec ℕ A)) → LooksUp area d old new before after (Ok answer) → Comes start old
-      → bytes_of answer ≡ told_by after d → LacksAllOver start area before → told_by after d ≡ None → LacksOver start area d.hash
+  pub lacks_here : (answer : Option (Vec ℕ A)) → LooksUp area d old new before after (Ok answer) → Comes access start old
+      → bytes_of answer ≡ told_by after d → LacksAllOver access start area before → told_by after d ≡ None → LacksOver access start area d.hash
   lacks_here answer looks came told held none = elim (there_or_not (answers before d)) [
     | inl not ↦ record { old = old; new = new; before = came; is = subst (Gets old new area d.hash) (told ∙ none) (looks.answered not) }
     | inr has ↦ held d (kept_none (answers before d) has (ap bytes_kept (sym ((looks.same has).same d)) ∙ none))
   ]
 
-  pub lacks_on : (result : Result (Option (Vec ℕ A)) FetchError) → LooksUp area d old new before after result → Comes start old
-      → IfOk result (λ answer. bytes_of answer ≡ told_by after d) → LacksAllOver start area before → LacksAllOver start area after
+  pub lacks_on : (result : Result (Option (Vec ℕ A)) FetchError) → LooksUp area d old new before after result → Comes access start old
+      → IfOk result (λ answer. bytes_of answer ≡ told_by after d) → LacksAllOver access start area before → LacksAllOver access start area after
   lacks_on (Err f) looks came told held = λ e none. held e (sym (looks.unheld.same e) ∙ none)
   lacks_on (Ok answer) looks came told held =
-      lacked_anew (λ e. LacksOver start area e.hash) d before after looks.others (λ none. lacks_here answer looks came told held (ap bytes_kept none)) held
+      lacked_anew (λ e. LacksOver access start area e.hash) d before after looks.others (λ none. lacks_here answer looks came told held (ap bytes_kept none)) held
 
-  pub lacks_now : (result : Result (Option (Vec ℕ A)) FetchError) → LooksUp area d old new before after result → ∥ Comes start old ∥₁
-      → IfOk result (λ answer. bytes_of answer ≡ told_by after d) → ∥ LacksAllOver start area before ∥₁
-      → IfOk result (λ answer. IfNone answer (∥ LacksOver start area d.hash ∥₁))
+  pub lacks_now : (result : Result (Option (Vec ℕ A)) FetchError) → LooksUp area d old new before after result → ∥ Comes access start old ∥₁
+      → IfOk result (λ answer. bytes_of answer ≡ told_by after d) → ∥ LacksAllOver access start area before ∥₁
+      → IfOk result (λ answer. IfNone answer (∥ LacksOver access start area d.hash ∥₁))
   lacks_now (Err f) looks came told held = tt
   lacks_now (Ok (Some v)) looks came told held = tt
   lacks_now (Ok None) looks came told held = ∥∥₁_map₂ came held (λ comes lacks. lacks_here None looks comes told lacks (sym told))
@@ -188,13 +193,9 @@ module _ {A : Type 0} (start : ConnectionValue) (area : Area) (d : DigestValue) 
 -- a look-up over a connection that was asked nothing brought bytes
 pub got_bytes : {A : Type 0} (area : Area) (d : DigestValue) (old new : ConnectionValue) (before after : Table A)
     (result : Result (Option (Vec ℕ A)) FetchError) (bytes : Vec ℕ A) → LooksUp area d old new before after result → (HasAnswer before d → ⊥)
-    → result ≡ Ok (Some bytes) → CameOver old area d.hash bytes.items
-got_bytes area d old new before after result bytes looks not is = record {
-  old = old;
-  new = new;
-  before = fresh;
-  is = inl (subst (λ r. IfOk r (λ answer. Gets old new area d.hash (bytes_of answer))) is (looks.answered not));
-}
+    → result ≡ Ok (Some bytes) → (now : ConnectionValue) × Gets old now area d.hash (Some bytes.items)
+got_bytes area d old new before after result bytes looks not is =
+    (new, subst (λ r. IfOk r (λ answer. Gets old new area d.hash (bytes_of answer))) is (looks.answered not))
 
 -- what was put is there
 pub blob_there : {T : Type 0} (bytes : List ℕ) (old new : Blobs) (result : Result T FetchError) → OnOk result (IsPut bytes old new)
@@ -208,12 +209,12 @@ pub result_there : {T : Type 0} (d : DigestValue) (bytes : List ℕ) (new : Blob
 result_there d bytes new (Err f) is = tt
 result_there d bytes new (Ok x) is = λ none. some_not_none (sym is ∙ none)
 
-pub lacks_by_put : {A T : Type 0} (start : ConnectionValue) (area : Area) (d : DigestValue) (bytes : List ℕ) (old new : ConnectionValue)
+pub lacks_by_put : {A T : Type 0} (access : Access) (start : ConnectionValue) (area : Area) (d : DigestValue) (bytes : List ℕ) (old new : ConnectionValue)
     (before after : Table A) (result : Result T FetchError) → Stores area d bytes old new before after result
-    → OnOk result (told_by after d ≡ None → ⊥) → LacksAllOver start area before → LacksAllOver start area after
-lacks_by_put start area d bytes old new before after (Err f) stores there held = λ e none. held e (sym (stores.unheld.same e) ∙ none)
-lacks_by_put start area d bytes old new before after (Ok x) stores there held =
-    lacked_anew (λ e. LacksOver start area e.hash) d before after stores.others (λ none. absurd (there (ap bytes_kept none))) held
+    → OnOk result (told_by after d ≡ None → ⊥) → LacksAllOver access start area before → LacksAllOver access start area after
+lacks_by_put access start area d bytes old new before after (Err f) stores there held = λ e none. held e (sym (stores.unheld.same e) ∙ none)
+lacks_by_put access start area d bytes old new before after (Ok x) stores there held =
+    lacked_anew (λ e. LacksOver access start area e.hash) d before after stores.others (λ none. absurd (there (ap bytes_kept none))) held
 
 -- ---- a store folder
 

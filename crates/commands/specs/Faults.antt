@@ -19,13 +19,14 @@ use Rattle.commands.specs.declared.failure.Method.{Method}
 use Rattle.commands.specs.declared.failure.Method.TheVariants.{GetBlob, GetResult, PutBlob}
 use Rattle.commands.specs.declared.failure.Method.TheVariants.{PutResult}
 
--- the text of an option spells no digest, or memory ran out
+abbrev pub SpellsNone : List ℕ → Type 0
+SpellsNone text = (d : DigestValue) → IsDigest d → ¬ (text ≡ digest_text d)
+
+-- the text of an option spells no digest, also where memory is wanting to tell that
 abbrev pub IsDigestFault : List ℕ → List ℕ → CommandError → Type 0
-IsDigestFault option text (Digest o t fault) =
-    (o.now ≡ option) × (string_bytes t ≡ text)
-    × ((d : DigestValue) → IsDigest d → ¬ (text ≡ digest_text d))
-    × ((fault ≡ BadHex) ↔ ¬ BeginsWithHash text)
-IsDigestFault option text Memory = Unit {0}
+IsDigestFault option text (Digest o t fault) = (o.now ≡ option) × (string_bytes t ≡ text)
+    × SpellsNone text × ((fault ≡ BadHex) ↔ ¬ BeginsWithHash text)
+IsDigestFault option text Memory = SpellsNone text
 IsDigestFault option text _ = ⊥
 
 -- the error of a file that can't be read

@@ -12,11 +12,11 @@ use Rattle.checkout.specs.declared.error.CheckoutError.TheVariants as trees
 use Rattle.clap.specs.Words.{Row, first_of}
 use Rattle.command_lines.specs.CommandLine.{option_text}
 use Rattle.commands.specs.Faults.{IsDigestFault, TellsOfEntry}
-use Rattle.commands.specs.Got.{IsBlobOver}
-use Rattle.commands.specs.Places.{CameOver, FailsOver, FailsToConnect, IsToldOver, LacksOver}
-use Rattle.commands.specs.Places.{RefusesAt}
+use Rattle.commands.specs.Got.{GetsFirst, IsBlobOver}
+use Rattle.commands.specs.Places.{FailsOver, FailsToConnect, LacksOver, RefusesAt, gets_alone}
 use Rattle.commands.specs.Printed.{StartsGet}
 use Rattle.commands.specs.Refusal.{IsPrintFault}
+use Rattle.commands.specs.Trees.{AsksTree}
 use Rattle.commands.specs.Words.{AllValid, FailsFirst, server_words}
 use Rattle.commands.specs.World.{Sight}
 use Rattle.commands.specs.declared.error.CommandError.{CommandError}
@@ -35,18 +35,17 @@ IsWrongBytes address d _ = ⊥
 
 -- ---- a blob
 
--- bytes with another digest came over the connection
+-- bytes with another digest answered the request
 pub record ComesWrong (start : ConnectionValue) (digest : DigestValue) : Type 0 where
   pub bytes : List ℕ
-  pub came : CameOver start Cas digest.hash bytes
+  pub came : GetsFirst start digest (Some bytes)
   pub other : digest_of bytes ≢ digest
 
 -- Why a blob wasn't written, over a connection to the server at this address. The empty one isn't
 -- asked for, so that nothing but the output refuses it.
 pub data FailsGetBlob (start : ConnectionValue) (address : List ℕ) (digest : DigestValue)
     (e : CommandError) : Type 0 where
-  in_memory : digest ≢ empty_digest → e ≡ Memory → FailsGetBlob start address digest e
-  in_reply : digest ≢ empty_digest → RefusesAt start address GetBlob digest [] e
+  in_reply : digest ≢ empty_digest → RefusesAt gets_alone start address GetBlob digest [] e
       → FailsGetBlob start address digest e
   in_bytes : digest ≢ empty_digest → ComesWrong start digest → IsWrongBytes address digest e
       → FailsGetBlob start address digest e
@@ -58,24 +57,25 @@ pub data FailsGetBlob (start : ConnectionValue) (address : List ℕ) (digest : D
 -- The error tells why a tree wasn't written. Where a blob of it is missing, that is so told, and
 -- the output takes no line of that.
 abbrev pub TellsCheckout : ConnectionValue → List ℕ → CheckoutError Global → CommandError → Type 0
-TellsCheckout start address (trees.Missing d) e = ∥ FailsOver start address e ∥₁
-    ⊎ (∥ LacksOver start Cas d.hash ∥₁ × IsPrintFault e)
+TellsCheckout start address (trees.Missing d) e = ∥ FailsOver gets_alone start address e ∥₁
+    ⊎ (∥ LacksOver gets_alone start Cas d.hash ∥₁ × IsPrintFault e)
 TellsCheckout start address (trees.Wrong d) e = IsWrongBytes address d e
 TellsCheckout start address (trees.Malformed d) e =
     TellsOfEntry (digest_text d) (codes "not a Directory") e
 TellsCheckout start address (trees.TooDeep path) e =
     TellsOfEntry (path_text path) (codes "a path of more than 64 names") e
-TellsCheckout start address trees.Fetch e = ∥ FailsOver start address e ∥₁
+TellsCheckout start address trees.Fetch e = ∥ FailsOver gets_alone start address e ∥₁
 TellsCheckout start address (trees.Place path fault) e = e ≡ File path fault
 TellsCheckout start address trees.Memory e = e ≡ Memory
 
 -- why the tree that was told over the connection wasn't written into the folder
-pub data FailsGetTree (sees : Sight) (start : ConnectionValue) (address : List ℕ)
+pub record FailsGetTree (sees : Sight) (start : ConnectionValue) (address : List ℕ)
     (digest : DigestValue) (folder : List ℕ) (e : CommandError) : Type 0 where
-  in_memory : e ≡ Memory → FailsGetTree sees start address digest folder e
-  in_tree : (told : Telling) (error : CheckoutError Global) → ∥ IsToldOver start told ∥₁
-      → FailsCheckout sees.holds sees.unwritten told.blobs digest folder error
-      → TellsCheckout start address error e → FailsGetTree sees start address digest folder e
+  pub told : Telling
+  pub asks : AsksTree start digest told
+  pub error : CheckoutError Global
+  pub fails : FailsCheckout sees.holds sees.unwritten sees.tries told.blobs digest folder error
+  pub tells : TellsCheckout start address error e
 
 -- ---- the command
 

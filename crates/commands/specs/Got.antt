@@ -5,19 +5,21 @@ use Rattle.blob_digest.specs.Digest.{DigestValue, digest_of, empty_digest}
 use Rattle.blob_digest.specs.Text.{digest_text}
 use Rattle.http_core.specs.declared.event.Area.TheVariants.{Cas}
 use Rattle.remote.specs.Line.{ConnectionValue, Gets}
-use Rattle.commands.specs.Places.{CameOver}
 use Rattle.commands.specs.Told.{AppendsBeginning}
 use Rattle.commands.specs.declared.ended.Ended.{Ended}
 use Rattle.commands.specs.declared.ended.Ended.TheVariants.{Done, No}
 use Rattle.commands.specs.declared.ended.Note.{Note}
 use Rattle.commands.specs.declared.ended.Note.TheVariants.{NoBlob}
 
--- Bytes with the digest came over the connection that stood so. For the empty ones nothing is
--- asked.
+-- the first request over the connection that stood so was for the blob, and this answered it
+abbrev pub GetsFirst : ConnectionValue → DigestValue → Option (List ℕ) → Type 0
+GetsFirst start digest answer = (now : ConnectionValue) × Gets start now Cas digest.hash answer
+
+-- Bytes with the digest answered that. For the empty ones nothing is asked.
 pub record IsBlobOver (start : ConnectionValue) (digest : DigestValue) (bytes : List ℕ)
     : Type 0 where
   pub right : digest_of bytes ≡ digest
-  pub came : (digest ≡ empty_digest) ⊎ CameOver start Cas digest.hash bytes
+  pub came : (digest ≡ empty_digest) ⊎ GetsFirst start digest (Some bytes)
 
 pub record WritesRight (start : ConnectionValue) (digest : DigestValue)
     (old new : Option (List ℕ)) : Type 0 where
@@ -31,13 +33,12 @@ NotesNoBlob address digest (Some (NoBlob server text)) =
     (string_bytes server ≡ address) × (string_bytes text ≡ digest_text digest)
 NotesNoBlob address digest _ = ⊥
 
--- The reply came over it that there is none, nothing was written, and the note says why. The empty
--- blob is never missing.
+-- It was answered that there is none, nothing was written, and the note says why. The empty blob is
+-- never missing.
 pub record WritesNothing (start : ConnectionValue) (address : List ℕ) (digest : DigestValue)
     (note : Option Note) (old new : Option (List ℕ)) : Type 0 where
   pub some : digest ≢ empty_digest
-  pub now : ConnectionValue
-  pub none : Gets start now Cas digest.hash None
+  pub none : GetsFirst start digest None
   pub unprinted : new ≡ old
   pub noted : NotesNoBlob address digest note
 

@@ -4,6 +4,7 @@ pub mod ErrorText
 pub mod Faults
 pub mod GetRefused
 pub mod Got
+pub mod Hints
 pub mod Options
 pub mod Places
 pub mod Printed

@@ -14,7 +14,7 @@ use Rattle.remote.specs.Flow.{unknown_flow}
 use Rattle.remote.specs.Folder.{IsNothingAt, entry_path}
 use Rattle.remote.specs.Folder as folders
 use Rattle.remote.specs.Line.{ConnectionValue, Gets, Puts, RefusesRequest, Request, get, put}
-use Rattle.remote.specs.Remote.{blobs_of, results_of}
+use Rattle.remote.specs.Remote.{blobs_of, results_of, telling_of}
 use Rattle.remote.specs.Table.{HasAnswer, KeepsNone}
 use Rattle.remote.specs.declared.fault.Fault.{Fault}
 use Rattle.remote.specs.declared.files.FileError.{FileError}
@@ -40,6 +40,7 @@ use Rattle.commands.specs.declared.failure.Method.TheVariants.{PutResult}
 pub record IsFresh {S A : Type 0} (r : Remote S A) : Type 0 where
   pub blobs : (d : DigestValue) → HasAnswer (blobs_of r) d → ⊥
   pub results : (d : DigestValue) → HasAnswer (results_of r) d → ⊥
+  pub calls : (telling_of r).calls ≡ 0
 
 -- the answer to the question by what such a source told, where what is missing by it is so lacked
 abbrev pub IsAnsweredBy : (Telling → Type 0) → (Lack → Type 0) → Question → Answer Global → Type 0
@@ -111,46 +112,65 @@ pub record IsConnected (sees : Sight) (server : ServerOptions) (c : ConnectionVa
   pub host_is : c.host ≡ server.host
   pub prefix_is : c.prefix ≡ server.prefix
   pub unbroken : c.broken ≡ false
+  pub unshut : c.shut ≡ false
+  pub uncounted : c.failures ≡ 0
   pub unfailed : c.fault ≡ None
 
--- the connection came to stand so by requests, one after another, and replies to them
-pub data Comes (start : ConnectionValue) : ConnectionValue → Type 0 where
-  fresh : Comes start start
-  got : (old new : ConnectionValue) (area : Area) (hash : List ℕ) (answer : Option (List ℕ))
-      → Comes start old → Gets old new area hash answer → Comes start new
-  taken : (old new : ConnectionValue) (area : Area) (hash body : List ℕ)
-      → Comes start old → Puts old new area hash body → Comes start new
-  refused : (old new : ConnectionValue) (request : Request) (e : FetchError)
-      → Comes start old → RefusesRequest old new request e → Comes start new
+-- the requests that go over a connection: GETs alone, or PUTs too
+pub data Access : Type 0 where
+  gets_alone : Access
+  puts_too : Access
 
--- these bytes came over the connection as a reply for the hash, or it took them
-pub record CameOver (start : ConnectionValue) (area : Area) (hash bytes : List ℕ) : Type 0 where
+-- this is such a request
+abbrev pub MaySend : Access → Request → Type 0
+MaySend gets_alone request = request.body ≡ None
+MaySend puts_too request = Unit {0}
+
+-- the connection came to stand so by such requests, one after another, and replies to them
+pub data Comes (access : Access) (start : ConnectionValue) : ConnectionValue → Type 0 where
+  fresh : Comes access start start
+  got : (old new : ConnectionValue) (area : Area) (hash : List ℕ) (answer : Option (List ℕ))
+      → Comes access start old → Gets old new area hash answer → Comes access start new
+  taken : (old new : ConnectionValue) (area : Area) (hash body : List ℕ)
+      → Comes access start old → MaySend access (put area hash body)
+      → Puts old new area hash body → Comes access start new
+  refused : (old new : ConnectionValue) (request : Request) (e : FetchError)
+      → Comes access start old → MaySend access request
+      → RefusesRequest old new request e → Comes access start new
+
+-- These bytes came over the connection as a reply for the hash; or it took them, where PUTs go over
+-- it.
+pub record CameOver (access : Access) (start : ConnectionValue) (area : Area)
+    (hash bytes : List ℕ) : Type 0 where
   pub old : ConnectionValue
   pub new : ConnectionValue
-  pub before : Comes start old
-  pub is : Gets old new area hash (Some bytes) ⊎ Puts old new area hash bytes
+  pub before : Comes access start old
+  pub is : Gets old new area hash (Some bytes)
+      ⊎ (MaySend access (put area hash bytes) × Puts old new area hash bytes)
 
-abbrev pub CameAllOver : ConnectionValue → Area → Blobs → Type 0
-CameAllOver start area told =
-    (d : DigestValue) (b : List ℕ) → told d ≡ Some b → CameOver start area d.hash b
+abbrev pub CameAllOver : Access → ConnectionValue → Area → Blobs → Type 0
+CameAllOver access start area told =
+    (d : DigestValue) (b : List ℕ) → told d ≡ Some b → CameOver access start area d.hash b
 
 -- the reply came over the connection that there is nothing under the hash
-pub record LacksOver (start : ConnectionValue) (area : Area) (hash : List ℕ) : Type 0 where
+pub record LacksOver (access : Access) (start : ConnectionValue) (area : Area)
+    (hash : List ℕ) : Type 0 where
   pub old : ConnectionValue
   pub new : ConnectionValue
-  pub before : Comes start old
+  pub before : Comes access start old
   pub is : Gets old new area hash None
 
 -- and that is the blob or the result
-abbrev pub LacksIt : ConnectionValue → Lack → Type 0
-LacksIt start (Blob d) = LacksOver start Cas d.hash
-LacksIt start (ActionResult d) = LacksOver start Ac d.hash
+abbrev pub LacksIt : Access → ConnectionValue → Lack → Type 0
+LacksIt access start (Blob d) = LacksOver access start Cas d.hash
+LacksIt access start (ActionResult d) = LacksOver access start Ac d.hash
 
 -- a client over the connection told this, which now stands so
-pub record IsClientOver (start now : ConnectionValue) (told : Telling) : Type 0 where
-  pub came : Comes start now
-  pub blobs : CameAllOver start Cas told.blobs
-  pub results : CameAllOver start Ac told.results
+pub record IsClientOver (access : Access) (start now : ConnectionValue) (told : Telling)
+    : Type 0 where
+  pub came : Comes access start now
+  pub blobs : CameAllOver access start Cas told.blobs
+  pub results : CameAllOver access start Ac told.results
 
 -- what is asked for under a hash, or put there with this body
 abbrev pub request_of : Method → List ℕ → List ℕ → Request
@@ -160,18 +180,20 @@ request_of PutBlob hash body = put Cas hash body
 request_of PutResult hash body = put Ac hash body
 
 -- the request was refused over the connection, for this fault
-pub record IsRefusedFor (start : ConnectionValue) (asked : Request) (fault : Fault) : Type 0 where
+pub record IsRefusedFor (access : Access) (start : ConnectionValue) (asked : Request)
+    (fault : Fault) : Type 0 where
   pub old : ConnectionValue
   pub new : ConnectionValue
-  pub before : Comes start old
+  pub before : Comes access start old
+  pub sent : MaySend access asked
   pub is : RefusesRequest old new asked Failed
   pub kept : new.fault ≡ Some fault
 
 -- and the error tells that the server at this address refused it
-pub record RefusesAt (start : ConnectionValue) (address : List ℕ) (method : Method)
-    (digest : DigestValue) (body : List ℕ) (e : CommandError) : Type 0 where
+pub record RefusesAt (access : Access) (start : ConnectionValue) (address : List ℕ)
+    (method : Method) (digest : DigestValue) (body : List ℕ) (e : CommandError) : Type 0 where
   pub fault : Fault
-  pub why : IsRefusedFor start (request_of method digest.hash body) fault
+  pub why : IsRefusedFor access start (request_of method digest.hash body) fault
   pub told : IsServerFault address method digest fault e
 
 -- what goes with a request: a blob with its own digest, a result, or nothing
@@ -181,34 +203,36 @@ Carries PutResult digest body = Unit {0}
 Carries _ digest body = body ≡ []
 
 -- a request was refused so
-pub record FailsOver (start : ConnectionValue) (address : List ℕ) (e : CommandError) : Type 0 where
+pub record FailsOver (access : Access) (start : ConnectionValue) (address : List ℕ)
+    (e : CommandError) : Type 0 where
   pub method : Method
   pub digest : DigestValue
   pub body : List ℕ
   pub carries : Carries method digest body
-  pub is : RefusesAt start address method digest body e
+  pub is : RefusesAt access start address method digest body e
 
 -- What is kept as the request that failed last was refused. Where nothing is kept no call failed.
-abbrev pub KeepsRefused : ConnectionValue → ConnectionValue → Option Failure → Type 0
-KeepsRefused start now None = now.failures ≡ start.failures
-KeepsRefused start now (Some f) =
+abbrev pub KeepsRefused : Access → ConnectionValue → ConnectionValue → Option Failure → Type 0
+KeepsRefused access start now None = now.failures ≡ start.failures
+KeepsRefused access start now (Some f) =
     (body : List ℕ) × Carries f.method f.digest body
-    × IsRefusedFor start (request_of f.method f.digest.hash body) f.fault
+    × IsRefusedFor access start (request_of f.method f.digest.hash body) f.fault
 
-abbrev pub IsToldOver : ConnectionValue → Telling → Type 0
-IsToldOver start told = (now : ConnectionValue) × IsClientOver start now told
+abbrev pub IsToldOver : Access → ConnectionValue → Telling → Type 0
+IsToldOver access start told = (now : ConnectionValue) × IsClientOver access start now told
 
 -- a client of this server told this
-pub record IsOfServer (sees : Sight) (server : ServerOptions) (told : Telling) : Type 0 where
+pub record IsOfServer (access : Access) (sees : Sight) (server : ServerOptions) (told : Telling)
+    : Type 0 where
   pub start : ConnectionValue
   pub opened : IsConnected sees server start
-  pub over : IsToldOver start told
+  pub over : IsToldOver access start told
 
--- it replied that it has no such blob or result
+-- it replied that it has no such blob or result, over a connection on which nothing is put
 pub record LacksAtServer (sees : Sight) (server : ServerOptions) (lack : Lack) : Type 0 where
   pub start : ConnectionValue
   pub opened : IsConnected sees server start
-  pub lacks : LacksIt start lack
+  pub lacks : LacksIt gets_alone start lack
 
 -- for a marker that names no connection
 abbrev pub no_connection : ConnectionValue

@@ -1,5 +1,5 @@
 -- What a command prints, by its options.
-use Rattle.std.specs.Prelude.{◌≡◌, ◌⊎◌, ℕ, false, List, [], ◌∷◌, ◌++◌, Option, None, Some}
+use Rattle.std.specs.Prelude.{◌≡◌, ◌⊎◌, ℕ, false, true, List, [], ◌∷◌, ◌++◌, Option, None, Some}
 use Rattle.std.specs.Prelude.{IsSome, codes, string_bytes, IfSome}
 use Rattle.std.specs.Io.KnownBytes.{Appends}
 use Rattle.std.specs.Net.Text.{socket_text}
@@ -10,8 +10,9 @@ use Rattle.blob_digest.specs.Text.{digest_text}
 use Rattle.clap.specs.Words.{Row, first_of}
 use Rattle.report.specs.Line.{report_line}
 use Rattle.cache_server.specs.Cache.{unused_cache}
-use Rattle.remote.specs.Folder.{IsNothingAt}
+use Rattle.remote.specs.Folder.{IsNotThere, IsNothingAt}
 use Rattle.remote.specs.Line.{ConnectionValue}
+use Rattle.remote.specs.declared.files.FileError.{FileError}
 use Rattle.blob_source.specs.Source.{Telling}
 use Rattle.verifier.specs.declared.verdict.Verdict.{Verdict}
 use Rattle.text_verifier.specs.Answered.{IsJudged}
@@ -21,7 +22,7 @@ use Rattle.text_verifier.specs.declared.lack.Lack.{Lack}
 use Rattle.commands.specs.Got.{BeginsBlob, Writes}
 use Rattle.commands.specs.Options.{IsServerOf, OnNamedServer, decimal_number, number_or}
 use Rattle.commands.specs.Places.{IsOfFolder, IsOfServer, IsConnected, LacksAtServer}
-use Rattle.commands.specs.Places.{LacksInFolder}
+use Rattle.commands.specs.Places.{LacksInFolder, Access, gets_alone}
 use Rattle.commands.specs.Put.{PutsPath}
 use Rattle.commands.specs.Told.{AppendsBeginning}
 use Rattle.commands.specs.Trees.{BeginsLack, IsTreeGot}
@@ -57,14 +58,15 @@ IsNamedPlace options (Folder folder) =
 IsNamedPlace options (Server server) = NamesServer options × IsServerOf options server
 
 -- a client of the server that the options name told this
-abbrev pub IsOfOptions : Sight → List Row → Telling → Type 0
-IsOfOptions sees options told = OnNamedServer options (λ server. IsOfServer sees server told)
+abbrev pub IsOfOptions : Access → Sight → List Row → Telling → Type 0
+IsOfOptions access sees options told =
+    OnNamedServer options (λ server. IsOfServer access sees server told)
 
--- a source over the place that the options name told this
+-- A source over the place that the options name told this. Nothing is put into it.
 abbrev pub IsOfPlace : Sight → List Row → Telling → Type 0
 IsOfPlace sees options told =
     (NamesStore options × IsOfFolder sees (option_text options (codes "store")) told)
-    ⊎ (NamesServer options × IsOfOptions sees options told)
+    ⊎ (NamesServer options × IsOfOptions gets_alone sees options told)
 
 -- The store folder that they name has no file of it, as the world told; or the server that they
 -- name replied that it has no such blob or result.
@@ -109,14 +111,22 @@ BeginsVerdict sees options old new = (new ≡ old) ⊎ ((verdict : Verdict Globa
 abbrev pub LacksFolder : Sight → List ℕ → Type 0
 LacksFolder sees path = sees.leads path false ⊎ IsNothingAt sees.fails path
 
--- A note of it says that the options name a store folder, and that none is there.
+-- it told that one is, or couldn't tell what is there
+abbrev pub MayHaveFolder : Sight → List ℕ → Type 0
+MayHaveFolder sees path = sees.leads path true
+    ⊎ ((e : FileError Global) × sees.fails path e × ¬ IsNotThere e)
+
+-- a no has a note exactly where this store is a folder that isn't there
+abbrev pub NotesFolder : Sight → Option (List ℕ) → Ended → Type 0
+NotesFolder sees store (No (Some (NoStore path))) =
+    (store ≡ Some (string_bytes path)) × LacksFolder sees (string_bytes path)
+NotesFolder sees store (No (Some _)) = ⊥
+NotesFolder sees store (No None) = IfSome store (MayHaveFolder sees)
+NotesFolder sees store Done = Unit {0}
+
+-- so it is with the store that the options name
 abbrev pub NotesStore : Sight → List Row → Ended → Type 0
-NotesStore sees options (No (Some (NoStore path))) =
-    (first_of (codes "store") options ≡ Some (string_bytes path))
-    × LacksFolder sees (string_bytes path)
-NotesStore sees options (No (Some _)) = ⊥
-NotesStore sees options (No None) = Unit {0}
-NotesStore sees options Done = Unit {0}
+NotesStore sees options = NotesFolder sees (first_of (codes "store") options)
 
 -- ---- the others
 

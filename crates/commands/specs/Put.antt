@@ -9,14 +9,14 @@ use Rattle.messages.specs.Node.{IsChild}
 use Rattle.messages.specs.declared.node.Node.TheVariants.{Dir, File, Link}
 use Rattle.remote.specs.Line.{ConnectionValue, Puts}
 use Rattle.tree.specs.Form.{NodeValue}
-use Rattle.commands.specs.Places.{Comes}
+use Rattle.commands.specs.Places.{Comes, puts_too}
 use Rattle.commands.specs.World.{Sight, a_file, a_folder, a_link}
 
 -- the server took a PUT of this blob over the connection, which was opened so
 pub record TakesBlob (start : ConnectionValue) (bytes : List ℕ) : Type 0 where
   pub old : ConnectionValue
   pub new : ConnectionValue
-  pub before : Comes start old
+  pub before : Comes puts_too start old
   pub is : Puts old new Cas (digest_of bytes).hash bytes
 
 -- the folder was read, and the Directory has a child of each name in it, and no other

@@ -16,7 +16,7 @@ use Rattle.remote.specs.Line.{ConnectionValue}
 use Rattle.tree.specs.Form.{NodeValue}
 use Rattle.remote.specs.declared.files.FileError.{FileError}
 use Rattle.commands.specs.Faults.{TellsOfEntry, error_of_file}
-use Rattle.commands.specs.Places.{FailsToConnect, RefusesAt}
+use Rattle.commands.specs.Places.{FailsToConnect, RefusesAt, puts_too}
 use Rattle.commands.specs.Printed.{StartsPut}
 use Rattle.commands.specs.Put.{IsListed, IsPutAt, PutsPath}
 use Rattle.commands.specs.Refusal.{IsPrintFault}
@@ -44,25 +44,29 @@ pub record HasNameTwice (place : List ℕ) (names : List (List ℕ)) (e : Comman
 
 -- the server at the address refused a PUT of this blob over the connection, which was opened so
 abbrev pub RefusesPut : ConnectionValue → List ℕ → List ℕ → CommandError → Type 0
-RefusesPut start address bytes = RefusesAt start address PutBlob (digest_of bytes) bytes
+RefusesPut start address bytes =
+    RefusesAt puts_too start address PutBlob (digest_of bytes) bytes
 
--- the folder at the place was read, and has an entry of this name
-pub record HasEntry (sees : Sight) (place name : List ℕ) : Type 0 where
-  pub names : List (List ℕ)
-  pub read : sees.lists place names
-  pub has : Contains names name
+-- the folder at the place was read, and has an entry of this name; what it has before that is put
+pub record ReachesEntry (sees : Sight) (start : ConnectionValue) (place name : List ℕ)
+    : Type 0 where
+  pub before : List (List ℕ)
+  pub behind : List (List ℕ)
+  pub read : sees.lists place (before ++ name ∷ behind)
+  pub left : ℕ
+  pub put : (n : List ℕ) → Contains before n
+      → (x : NodeValue) × IsPutAt sees start left (place ++ 47 ∷ n) x
 
 -- What stands at a place isn't put: it can't be read or spelled, or the server refused it; of a
 -- folder, whose entries it took.
 pub data FailsHere (sees : Sight) (start : ConnectionValue) (address place : List ℕ)
     (e : CommandError) : Type 0 where
-  in_memory : e ≡ Memory → FailsHere sees start address place e
   unread : (f : FileError Global) → sees.fails place f → e ≡ error_of_file f
       → FailsHere sees start address place e
   no_text : (target : List ℕ) → sees.stands place (a_link target) → LinksToNoText place target e
       → FailsHere sees start address place e
-  no_name : (name : List ℕ) → HasEntry sees place name → HasNoName (place ++ 47 ∷ name) name e
-      → FailsHere sees start address place e
+  no_name : (name : List ℕ) → ReachesEntry sees start place name
+      → HasNoName (place ++ 47 ∷ name) name e → FailsHere sees start address place e
   name_twice : (names : List (List ℕ)) → sees.lists place names → HasNameTwice place names e
       → FailsHere sees start address place e
   file_refused : (bytes : List ℕ) → sees.reads place bytes
@@ -73,15 +77,16 @@ pub data FailsHere (sees : Sight) (start : ConnectionValue) (address place : Lis
       → ∥ RefusesPut start address (directory_bytes d) e ∥₁
       → FailsHere sees start address place e
 
--- It, or something below it, isn't put, where paths go so many names further down.
+-- It, or something below it, isn't put, the first in the order of the names, where paths go so many
+-- names further down.
 pub data FailsBelow (sees : Sight) (start : ConnectionValue) (address : List ℕ) (e : CommandError)
     : ℕ → List ℕ → Type 0 where
   here : (left : ℕ) (place : List ℕ) → FailsHere sees start address place e
       → FailsBelow sees start address e left place
-  too_deep : (place name : List ℕ) → HasEntry sees place name
+  too_deep : (place name : List ℕ) → ReachesEntry sees start place name
       → TellsOfEntry (place ++ 47 ∷ name) (codes "more than 64 names deep") e
       → FailsBelow sees start address e 0 place
-  below : (left : ℕ) (place name : List ℕ) → HasEntry sees place name
+  below : (left : ℕ) (place name : List ℕ) → ReachesEntry sees start place name
       → FailsBelow sees start address e left (place ++ 47 ∷ name)
       → FailsBelow sees start address e (suc left) place
 

@@ -1,15 +1,12 @@
 -- Why `verify` ends without its answer: the first fault, in the order words, digests, plan, record,
 -- connection and work. Of a file, that it can't be read comes before what is wrong in its text.
-use Rattle.std.specs.Prelude.{◌≡◌, ◌⊎◌, ◌-◌, ℕ, Bool, true, false, List, IfSome, Some, codes}
-use Rattle.std.specs.Prelude.{length, slice_get, string_bytes}
+use Rattle.std.specs.Prelude.{◌≡◌, ◌⊎◌, ℕ, List, codes, string_bytes}
 use Rattle.std.specs.declared.alloc.Global.{Global}
 use Rattle.blob_digest.specs.declared.error.DigestError.{DigestError}
 use Rattle.clap.specs.Words.{Row}
 use Rattle.plan.specs.Faults.{IsPlanFault}
 use Rattle.plan.specs.Record.{IsRecordFault, names_of}
 use Rattle.plan.specs.Values.{PlanValue}
-use Rattle.plan.specs.declared.error.Fault.{Fault}
-use Rattle.plan.specs.declared.error.Fault.TheVariants as faults
 use Rattle.plan.specs.declared.error.PlanError.{PlanError}
 use Rattle.remote.specs.Line.{ConnectionValue}
 use Rattle.remote.specs.declared.files.FileError.{FileError}
@@ -21,12 +18,11 @@ use Rattle.commands.specs.declared.connecting.ServerOptions.{ServerOptions}
 use Rattle.commands.specs.declared.error.CommandError.{CommandError}
 use Rattle.commands.specs.declared.error.CommandError.TheVariants.{Digest, Memory, Output}
 use Rattle.commands.specs.declared.error.CommandError.TheVariants.{Text}
-use Rattle.commands.specs.declared.hint.Hint.{Hint}
-use Rattle.commands.specs.declared.hint.Hint.TheVariants.{BlankAtEnd, CarriageReturn, LaterStep}
-use Rattle.commands.specs.declared.hint.Hint.TheVariants.{NoLine, NoNewline, NoStep, OwnStep}
 use Rattle.commands.specs.Faults.{error_of_file}
+use Rattle.commands.specs.Hints.{IsHint, TellsOfFault}
 use Rattle.commands.specs.Options.{OnNamedServer}
 use Rattle.commands.specs.Places.{FailsInFolder, FailsOver, FailsToConnect, IsConnected}
+use Rattle.commands.specs.Places.{Access, gets_alone}
 use Rattle.commands.specs.Printed.{AsksQuestion, JudgesAsked, NamesServer, NamesStore}
 use Rattle.commands.specs.Words.{AllValid, FailsFirst, place_words}
 use Rattle.commands.specs.World.{Sight}
@@ -68,35 +64,11 @@ FailsDigests options (Digest option text fault) =
 FailsDigests options Memory = Unit {0}
 FailsDigests options _ = ⊥
 
--- a hint is of the step that a line reads, and else of the line's form
-abbrev pub is_of_step : Hint → Bool
-is_of_step LaterStep = true
-is_of_step OwnStep = true
-is_of_step NoStep = true
-is_of_step _ = false
-
--- what the hint says of a line of a text holds: of its last byte (13: carriage return; 32, 9:
--- blanks), and of what stands behind it
-abbrev pub FitsLine : List ℕ → Bool → Hint → Type 0
-FitsLine line is_last CarriageReturn = slice_get line (length line - 1) ≡ Some 13
-FitsLine line is_last BlankAtEnd = (slice_get line (length line - 1) ≡ Some 32)
-    ⊎ (slice_get line (length line - 1) ≡ Some 9)
-FitsLine line is_last NoNewline = is_last ≡ true
-FitsLine line is_last NoLine = (length line ≡ 0) × (is_last ≡ true)
-FitsLine line is_last _ = Unit {0}
-
--- the hints that may stand beside a fault
-abbrev pub GoesWith : Fault → Hint → Type 0
-GoesWith faults.LaterStep hint = is_of_step hint ≡ true
-GoesWith faults.BadHeader hint = is_of_step hint ≡ false
-GoesWith faults.BadLine hint = is_of_step hint ≡ false
-GoesWith _ hint = ⊥
-
 -- a file can't be read, or the text that was read of it is at fault, or memory ran out
 abbrev pub FailsText : Sight → List ℕ → (List ℕ → PlanError → Type 0) → CommandError → Type 0
 FailsText sees path faulty (Text p fault hint) =
-    (string_bytes p ≡ path) × IfSome hint (GoesWith fault.fault)
-    × ((bytes : List ℕ) × sees.reads path bytes × faulty bytes fault)
+    (string_bytes p ≡ path) × ((bytes : List ℕ) × sees.reads path bytes × faulty bytes fault
+    × IsHint (TellsOfFault bytes fault) hint)
 FailsText sees path faulty e =
     (e ≡ Memory) ⊎ ((f : FileError Global) × sees.fails path f × (e ≡ error_of_file f))
 
@@ -108,16 +80,16 @@ FailsRecord sees options plan =
     FailsText sees (option_text options (codes "record")) (IsRecordFault (names_of plan))
 
 -- the server can't be reached, or refused a request over the connection
-abbrev pub FailsServer : Sight → ServerOptions → CommandError → Type 0
-FailsServer sees server e = FailsToConnect sees (string_bytes server.address) e
+abbrev pub FailsServer : Access → Sight → ServerOptions → CommandError → Type 0
+FailsServer access sees server e = FailsToConnect sees (string_bytes server.address) e
     ⊎ ((start : ConnectionValue) × IsConnected sees server start
-    × FailsOver start (string_bytes server.address) e)
+    × FailsOver access start (string_bytes server.address) e)
 
 -- a file of the store that the options name can't be read, or the server that they name is at fault
 abbrev pub FailsAtPlace : Sight → List Row → CommandError → Type 0
 FailsAtPlace sees options e =
     (NamesStore options × FailsInFolder sees (option_text options (codes "store")) e)
-    ⊎ (NamesServer options × OnNamedServer options (λ server. FailsServer sees server e))
+    ⊎ (NamesServer options × OnNamedServer options (λ server. FailsServer gets_alone sees server e))
 
 -- The first fault: what comes before it has none. That memory is wanting may come anywhere, and is
 -- told as that.

@@ -54,6 +54,8 @@ pub record Sight : Type 1 where
   pub holds : FolderValue → Type 0
   -- nothing could be written at the path, for this
   pub unwritten : List ℕ → Error → Type 0
+  -- a tree was written, or tried to be: at these paths, in this order, and nowhere else
+  pub tries : List (List ℕ) → Type 0
   -- a socket listens at this place, at this address
   pub listens : List ℕ → SocketAddr → Type 0
   -- none could be bound there, for this
@@ -77,6 +79,7 @@ sees_nothing = record {
   wrote = λ _ _. Unit {0};
   holds = λ _. Unit {0};
   unwritten = λ _ _. Unit {0};
+  tries = λ _. Unit {0};
   listens = λ _ _. Unit {0};
   unbound = λ _ _. Unit {0};
   serves = λ _. Unit {0};

@@ -37,31 +37,46 @@ impl Origin for Brand {
     ghost start = { no_connection };
 }
 
+/// Marks a client by what it may send.
+pub trait Permit {
+    ghost use Rattle.commands.specs.Places.{Access};
+
+    ghost access: { Access };
+}
+
+/// It sends GETs alone, and so what it tells is what the server answered.
+pub struct GetsAlone;
+
+impl Permit for GetsAlone {
+    ghost use Rattle.commands.specs.Places.{gets_alone};
+
+    ghost access = { gets_alone };
+}
+
+/// It puts too.
+pub struct PutsToo;
+
+impl Permit for PutsToo {
+    ghost use Rattle.commands.specs.Places.{puts_too};
+
+    ghost access = { puts_too };
+}
+
 /// A remote over the marked connection, that knows which request failed last.
 #[derive(Drop)]
-pub struct Client<S: Stream + Drop, K: Origin> {
+pub struct Client<S: Stream + Drop, K: Origin, U: Permit> {
     remote: Remote<S, Global>,
     failure: Option<Failure>,
     of: PhantomData<K>,
-    ghost over: { ∥ IsClientOver K.start (connection_of S.flow remote) (telling_of remote) ∥₁ },
-    ghost lacked: { ∥ AreLacked (LacksIt K.start) (blobs_of remote) (results_of remote) ∥₁ },
-    ghost refused: { ∥ KeepsRefused K.start (connection_of S.flow remote) failure ∥₁ },
+    may: PhantomData<U>,
+    ghost over: { ∥ IsClientOver U.access K.start (connection_of S.flow remote)
+        (telling_of remote) ∥₁ },
+    ghost lacked: { ∥ AreLacked (LacksIt U.access K.start) (blobs_of remote)
+        (results_of remote) ∥₁ },
+    ghost refused: { ∥ KeepsRefused U.access K.start (connection_of S.flow remote) failure ∥₁ },
 }
 
-impl<S: Stream + Drop, K: Origin> Client<S, K> {
-    /// A client over this connection.
-    pub fn new(remote: Remote<S, Global>) -> Client<S, K>
-        requires start { K.start ≡ connection_of S.flow remote }
-        requires fresh { IsFresh remote }
-        ensures { result.remote ≡ remote }
-    {
-        Client {
-            remote,
-            failure: None,
-            of: PhantomData,
-        }
-    }
-
+impl<S: Stream + Drop, K: Origin> Client<S, K, PutsToo> {
     /// Puts a blob that isn't asked for again.
     pub(crate) fn put(
         &mut self,
@@ -83,11 +98,27 @@ impl<S: Stream + Drop, K: Origin> Client<S, K> {
             Err(refusal) => Err(self.error(alloc, server, refusal)?),
         }
     }
+}
+
+impl<S: Stream + Drop, K: Origin, U: Permit> Client<S, K, U> {
+    /// A client over this connection.
+    pub fn new(remote: Remote<S, Global>) -> Client<S, K, U>
+        requires start { K.start ≡ connection_of S.flow remote }
+        requires fresh { IsFresh remote }
+        ensures { result.remote ≡ remote }
+    {
+        Client {
+            remote,
+            failure: None,
+            of: PhantomData,
+            may: PhantomData,
+        }
+    }
 
     /// Looks again for what was told as missing.
     fn look_again(&mut self, alloc: Global, lack: &Lack) -> Result<Option<Vec<u8>>, FetchError>
         ensures lacked { IfOk result
-            (λ found. IfNone found (∥ LacksIt K.start lack.now ∥₁)) }
+            (λ found. IfNone found (∥ LacksIt U.access K.start lack.now ∥₁)) }
     {
         match lack {
             Lack::Blob(digest) => self.fetch(alloc, digest),
@@ -103,10 +134,9 @@ impl<S: Stream + Drop, K: Origin> Client<S, K> {
         server: &ServerOptions,
         lack: &Lack,
     ) -> Result<(), CommandError>
-        ensures lacked { OnOk result (∥ LacksIt K.start lack.now ∥₁) }
-        ensures fault { IfErr result
-            (OrMemory (λ e. ∥ FailsOver K.start (string_bytes server.now.address) e ∥₁)) }
-        ensures status { IfErr result (λ e. exit_status e ≡ 3) }
+        ensures lacked { OnOk result (∥ LacksIt U.access K.start lack.now ∥₁) }
+        ensures fault { IfErr result (OrMemory
+            (λ e. ∥ FailsOver U.access K.start (string_bytes server.now.address) e ∥₁)) }
     {
         let refusal = match self.look_again(alloc, lack) {
             Ok(None) => return Ok(()),
@@ -123,8 +153,8 @@ impl<S: Stream + Drop, K: Origin> Client<S, K> {
         server: &ServerOptions,
         refusal: FetchError,
     ) -> Result<CommandError, AllocError>
-        ensures over { IfOk result
-            (OrMemory (λ e. ∥ FailsOver K.start (string_bytes server.now.address) e ∥₁)) }
+        ensures over { IfOk result (OrMemory
+            (λ e. ∥ FailsOver U.access K.start (string_bytes server.now.address) e ∥₁)) }
         ensures status { IfOk result (λ e. exit_status e ≡ 3) }
         ensures error { IfOk result
             (TellsFailure (string_bytes server.now.address) self.now.failure refusal) }
@@ -149,7 +179,7 @@ impl<S: Stream + Drop, K: Origin> Client<S, K> {
     }
 }
 
-impl<S: Stream + Drop, K: Origin> BlobSource<Global> for Client<S, K> {
+impl<S: Stream + Drop, K: Origin, U: Permit> BlobSource<Global> for Client<S, K, U> {
     ghost use Rattle.remote.specs.Remote.{telling_of};
 
     ghost tells = { λ c. telling_of c.remote };
@@ -161,7 +191,7 @@ impl<S: Stream + Drop, K: Origin> BlobSource<Global> for Client<S, K> {
             (telling_of self.new.remote) (IsErrOf result FetchError.Failed) }
         // Where there is none, the server has replied so.
         ensures lacked { IfOk result
-            (λ answer. IfNone answer (∥ LacksOver K.start Cas digest.now.hash ∥₁)) }
+            (λ answer. IfNone answer (∥ LacksOver U.access K.start Cas digest.now.hash ∥₁)) }
     {
         let found = self.remote.fetch(alloc, digest);
         let fault = self.remote.last_fault();
@@ -175,7 +205,7 @@ impl<S: Stream + Drop, K: Origin> BlobSource<Global> for Client<S, K> {
         ensures called { Calls (AsksResult digest.now) (telling_of self.old.remote)
             (telling_of self.new.remote) (IsErrOf result FetchError.Failed) }
         ensures lacked { IfOk result
-            (λ answer. IfNone answer (∥ LacksOver K.start Ac digest.now.hash ∥₁)) }
+            (λ answer. IfNone answer (∥ LacksOver U.access K.start Ac digest.now.hash ∥₁)) }
     {
         let found = self.remote.result(alloc, digest);
         let fault = self.remote.last_fault();
@@ -184,7 +214,7 @@ impl<S: Stream + Drop, K: Origin> BlobSource<Global> for Client<S, K> {
     }
 }
 
-impl<S: Stream + Drop, K: Origin> BlobSink<Global> for Client<S, K> {
+impl<S: Stream + Drop, K: Origin> BlobSink<Global> for Client<S, K, PutsToo> {
     fn put_blob(&mut self, alloc: Global, bytes: &[u8]) -> Result<Digest, FetchError>
         ensures named { IfOk result (λ digest. digest ≡ digest_of bytes.now) }
         ensures held { OnOk result (IsPut bytes.now

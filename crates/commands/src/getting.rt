@@ -2,11 +2,12 @@ ghost use Rattle.std.specs.Prelude.{◌≡◌, ◌≢◌, ◌↔◌, None, Some,
 ghost use Rattle.std.specs.Prelude.{OnErr, string_bytes};
 ghost use Rattle.blob_digest.specs.Digest.{digest_of, empty_digest};
 ghost use Rattle.clap.specs.Words.{found_of, rows_of};
+ghost use Rattle.commands.specs.Faults.{OrMemory};
 ghost use Rattle.commands.specs.GetRefused.{FailsGetBlob, FailsGet};
 ghost use Rattle.commands.specs.Got.{BeginsBlob, IsBlobOver, NotesNoBlob, Writes};
 ghost use Rattle.commands.specs.Places.{IsFresh};
 ghost use Rattle.commands.specs.Printed.{GetsAsked, GetsPart};
-ghost use Rattle.commands.specs.Status.{exit_status};
+ghost use Rattle.commands.specs.Refusal.{IsPrintFault};
 ghost use Rattle.http_core.specs.declared.event.Area.TheVariants.{Cas};
 ghost use Rattle.remote.specs.Line.{Gets};
 ghost use Rattle.remote.specs.Remote.{connection_of};
@@ -50,9 +51,8 @@ fn get_blob<S: Stream + Drop>(
     // Nothing is asked for the empty one, which is there.
     ensures some { IfOk result (λ found. IfNone found (digest.now ≢ empty_digest)) }
     ensures sure { OnErr result (digest.now ≢ empty_digest) }
-    ensures status { IfErr result (λ e. exit_status e ≡ 3) }
-    ensures fault { IfErr result (FailsGetBlob (connection_of S.flow remote.old)
-        (string_bytes server.now.address) digest.now) }
+    ensures fault { IfErr result (OrMemory (FailsGetBlob (connection_of S.flow remote.old)
+        (string_bytes server.now.address) digest.now)) }
 {
     if *digest == Digest::empty() {
         return Ok(Some(Vec::new(alloc)));
@@ -100,9 +100,10 @@ fn print_blob<S: Stream + Drop, O: Write>(
         (string_bytes server.now.address) digest.now (O.contents out.old) (O.contents out.new)) }
     ensures begun { OnErr result (BeginsBlob (connection_of S.flow remote) digest.now
         (O.contents out.old) (O.contents out.new)) }
-    ensures status { IfErr result (λ e. exit_status e ≡ 3) }
-    ensures fault { IfErr result (FailsGetBlob (connection_of S.flow remote)
-        (string_bytes server.now.address) digest.now) }
+    ensures unprinted { IfErr result
+        (λ fault. ¬ IsPrintFault fault → O.contents out.new ≡ O.contents out.old) }
+    ensures fault { IfErr result (OrMemory (FailsGetBlob (connection_of S.flow remote)
+        (string_bytes server.now.address) digest.now)) }
 {
     let mut remote = remote;
     let Some(bytes) = get_blob(alloc, server, &mut remote, digest)? else {
@@ -125,8 +126,9 @@ pub fn run_get<W: World, O: Write>(
     // A refusal leaves no byte that isn't the blob's, or of the line of one that the server lacks.
     ensures begun { OnErr result (GetsPart W.sees (rows_of (found_of matches.now))
         (O.contents out.old) (O.contents out.new)) }
+    // Where it is for anything but the output, nothing was printed.
     ensures unprinted { IfErr result
-        (λ fault. exit_status fault ≡ 2 → O.contents out.new ≡ O.contents out.old) }
+        (λ fault. ¬ IsPrintFault fault → O.contents out.new ≡ O.contents out.old) }
     // It is for the first fault: what comes before it has none.
     ensures refused { IfErr result (FailsGet W.sees (rows_of (found_of matches.now))) }
 {

@@ -10,14 +10,13 @@ ghost use Rattle.commands.specs.PutRefused.{FailsBelow, FailsHere, FailsPut, Has
 ghost use Rattle.commands.specs.PutRefused.{LinksToNoText};
 ghost use Rattle.commands.specs.Faults.{OrMemory};
 ghost use Rattle.commands.specs.Refusal.{IsPrintFault};
-ghost use Rattle.commands.specs.Status.{exit_status};
 ghost use Rattle.commands.specs.Told.{AppendsBeginning};
 ghost use Rattle.messages.specs.declared.node.Node.TheVariants as nodes;
 ghost use Rattle.remote.specs.Remote.{connection_of};
 ghost use Rattle.tree.specs.Form.{node_value};
 
 use crate::children::Children;
-use crate::client::{Client, Origin, open};
+use crate::client::{Client, Origin, PutsToo, open};
 use crate::connecting::{ServerOptions, read_server};
 use crate::error::{CommandError, entry_error};
 use crate::printing::print_all;
@@ -65,14 +64,14 @@ fn put_file<W: World, K: Origin, P: Counter>(
     alloc: Global,
     world: &W,
     server: &ServerOptions,
-    client: &mut Client<W::Link, K>,
+    client: &mut Client<W::Link, K, PutsToo>,
     progress: &mut P,
     place: &str,
 ) -> Result<Digest, CommandError>
     ensures put { IfOk result (λ digest. (left : ℕ)
         → IsPutAt W.sees K.start (suc left) place.now (nodes.File digest false)) }
     ensures refused { IfErr result
-        (FailsHere W.sees K.start (string_bytes server.now.address) place.now) }
+        (OrMemory (FailsHere W.sees K.start (string_bytes server.now.address) place.now)) }
     ensures counted { OnOk result
         (P.files progress.new ≡ min (P.files progress.old + 1) 18446744073709551615) }
     ensures sized { IfOk result (λ digest.
@@ -91,7 +90,7 @@ fn put_node<W: World, K: Origin, P: Counter>(
     alloc: Global,
     world: &W,
     server: &ServerOptions,
-    client: &mut Client<W::Link, K>,
+    client: &mut Client<W::Link, K, PutsToo>,
     progress: &mut P,
     place: &str,
     left: u32,
@@ -99,8 +98,8 @@ fn put_node<W: World, K: Origin, P: Counter>(
     ensures stands { IfOk result (λ node. StandsAs W.sees place.now (node_value node)) }
     ensures put { IfOk result
         (λ node. IsPutAt W.sees K.start (suc left) place.now (node_value node)) }
-    ensures refused { IfErr result
-        (λ e. FailsBelow W.sees K.start (string_bytes server.now.address) e left place.now) }
+    ensures refused { IfErr result (OrMemory
+        (λ e. FailsBelow W.sees K.start (string_bytes server.now.address) e left place.now)) }
 {
     let found = world.look(alloc, place)?;
     let node = match found {
@@ -125,15 +124,15 @@ fn put_folder<W: World, K: Origin, P: Counter>(
     alloc: Global,
     world: &W,
     server: &ServerOptions,
-    client: &mut Client<W::Link, K>,
+    client: &mut Client<W::Link, K, PutsToo>,
     progress: &mut P,
     place: &str,
     left: u32,
 ) -> Result<Digest, CommandError>
     ensures put { IfOk result
         (λ digest. IsPutAt W.sees K.start (suc left) place.now (nodes.Dir digest)) }
-    ensures refused { IfErr result
-        (λ e. FailsBelow W.sees K.start (string_bytes server.now.address) e left place.now) }
+    ensures refused { IfErr result (OrMemory
+        (λ e. FailsBelow W.sees K.start (string_bytes server.now.address) e left place.now)) }
 {
     let names = world.list(alloc, place)?;
     let mut children = Children::new(alloc);
@@ -164,10 +163,10 @@ fn put_over<W: World, K: Origin, P: Counter>(
     requires start { K.start ≡ connection_of W.Link.flow remote }
     requires fresh { IsFresh remote }
     ensures put { IfOk result (PutsPath W.sees K.start (string_bytes place)) }
-    ensures refused { IfErr result (λ e. FailsBelow W.sees K.start
-        (string_bytes server.now.address) e 64 (string_bytes place)) }
+    ensures refused { IfErr result (OrMemory (λ e. FailsBelow W.sees K.start
+        (string_bytes server.now.address) e 64 (string_bytes place))) }
 {
-    let mut client: Client<W::Link, K> = Client::new(remote);
+    let mut client: Client<W::Link, K, PutsToo> = Client::new(remote);
     let place = place.as_str();
     if world.is_folder(alloc, place)? {
         put_folder(
@@ -191,6 +190,8 @@ fn print_digest<O: Write>(alloc: Global, digest: &Digest, out: &mut O) -> Result
     ensures begun { OnErr result ((O.contents out.new ≡ O.contents out.old)
         ⊎ AppendsBeginning (O.contents out.old) (O.contents out.new)
         (digest_text digest.now ++ 10 ∷ [])) }
+    ensures unprinted { IfErr result
+        (λ fault. ¬ IsPrintFault fault → O.contents out.new ≡ O.contents out.old) }
     ensures fault { IfErr result (OrMemory IsPrintFault) }
 {
     let mut line = digest.write_text(alloc)?;
@@ -215,8 +216,9 @@ where
     // A refusal leaves no byte that isn't of that line.
     ensures begun { OnErr result (BeginsDigest W.sees (rows_of (found_of matches.now))
         (O.contents out.old) (O.contents out.new)) }
+    // Where it is for anything but the output, nothing was printed.
     ensures unprinted { IfErr result
-        (λ fault. exit_status fault ≡ 2 → O.contents out.new ≡ O.contents out.old) }
+        (λ fault. ¬ IsPrintFault fault → O.contents out.new ≡ O.contents out.old) }
     // It is for the first fault: what comes before it has none.
     ensures refused { IfErr result (FailsPut W.sees (rows_of (found_of matches.now))) }
 {

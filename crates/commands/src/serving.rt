@@ -9,7 +9,6 @@ ghost use Rattle.commands.specs.Printed.{listening_line};
 ghost use Rattle.commands.specs.Faults.{OrMemory};
 ghost use Rattle.commands.specs.Refusal.{IsPrintFault};
 ghost use Rattle.commands.specs.ServeRefused.{FailsServe, FailsToListen, IsAcceptFault};
-ghost use Rattle.commands.specs.Status.{exit_status};
 ghost use Rattle.commands.specs.Told.{AppendsBeginning};
 ghost use Rattle.commands.specs.Words.{IsCheckedBy, has_number_up_to, is_at_once, is_idle};
 ghost use Rattle.commands.specs.Words.{listens_at, serve_words};
@@ -171,6 +170,8 @@ fn print_address<O: Write>(
     ensures begun { OnErr result ((O.contents out.new ≡ O.contents out.old)
         ⊎ AppendsBeginning (O.contents out.old) (O.contents out.new)
         (listening_line address.now)) }
+    ensures unprinted { IfErr result
+        (λ fault. ¬ IsPrintFault fault → O.contents out.new ≡ O.contents out.old) }
     ensures fault { IfErr result (OrMemory IsPrintFault) }
 {
     let address = address.to_string(alloc)?;
@@ -192,7 +193,8 @@ pub fn run_serve<R: AllocGlobal + RandomSource, W: World, O: Write>(
     // A refusal leaves no byte that isn't of the address's line.
     ensures begun { OnErr result (BeginsListening W.sees (rows_of (found_of matches.now))
         (O.contents out.old) (O.contents out.new)) }
-    ensures unprinted { IfErr result (λ fault. exit_status fault ≡ 2
+    // Where it is for anything but the output or a connection, nothing was printed.
+    ensures unprinted { IfErr result (λ fault. ¬ IsPrintFault fault → ¬ IsAcceptFault fault
         → O.contents out.new ≡ O.contents out.old) }
     // Where it listens was printed before connections were served.
     ensures told { IfErr result (λ fault. IsAcceptFault fault → PrintsListening W.sees

@@ -1,14 +1,14 @@
 ghost use Rattle.std.specs.Prelude.{◌≡◌, ◌⊎◌, IfErr, IfOk, OnErr, OnOk, string_bytes};
 ghost use Rattle.std.specs.Io.KnownBytes.{Appends};
+ghost use Rattle.commands.specs.Faults.{OrMemory};
 ghost use Rattle.commands.specs.GetRefused.{FailsGetTree, TellsCheckout};
 ghost use Rattle.commands.specs.Places.{IsFresh};
 ghost use Rattle.commands.specs.Refusal.{IsPrintFault};
-ghost use Rattle.commands.specs.Status.{exit_status};
 ghost use Rattle.commands.specs.Told.{AppendsBeginning};
 ghost use Rattle.commands.specs.Trees.{BeginsLack, IsTreeGot, PrintsLack, missing_line};
 ghost use Rattle.remote.specs.Remote.{connection_of};
 
-use crate::client::{Client, Origin};
+use crate::client::{Client, GetsAlone, Origin};
 use crate::connecting::ServerOptions;
 use crate::ended::Ended;
 use crate::error::CommandError;
@@ -37,8 +37,9 @@ fn print_missing<O: Write>(alloc: Global, digest: &Digest, out: &mut O) -> Resul
         (Appends (O.contents out.old) (O.contents out.new) (missing_line digest.now)) }
     ensures begun { OnErr result ((O.contents out.new ≡ O.contents out.old)
         ⊎ AppendsBeginning (O.contents out.old) (O.contents out.new) (missing_line digest.now)) }
-    ensures fault { IfErr result (λ e. (e ≡ CommandError.Memory) ⊎ IsPrintFault e) }
-    ensures status { IfErr result (λ e. exit_status e ≡ 3) }
+    ensures fault { IfErr result (OrMemory IsPrintFault) }
+    ensures unprinted { IfErr result
+        (λ fault. ¬ IsPrintFault fault → O.contents out.new ≡ O.contents out.old) }
 {
     let line = missing_line(alloc, digest)?;
     print_all(out, line.as_bytes())
@@ -49,7 +50,7 @@ fn print_missing<O: Write>(alloc: Global, digest: &Digest, out: &mut O) -> Resul
 fn print_lack<S: Stream + Drop, K: Origin, O: Write>(
     alloc: Global,
     server: &ServerOptions,
-    client: &mut Client<S, K>,
+    client: &mut Client<S, K, GetsAlone>,
     error: CheckoutError<Global>,
     out: &mut O,
 ) -> Result<(), CommandError>
@@ -57,9 +58,10 @@ fn print_lack<S: Stream + Drop, K: Origin, O: Write>(
         (PrintsLack K.start error (Appends (O.contents out.old) (O.contents out.new))) }
     ensures begun { OnErr result ((O.contents out.new ≡ O.contents out.old)
         ⊎ PrintsLack K.start error (AppendsBeginning (O.contents out.old) (O.contents out.new))) }
-    ensures fault { IfErr result (λ e. (e ≡ CommandError.Memory)
-        ⊎ TellsCheckout K.start (string_bytes server.now.address) error e) }
-    ensures status { IfErr result (λ e. exit_status e ≡ 3) }
+    ensures fault { IfErr result
+        (OrMemory (TellsCheckout K.start (string_bytes server.now.address) error)) }
+    ensures unprinted { IfErr result
+        (λ fault. ¬ IsPrintFault fault → O.contents out.new ≡ O.contents out.old) }
 {
     match error {
         CheckoutError::Missing(lacked) => {
@@ -100,11 +102,12 @@ fn get_over<W: World, S: Stream + Drop, K: Origin, O: Write>(
         (O.contents out.old) (O.contents out.new)) }
     ensures begun { OnErr result (BeginsLack W.sees K.start digest.now (string_bytes folder)
         (O.contents out.old) (O.contents out.new)) }
-    ensures fault { IfErr result (FailsGetTree W.sees K.start (string_bytes server.now.address)
-        digest.now (string_bytes folder)) }
-    ensures status { IfErr result (λ e. exit_status e ≡ 3) }
+    ensures fault { IfErr result (OrMemory (FailsGetTree W.sees K.start
+        (string_bytes server.now.address) digest.now (string_bytes folder))) }
+    ensures unprinted { IfErr result
+        (λ fault. ¬ IsPrintFault fault → O.contents out.new ≡ O.contents out.old) }
 {
-    let mut client: Client<S, K> = Client::new(remote);
+    let mut client: Client<S, K, GetsAlone> = Client::new(remote);
     match world.check_out(alloc, folder.as_str(), digest, &mut client) {
         Ok(()) => Ok(Ended::Done),
         Err(error) => {
@@ -130,9 +133,11 @@ pub(crate) fn get_tree<W: World, O: Write>(
         folder.now (O.contents out.old) (O.contents out.new)) }
     ensures begun { OnErr result (BeginsLack W.sees (connection_of W.Link.flow remote) digest.now
         folder.now (O.contents out.old) (O.contents out.new)) }
-    ensures fault { IfErr result (FailsGetTree W.sees (connection_of W.Link.flow remote)
-        (string_bytes server.now.address) digest.now folder.now) }
-    ensures status { IfErr result (λ e. exit_status e ≡ 3) }
+    ensures fault { IfErr result (OrMemory (FailsGetTree W.sees
+        (connection_of W.Link.flow remote) (string_bytes server.now.address) digest.now
+        folder.now)) }
+    ensures unprinted { IfErr result
+        (λ fault. ¬ IsPrintFault fault → O.contents out.new ≡ O.contents out.old) }
 {
     let folder = String::from_str(alloc, folder)?;
     get_over::<W, W::Link, Brand, O>(alloc, world, server, remote, digest, folder, out)

@@ -1,5 +1,5 @@
-ghost use Rattle.std.specs.Prelude.{◌≡◌, ◌∷◌, ◌↔◌, [], IfErr, IfOk, IfSome, IsTrue};
-ghost use Rattle.std.specs.Prelude.{None, OnErr, OnOk, codes, string_bytes};
+ghost use Rattle.std.specs.Prelude.{◌≡◌, ◌∷◌, ◌↔◌, [], IfErr, IfOk, IfSome, IsFalse, IsTrue};
+ghost use Rattle.std.specs.Prelude.{None, OnErr, OnOk, codes, option_map, string_bytes};
 ghost use Rattle.std.specs.Io.KnownBytes.{Appends};
 ghost use Rattle.clap.specs.Words.{found_of, first_of, rows_of};
 ghost use Rattle.command_lines.specs.CommandLine.{option_text};
@@ -7,12 +7,12 @@ ghost use Rattle.commands.specs.Ended.{is_done};
 ghost use Rattle.commands.specs.Faults.{OrMemory};
 ghost use Rattle.commands.specs.Places.{FailsInFolder, FailsOver, IsFresh, IsOfFolder};
 ghost use Rattle.commands.specs.Places.{IsOfServer, IsAnsweredBy, IsToldOver, LacksAtServer};
-ghost use Rattle.commands.specs.Places.{LacksInFolder, LacksIt};
+ghost use Rattle.commands.specs.Places.{LacksInFolder, LacksIt, gets_alone};
 ghost use Rattle.commands.specs.Printed.{AsksQuestion, BeginsVerdict, IsNamedPlace, IsOfPlace};
-ghost use Rattle.commands.specs.Printed.{LacksAtPlace, LacksFolder, NotesStore, PrintsVerdict};
+ghost use Rattle.commands.specs.Printed.{LacksAtPlace, LacksFolder, MayHaveFolder, NotesFolder};
+ghost use Rattle.commands.specs.Printed.{NotesStore, PrintsVerdict};
 ghost use Rattle.commands.specs.Refusal.{FailsDigests, FailsAtPlace, FailsPlan, FailsRecord};
 ghost use Rattle.commands.specs.Refusal.{FailsServer, FailsVerify, HasPlanRead, IsPrintFault};
-ghost use Rattle.commands.specs.Status.{exit_status};
 ghost use Rattle.commands.specs.Told.{AppendsBeginning, PrintsNoLine};
 ghost use Rattle.commands.specs.Words.{IsCheckedBy, IsSaid, IsToldInWords, goes_with_server};
 ghost use Rattle.commands.specs.Words.{place_words};
@@ -21,7 +21,7 @@ ghost use Rattle.report.specs.Line.{IsOneLine};
 ghost use Rattle.text_verifier.specs.Texts.{IsDigestText};
 ghost use Rattle.verifier.specs.Verdict.{IsYes};
 
-use crate::client::{Client, Origin, open};
+use crate::client::{Client, GetsAlone, Origin, open};
 use crate::connecting::{ServerOptions, read_server};
 use crate::ended::{Ended, Note};
 use crate::error::CommandError;
@@ -90,12 +90,13 @@ pub fn plan_in_file<W: World>(
         Ok(bytes) => bytes,
         Err(error) => return Err(CommandError::from(error)),
     };
-    match read_plan(alloc, &bytes) {
+    let text = bytes.as_slice();
+    match read_plan(alloc, text) {
         Ok(plan) => Ok(plan),
         Err(TextError::Plan(fault)) => Err(CommandError::Text {
             path: String::from_str(alloc, path)?,
             fault,
-            hint: Hint::of(&bytes, &fault),
+            hint: Hint::of(text, &fault),
         }),
         Err(_e) => Err(CommandError::Memory),
     }
@@ -123,12 +124,13 @@ fn read_case<W: World>(
         Ok(bytes) => bytes,
         Err(error) => return Err(CommandError::from(error)),
     };
-    match Case::read(alloc, digests, plan, &bytes) {
+    let text = bytes.as_slice();
+    match Case::read(alloc, digests, plan, text) {
         Ok(case) => Ok(case),
         Err(TextError::Record(fault)) => Err(CommandError::Text {
             path: String::from_str(alloc, path)?,
             fault,
-            hint: Hint::of(&bytes, &fault),
+            hint: Hint::of(text, &fault),
         }),
         Err(_e) => Err(CommandError::Memory),
     }
@@ -205,12 +207,13 @@ fn judge_folder<W: World, K: Place>(
 fn confirm_lack<S: Stream + Drop, K: Origin>(
     alloc: Global,
     server: &ServerOptions,
-    client: &mut Client<S, K>,
+    client: &mut Client<S, K, GetsAlone>,
     lack: &Option<Lack>,
 ) -> Result<(), CommandError>
-    ensures lacked { OnOk result (IfSome lack.now (λ lack. ∥ LacksIt K.start lack ∥₁)) }
-    ensures fault { IfErr result
-        (OrMemory (λ e. ∥ FailsOver K.start (string_bytes server.now.address) e ∥₁)) }
+    ensures lacked { OnOk result
+        (IfSome lack.now (λ lack. ∥ LacksIt gets_alone K.start lack ∥₁)) }
+    ensures fault { IfErr result (OrMemory
+        (λ e. ∥ FailsOver gets_alone K.start (string_bytes server.now.address) e ∥₁)) }
 {
     match lack {
         Some(lack) => client.confirm(alloc, server, lack),
@@ -228,11 +231,11 @@ fn judge_over<S: Stream + Drop, K: Origin>(
     requires start { K.start ≡ connection_of S.flow remote }
     requires fresh { IsFresh remote }
     ensures answered { IfOk result
-        (IsAnsweredBy (IsToldOver K.start) (LacksIt K.start) case.now) }
-    ensures fault { IfErr result
-        (OrMemory (λ e. ∥ FailsOver K.start (string_bytes server.now.address) e ∥₁)) }
+        (IsAnsweredBy (IsToldOver gets_alone K.start) (LacksIt gets_alone K.start) case.now) }
+    ensures fault { IfErr result (OrMemory
+        (λ e. ∥ FailsOver gets_alone K.start (string_bytes server.now.address) e ∥₁)) }
 {
-    let mut client: Client<S, K> = Client::new(remote);
+    let mut client: Client<S, K, GetsAlone> = Client::new(remote);
     match answer_question(alloc, case, &mut client) {
         Ok(answer) => {
             confirm_lack(alloc, server, &mut client, &answer.lack)?;
@@ -251,8 +254,10 @@ fn judge_server<W: World>(
     case: &Case<Global>,
 ) -> Result<Answer<Global>, CommandError>
     ensures answered { IfOk result
-        (IsAnsweredBy (IsOfServer W.sees server.now) (LacksAtServer W.sees server.now) case.now) }
-    ensures fault { IfErr result (OrMemory (λ e. ∥ FailsServer W.sees server.now e ∥₁)) }
+        (IsAnsweredBy (IsOfServer gets_alone W.sees server.now)
+        (LacksAtServer W.sees server.now) case.now) }
+    ensures fault { IfErr result
+        (OrMemory (λ e. ∥ FailsServer gets_alone W.sees server.now e ∥₁)) }
 {
     let remote = open(alloc, world, server)?;
     judge_over::<W::Link, Brand>(alloc, server, remote, case)
@@ -297,9 +302,21 @@ fn print_line<O: Write>(answer: &Answer<Global>, out: &mut O) -> Result<(), Comm
     write_bytes(out, newline)
 }
 
+/// The store that the words name, for a note.
+fn named_store(alloc: Global, matches: &ArgMatches<'_>) -> Result<Option<String>, AllocError>
+    ensures { IfOk result (λ store. option_map string_bytes store
+        ≡ first_of (codes "store") (rows_of (found_of matches.now))) }
+{
+    match option_of(matches, "store") {
+        Some(folder) => Ok(Some(String::from_str(alloc, folder)?)),
+        None => Ok(None),
+    }
+}
+
 /// Whether the world tells that no folder is at a path.
 fn lacks_folder<W: World>(alloc: Global, world: &W, path: &str) -> bool
-    ensures { IsTrue result → LacksFolder W.sees path.now }
+    ensures lacks { IsTrue result → LacksFolder W.sees path.now }
+    ensures may { IsFalse result → MayHaveFolder W.sees path.now }
 {
     match world.is_folder(alloc, path) {
         Ok(leads) => !leads,
@@ -308,30 +325,21 @@ fn lacks_folder<W: World>(alloc: Global, world: &W, path: &str) -> bool
     }
 }
 
-/// What a no doesn't say: that the words name a store folder that isn't there. Where that can't be
-/// told there is no note.
-fn note_on_store<W: World>(alloc: Global, world: &W, matches: &ArgMatches<'_>) -> Option<Note>
-    ensures { NotesStore W.sees (rows_of (found_of matches.now)) (Ended.No result) }
-{
-    let folder = option_of(matches, "store")?;
-    if !lacks_folder(alloc, world, folder) {
-        return None;
-    }
-    match String::from_str(alloc, folder) {
-        Ok(path) => Some(Note::NoStore { path }),
-        Err(_) => None,
-    }
-}
-
-/// What a verdict comes to. After a no the folder of the store is looked for.
-fn ended_of<W: World>(alloc: Global, world: &W, matches: &ArgMatches<'_>, is_yes: bool) -> Ended
+/// What a verdict comes to. After a no the folder of the store is looked for, and a note says that
+/// it isn't there.
+fn ended_of<W: World>(alloc: Global, world: &W, store: Option<String>, is_yes: bool) -> Ended
     ensures done { is_done result ≡ is_yes }
-    ensures noted { NotesStore W.sees (rows_of (found_of matches.now)) result }
+    ensures noted { NotesFolder W.sees (option_map string_bytes store) result }
 {
     if is_yes {
         return Ended::Done;
     }
-    Ended::No(note_on_store(alloc, world, matches))
+    match store {
+        Some(path) if lacks_folder(alloc, world, path.as_str()) => {
+            Ended::No(Some(Note::NoStore { path }))
+        }
+        _ => Ended::No(None),
+    }
 }
 
 /// Prints the verdict's line, and answers done where it is yes. The words are read first, then the
@@ -347,8 +355,9 @@ pub fn run_verify<W: World, O: Write>(
         (O.contents out.new))
         × (IsTrue (is_done ended) ↔ IsYes prints.verdict)) }
     ensures noted { IfOk result (NotesStore W.sees (rows_of (found_of matches.now))) }
+    // Where it is for anything but the output, nothing was printed.
     ensures unprinted { IfErr result
-        (λ fault. exit_status fault ≡ 2 → O.contents out.new ≡ O.contents out.old) }
+        (λ fault. ¬ IsPrintFault fault → O.contents out.new ≡ O.contents out.old) }
     // A refusal leaves no byte that isn't of that line, and no newline.
     ensures begun { OnErr result (BeginsVerdict W.sees (rows_of (found_of matches.now))
         (O.contents out.old) (O.contents out.new)) }
@@ -357,10 +366,11 @@ pub fn run_verify<W: World, O: Write>(
     ensures refused { IfErr result (FailsVerify W.sees (rows_of (found_of matches.now))) }
 {
     let build = read_place(alloc, matches)?;
+    let store = named_store(alloc, matches)?;
     let digests = typed_digests(alloc, matches)?;
     let plan = plan_in_file(alloc, world, matches)?;
     let case = read_case(alloc, world, matches, digests, plan)?;
     let answer = judge(alloc, world, matches, build, &case)?;
     print_line(&answer, out)?;
-    Ok(ended_of(alloc, world, matches, answer.is_yes))
+    Ok(ended_of(alloc, world, store, answer.is_yes))
 }

@@ -3,9 +3,10 @@ ghost use Rattle.std.specs.Prelude.{string_bytes};
 ghost use Rattle.std.specs.Fs.{IsDir, IsSymlink, file_type};
 ghost use Rattle.blob_source.specs.Called.{Called};
 ghost use Rattle.checkout.specs.Refused.{FailsCheckout};
-ghost use Rattle.checkout.specs.Written.{HoldsTree};
+ghost use Rattle.checkout.specs.Written.{AsksEachOnce, CheckoutLooksAt, HoldsTree, TriesTree};
 ghost use Rattle.messages.specs.Order.{bytes_cmp};
 ghost use Rattle.remote.specs.Folder.{IsErrorOf};
+ghost use Rattle.tree.specs.Memo.{AsksNoOther};
 
 use crate::connecting::{Connection, ServerOptions};
 use crate::files::{of_entry, unread};
@@ -137,9 +138,16 @@ pub trait World {
     ) -> Result<(), CheckoutError<Global>>
         ensures written { OnOk result
             (HoldsTree sees.holds (S.tells source.new).blobs root.now path.now) }
+        ensures tried { OnOk result
+            (TriesTree sees.tries (S.tells source.new).blobs root.now path.now) }
+        // Once something isn't told, taken or written, nothing more is tried.
         ensures refused { IfErr result
-            (FailsCheckout sees.holds sees.unwritten (S.tells source.new).blobs
+            (FailsCheckout sees.holds sees.unwritten sees.tries (S.tells source.new).blobs
             root.now path.now) }
+        ensures few { AsksEachOnce root.now (S.tells source.old) (S.tells source.new) }
+        // Nothing is asked for but the tree's Directories and its files' contents.
+        ensures only { AsksNoOther (CheckoutLooksAt (S.tells source.new).blobs root.now)
+            (S.tells source.old).blobs (S.tells source.new).blobs }
         ensures called { Called (S.tells source.old) (S.tells source.new)
             (IsErrOf result CheckoutError.Fetch) };
 

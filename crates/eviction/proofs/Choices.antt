@@ -8,10 +8,9 @@ use Rattle.std.specs.Option.{option_map_or}
 use Rattle.lru.proofs.CallerLemmas.{Contains-lookup_entry}
 use Rattle.std.proofs.lemmas.Bool.Decides.{Decides-eqb, nat_tests}
 use Rattle.std.proofs.lemmas.List.{length-reverse, reverse-reverse}
-use Rattle.std.proofs.lemmas.List.Filters.{length-filter_both}
 use Rattle.std.proofs.lemmas.Map.Keys.{IsDistinct-head, IsDistinct-tail}
 use Rattle.eviction.specs.Kept.{Held, Kept, IsTallied, is_pinned, cost_of, total_cost, pinned_cost, others}
-use Rattle.eviction.specs.Entering.{least, without_first, without_last, stored_key, new_entry, can_enter, evicted, entered}
+use Rattle.eviction.specs.Entering.{least, spared, without_last, stored_key, new_entry, can_enter, evicted, entered}
 use Rattle.eviction.specs.Pinning.{is_among}
 use Rattle.eviction.specs.Victims.{IsStanding, part_if_pinned, victims, without_keys, placed_first}
 use Rattle.eviction.proofs.Filters.{filter_all, filter-reverse}
@@ -30,6 +29,10 @@ lt_is x y h = grind (arith, nat_tests)
 pub least_same : (p q : ℕ → Bool) → ((m : ℕ) → p m ≡ q m) → (n : ℕ) → least p n ≡ least q n
 least_same p q h zero = refl
 least_same p q h (suc n) = λ i. cond (h 0 i) 0 (suc (least_same (λ m. p (suc m)) (λ m. q (suc m)) (λ m. h (suc m)) n i))
+
+-- the entries without the first m that are not pinned
+abbrev pub without_first : {K : Type 0} → ℕ → List (K × Held) → List (K × Held)
+without_first m es = spared is_pinned m es
 
 -- the least number passes, where the bound does
 pub least_passes : (p : ℕ → Bool) (n : ℕ) → p n ≡ true → p (least p n) ≡ true
@@ -264,17 +267,17 @@ module _ {K : Type 0} (eq : K → K → Bool) (laws : IsEquivalence eq) (s : Kep
   pub pinned_rest : pinned_cost s.overhead (reverse rest) ≡ pinned_cost s.overhead rest
   pinned_rest = ap (total_cost s.overhead) (filter-reverse is_pinned rest) ∙ total-reverse s.overhead (filter is_pinned rest)
 
-  pub shorter : length (reverse rest) ≤ length s.entries
-  shorter = let both = length-filter_both (λ e. eq k e.0) (λ e. not (eq k e.0)) (λ _. refl) s.entries in omega (arith, length-reverse rest)
+  pub shorter : length (reverse rest) ≤ length rest
+  shorter = omega (arith, length-reverse rest)
 
   module _ (d : IsDistinct eq (keys_of s.entries)) (x : ℕ) (room : length bytes + s.overhead + pinned_cost s.overhead rest ≤ s.limit) (excess : x ≡ (length bytes + s.overhead + total_cost s.overhead rest) - s.limit) where
     many : length (picked x) ≡ evicted eq s k bytes
     many =
         ap length (reversed_rest x)
-        ∙ length-victims eq k s.overhead s.limit (reverse rest) (length bytes + s.overhead) x (length s.entries) apart_rest shorter (rw pinned_rest room) (rw (total-reverse s.overhead rest) excess)
+        ∙ length-victims eq k s.overhead s.limit (reverse rest) (length bytes + s.overhead) x (length rest) apart_rest shorter (rw pinned_rest room) (rw (total-reverse s.overhead rest) excess)
         ∙ least_same (λ m. nat_le (length bytes + s.overhead + total_cost s.overhead (without_first m (reverse rest))) s.limit)
         (λ m. nat_le (total_cost s.overhead (new ∷ without_last m rest)) s.limit)
-        (λ m. ap (λ n. nat_le (length bytes + s.overhead + n) s.limit) (sym (total-reverse s.overhead (without_first m (reverse rest))))) (length s.entries)
+        (λ m. ap (λ n. nat_le (length bytes + s.overhead + n) s.limit) (sym (total-reverse s.overhead (without_first m (reverse rest))))) (length rest)
 
     rest_without : without_keys eq (picked x) rest ≡ without_last (evicted eq s k bytes) rest
     rest_without =
@@ -317,8 +320,8 @@ module _ {K : Type 0} (eq : K → K → Bool) (laws : IsEquivalence eq) (s : Kep
     pub enters : can_enter eq s k bytes ≡ true
     enters = le_is (length bytes + s.overhead + pinned_cost s.overhead rest) s.limit room_for
 
-    fits_all : nat_le (length bytes + s.overhead + total_cost s.overhead (without_first (length s.entries) (reverse rest))) s.limit ≡ true
-    fits_all = rw (without_all (length s.entries) (reverse rest) shorter, pinned_rest) (le_is (length bytes + s.overhead + pinned_cost s.overhead rest) s.limit room_for)
+    fits_all : nat_le (length bytes + s.overhead + total_cost s.overhead (without_first (length rest) (reverse rest))) s.limit ≡ true
+    fits_all = rw (without_all (length rest) (reverse rest) shorter, pinned_rest) (le_is (length bytes + s.overhead + pinned_cost s.overhead rest) s.limit room_for)
 
     module _ (x freed : ℕ) (after : List (K × Held)) (excess : x ≡ (held - old_cost + (length bytes + s.overhead)) - s.limit) (left : after ≡ without_keys eq (picked x) (new ∷ rest))
         (sum : freed + total_cost s.overhead after ≡ total_cost s.overhead (new ∷ rest)) where
@@ -332,7 +335,7 @@ module _ {K : Type 0} (eq : K → K → Bool) (laws : IsEquivalence eq) (s : Kep
       test m = nat_le (total_cost s.overhead (new ∷ without_last m rest)) s.limit
 
       passes : test (evicted eq s k bytes) ≡ true
-      passes = least_passes test (length s.entries) (ap (λ n. nat_le (length bytes + s.overhead + n) s.limit) (total-reverse s.overhead (without_first (length s.entries) (reverse rest))) ∙ fits_all)
+      passes = least_passes test (length rest) (ap (λ n. nat_le (length bytes + s.overhead + n) s.limit) (total-reverse s.overhead (without_first (length rest) (reverse rest))) ∙ fits_all)
 
       pub enters_as : entered eq s k bytes ≡ Some (record { entries = after; limit = s.limit; overhead = s.overhead })
       enters_as = rw enters (ap (λ es. Some (record { entries = es; limit = s.limit; overhead = s.overhead })) (sym after_is))

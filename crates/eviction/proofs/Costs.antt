@@ -8,10 +8,13 @@ use mathlib.Core.List.{reverse_aux}
 use Rattle.std.proofs.lemmas.List.Elements.{filter-append}
 use Rattle.eviction.specs.Kept.{Held, is_pinned, total_cost, pinned_cost, others, moved_to_front, IsTallied}
 use Rattle.eviction.specs.Pinning.{pins_of}
-use Rattle.eviction.specs.Entering.{cost_under}
 use Rattle.eviction.proofs.Filters.{filter_swap}
 use Rattle.eviction.proofs.Distinct.{listed, filter_one, filter_distinct}
 use Rattle.std.proofs.lemmas.Map.Entries.{option_filter, lookup-filter-values}
+
+-- what the entry under a key costs, 0 if there is none
+abbrev pub cost_under : {K : Type 0} → ℕ → (K → K → Bool) → K → List (K × Held) → ℕ
+cost_under overhead eq k es = option_map_or (λ h. length h.bytes + overhead) (lookup (eq k) es) 0
 
 module _ {K : Type 0} (overhead : ℕ) where
   pub total_both : (p : K × Held → Bool) (es : List (K × Held)) → total_cost overhead (filter p es) + total_cost overhead (filter (λ e. not (p e)) es) ≡ total_cost overhead es

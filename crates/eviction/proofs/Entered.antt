@@ -4,10 +4,10 @@ use Rattle.std.specs.Cmp.{IsEquivalence}
 use Rattle.std.specs.List.{filter}
 use Rattle.std.proofs.lemmas.List.{reverse-reverse}
 use Rattle.eviction.specs.Kept.{Held, Kept, is_pinned, cost_of, total_cost, others}
-use Rattle.eviction.specs.Entering.{spared, spared_last, fits, without_first, without_last, new_entry, can_enter, evicted, entered, IsLeast, FitsWithout}
+use Rattle.eviction.specs.Entering.{spared, spared_last, fits, without_last, new_entry, can_enter, evicted, entered, IsLeast, FitsWithout}
 use Rattle.eviction.proofs.Filters.{filter-reverse}
 use Rattle.eviction.proofs.Costs.{total-reverse}
-use Rattle.eviction.proofs.Choices.{le_is, is_le, least_passes, least_is_least, pinned-without_first, without_all, pinned_rest, shorter}
+use Rattle.eviction.proofs.Choices.{without_first, le_is, is_le, least_passes, least_is_least, pinned-without_first, without_all, pinned_rest, shorter}
 
 module _ {K : Type 0} where
   pub pinned-spared_last : (m : ℕ) (es : List (K × Held)) → filter is_pinned (spared_last is_pinned m es) ≡ filter is_pinned es
@@ -43,16 +43,16 @@ module _ {K : Type 0} where
         ∙ ap (λ l. cond (is_pinned new) (new ∷ l) l) (pinned-spared_last (evicted eq s k b) (others eq k s.entries))
 
     module _ (laws : IsEquivalence eq) (s : Kept K) (k : K) (b : List ℕ) where
-      cost_all : total_cost s.overhead (without_last (length s.entries) (others eq k s.entries)) ≡ total_cost s.overhead (filter is_pinned (others eq k s.entries))
+      cost_all : total_cost s.overhead (without_last (length (others eq k s.entries)) (others eq k s.entries)) ≡ total_cost s.overhead (filter is_pinned (others eq k s.entries))
       cost_all =
-          total-reverse s.overhead (without_first (length s.entries) (reverse (others eq k s.entries)))
-          ∙ ap (total_cost s.overhead) (without_all (length s.entries) (reverse (others eq k s.entries)) (shorter eq laws s k b))
+          total-reverse s.overhead (without_first (length (others eq k s.entries)) (reverse (others eq k s.entries)))
+          ∙ ap (total_cost s.overhead) (without_all (length (others eq k s.entries)) (reverse (others eq k s.entries)) (shorter eq laws s k b))
           ∙ pinned_rest eq laws s k b
 
       pub evicts_least : can_enter eq s k b ≡ true → IsLeast (FitsWithout eq s k b) (evicted eq s k b)
       evicts_least c =
           let test : ℕ → Bool = fits is_pinned (cost_of s.overhead) s.limit (new_entry eq s k b) (others eq k s.entries) in
-          let most = length s.entries in
+          let most = length (others eq k s.entries) in
           let all : test most ≡ true = ap (λ n. nat_le (length b + s.overhead + n) s.limit) cost_all ∙ c in
           record {
             holds = is_le (total_cost s.overhead (new_entry eq s k b ∷ without_last (evicted eq s k b) (others eq k s.entries))) s.limit (least_passes test most all);

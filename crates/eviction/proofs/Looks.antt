@@ -7,8 +7,8 @@ use Rattle.std.specs.Option.{option_map_or}
 use Rattle.lru.specs.LruCache.{LruCache, promoted, put_entries}
 use Rattle.eviction.specs.declared.entry.Entry.{Entry}
 use Rattle.eviction.specs.Kept.{Held, moved_to_front, others, total_cost, bytes_under}
-use Rattle.eviction.specs.Entering.{stored_key, cost_under}
-use Rattle.eviction.proofs.Costs.{total_others, pinned_others}
+use Rattle.eviction.specs.Entering.{stored_key}
+use Rattle.eviction.proofs.Costs.{cost_under, total_others, pinned_others}
 use Rattle.eviction.specs.Pinning.{is_among, is_stored, pins_of}
 use Rattle.eviction.specs.Victims.{IsStanding, without_keys}
 use Rattle.eviction.specs.View.{held, held_all}

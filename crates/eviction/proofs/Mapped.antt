@@ -1,9 +1,10 @@
 -- Entering a list, seen through a function of the entries.
-use Rattle.std.proofs.Common.{◌≡◌, ℕ, zero, suc, ◌+◌, Bool, true, false, cond, nat_le, List, [], ◌∷◌, map, reverse, Some, None, option_map, refl, ap, sym, ◌∙◌}
+use Rattle.std.proofs.Common.{◌≡◌, ℕ, zero, suc, ◌+◌, Bool, true, false, cond, nat_le, List, [], ◌∷◌, map, reverse, length, Some, None, option_map, refl, ap, sym, ◌∙◌}
 use Rattle.std.specs.List.{filter, AllByRecursion}
+use Rattle.std.proofs.lemmas.List.{length-map}
 use mathlib.Core.List.{reverse_aux}
 use Rattle.eviction.specs.Kept.{total}
-use Rattle.eviction.specs.Entering.{spared, spared_last, has_room, evicted_for, enter}
+use Rattle.eviction.specs.Entering.{least, spared, spared_last, has_room, evicted_for, enter}
 use Rattle.eviction.proofs.Filters.{map-reverse}
 use Rattle.eviction.proofs.Choices.{least_same}
 
@@ -40,19 +41,20 @@ module _ {E F : Type 0} (f : E → F) (p : E → Bool) (q : F → Bool) where
     total_through [] = refl
     total_through (e ∷ es) = λ i. same e i + total_through es i
 
-    pub enter_through : (limit most : ℕ) (new : E) (others : List E) → Alike others → enter q cost' limit (f new) (map f others) most ≡ option_map (map f) (enter p cost limit new others most)
-    enter_through limit most new others a =
+    pub enter_through : (limit : ℕ) (new : E) (others : List E) → Alike others → enter q cost' limit (f new) (map f others) ≡ option_map (map f) (enter p cost limit new others)
+    enter_through limit new others a =
         (λ i. cond (room i) (Some (f new ∷ spared_last q (many i) (map f others))) None)
-        ∙ (λ i. cond (has_room p cost limit new others) (Some (f new ∷ spared_last_through (evicted_for p cost limit new others most) others a i)) None)
+        ∙ (λ i. cond (has_room p cost limit new others) (Some (f new ∷ spared_last_through (evicted_for p cost limit new others) others a i)) None)
         ∙ by_room (has_room p cost limit new others)
       where
         room : has_room q cost' limit (f new) (map f others) ≡ has_room p cost limit new others
         room = ap (λ l. nat_le (cost' (f new) + total cost' l) limit) (filter_through others a) ∙ λ i. nat_le (same new i + total_through (filter p others) i) limit
 
-        many : evicted_for q cost' limit (f new) (map f others) most ≡ evicted_for p cost limit new others most
-        many = least_same (λ m. nat_le (total cost' (f new ∷ spared_last q m (map f others))) limit) (λ m. nat_le (total cost (new ∷ spared_last p m others)) limit)
-            (λ m. ap (λ l. nat_le (cost' (f new) + total cost' l) limit) (spared_last_through m others a) ∙ λ i. nat_le (same new i + total_through (spared_last p m others) i) limit) most
+        many : evicted_for q cost' limit (f new) (map f others) ≡ evicted_for p cost limit new others
+        many = ap (least (λ m. nat_le (total cost' (f new ∷ spared_last q m (map f others))) limit)) (length-map others f)
+            ∙ least_same (λ m. nat_le (total cost' (f new ∷ spared_last q m (map f others))) limit) (λ m. nat_le (total cost (new ∷ spared_last p m others)) limit)
+            (λ m. ap (λ l. nat_le (cost' (f new) + total cost' l) limit) (spared_last_through m others a) ∙ λ i. nat_le (same new i + total_through (spared_last p m others) i) limit) (length others)
 
-        by_room : (b : Bool) → cond b (Some (f new ∷ map f (spared_last p (evicted_for p cost limit new others most) others))) None ≡ option_map (map f) (cond b (Some (new ∷ spared_last p (evicted_for p cost limit new others most) others)) None)
+        by_room : (b : Bool) → cond b (Some (f new ∷ map f (spared_last p (evicted_for p cost limit new others) others))) None ≡ option_map (map f) (cond b (Some (new ∷ spared_last p (evicted_for p cost limit new others) others)) None)
         by_room true = refl
         by_room false = refl

@@ -3,7 +3,7 @@ use Rattle.std.specs.Prelude.{ℕ, zero, suc, ◌+◌, ◌≤◌, Bool, nat_le, 
 use Rattle.std.specs.Prelude.{Option, Some, None, option_map, if◌then◌else◌}
 use Rattle.std.specs.List.{filter}
 use Rattle.std.specs.Option.{option_map_or}
-use Rattle.std.specs.Map.{lookup, lookup_entry}
+use Rattle.std.specs.Map.{lookup_entry}
 use Rattle.eviction.specs.Pinning.{pins_of}
 use Rattle.eviction.specs.Kept.{Held, Kept, is_pinned, total, cost_of, total_cost, others}
 
@@ -32,21 +32,15 @@ module _ {E : Type 0} (pinned : E → Bool) where
     abbrev pub fits : ℕ → Bool
     fits m = nat_le (total cost (new ∷ spared_last m others)) limit
 
-    -- How many others are evicted: the least number with which all costs fit. It is looked for up
-    -- to most, which is at least how many others there are.
-    abbrev pub evicted_for : ℕ → ℕ
-    evicted_for most = least fits most
+    -- how many others are evicted: the least number with which all costs fit
+    abbrev pub evicted_for : ℕ
+    evicted_for = least fits (length others)
 
     -- the entries when the new one has entered, if it can
-    abbrev pub enter : ℕ → Option (List E)
-    enter most =
-        if has_room then Some (new ∷ spared_last (evicted_for most) others) else None
+    abbrev pub enter : Option (List E)
+    enter = if has_room then Some (new ∷ spared_last evicted_for others) else None
 
 module _ {K : Type 0} where
-  -- the entries without the first m that are not pinned
-  abbrev pub without_first : ℕ → List (K × Held) → List (K × Held)
-  without_first m es = spared is_pinned m es
-
   -- the entries without the last m that are not pinned
   abbrev pub without_last : ℕ → List (K × Held) → List (K × Held)
   without_last m es = spared_last is_pinned m es
@@ -54,11 +48,6 @@ module _ {K : Type 0} where
   -- the key under which an entry stands: the equal one that is held, if one is
   abbrev pub stored_key : (K → K → Bool) → List (K × Held) → K → K
   stored_key eq es k = option_map_or (λ e. e.0) (lookup_entry (eq k) es) k
-
-  -- what the entry under a key costs, 0 if there is none
-  abbrev pub cost_under : ℕ → (K → K → Bool) → K → List (K × Held) → ℕ
-  cost_under overhead eq k es =
-      option_map_or (λ h. length h.bytes + overhead) (lookup (eq k) es) 0
 
   module _ (eq : K → K → Bool) (s : Kept K) (k : K) (bytes : List ℕ) where
     -- the new entry: a key that is held stays as it is, with its count of pins
@@ -76,13 +65,11 @@ module _ {K : Type 0} where
 
     -- how many of the least recent unpinned others are evicted
     abbrev pub evicted : ℕ
-    evicted =
-        evicted_for is_pinned (cost_of s.overhead) s.limit new_entry rest_of (length s.entries)
+    evicted = evicted_for is_pinned (cost_of s.overhead) s.limit new_entry rest_of
 
     -- the entries when the new one has entered, if it can
     abbrev pub entries_entered : Option (List (K × Held))
-    entries_entered =
-        enter is_pinned (cost_of s.overhead) s.limit new_entry rest_of (length s.entries)
+    entries_entered = enter is_pinned (cost_of s.overhead) s.limit new_entry rest_of
 
     -- the store with these entries
     abbrev pub with_entries : List (K × Held) → Kept K

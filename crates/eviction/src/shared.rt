@@ -19,6 +19,7 @@ impl<A: Allocator> Model for Shared<A> {
 }
 
 impl<A: Allocator> Shared<A> {
+    /// These bytes, with one holder.
     pub fn new(alloc: A, bytes: Vec<u8, A>) -> Result<Shared<A>, AllocError>
         ensures { IfOk result (λ s. s ≡ bytes.items) }
     {
@@ -34,12 +35,14 @@ impl<A: Allocator> Shared<A> {
         Ok(Shared { bytes })
     }
 
+    /// The bytes.
     pub fn as_slice(&self) -> &[u8]
         ensures { result.now ≡ self.now }
     {
         self.bytes.as_slice()
     }
 
+    /// How many bytes they are.
     pub fn len(&self) -> usize
         ensures { result ≡ length self.now }
     {

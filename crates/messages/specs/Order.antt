@@ -14,11 +14,14 @@ use Rattle.messages.specs.declared.error.MessageError.TheVariants.{Unsorted, Sam
 abbrev pub bytes_cmp : List ℕ → List ℕ → Ordering
 bytes_cmp = slice_cmp nat_cmp
 
--- each name comes before all that stand after it
+-- each element comes before all that stand after it
+abbrev pub IsAscendingBy : {X : Type 0} → (X → X → Ordering) → List X → Type 0
+IsAscendingBy cmp [] = Unit {0}
+IsAscendingBy cmp (x ∷ xs) = AllByRecursion (λ y. cmp x y ≡ Less) xs × IsAscendingBy cmp xs
+
+-- texts that ascend by their bytes
 abbrev pub IsAscending : List (List ℕ) → Type 0
-IsAscending [] = Unit {0}
-IsAscending (name ∷ names) =
-    AllByRecursion (λ other. bytes_cmp name other ≡ Less) names × IsAscending names
+IsAscending texts = IsAscendingBy bytes_cmp texts
 
 -- no name stands in both lists
 abbrev pub ShareNone : List (List ℕ) → List (List ℕ) → Type 0
@@ -40,9 +43,8 @@ ordered_behind (Some before) (name ∷ names) =
     pair_ordered (bytes_cmp before name) >>= λ _. ordered_behind (Some name) names
 
 abbrev pub is_equal : Ordering → Bool
-is_equal Less = false
 is_equal Equal = true
-is_equal Greater = false
+is_equal order = false
 
 abbrev pub has_name : List (List ℕ) → List ℕ → Bool
 has_name [] name = false

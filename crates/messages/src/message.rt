@@ -1,9 +1,9 @@
-ghost use Rattle.std.specs.Prelude.{◌≡◌, ◌≤◌, ◌++◌, List, ℕ, Result, IfOk, OnOk, OnErr, option_map};
+ghost use Rattle.std.specs.Prelude.{◌≡◌, ◌++◌, List, ℕ, Result, IfOk, OnOk, OnErr, option_map};
 ghost use Rattle.std.specs.Prelude.{map, take, length, None, IsOk, []};
 ghost use Rattle.wire.specs.Spelling.{spelling};
 ghost use Rattle.canonical.specs.Fields.{element_fields, elements_at};
 ghost use Rattle.wire.specs.Bytes.{AreBytes};
-ghost use Rattle.wire.specs.Record.{records_of};
+ghost use Rattle.wire.specs.Record.{IsFieldNumber, records_of};
 ghost use Rattle.canonical.specs.View.{slices};
 ghost use Rattle.messages.specs.declared.error.MessageError.{MessageError};
 ghost use Rattle.messages.specs.Gives.{GivesUnlessMemory};
@@ -105,8 +105,7 @@ pub fn write_each<A: Allocator + Copy, M: Encode<A>>(
     number: u32,
     messages: &[M],
 ) -> Result<(), AllocError>
-    requires at_least { 1 ≤ number }
-    requires at_most { number ≤ 536870911 }
+    requires number { IsFieldNumber number }
     ensures appended { OnOk result (out.new.items ≡ out.old.items
         ++ spelling (element_fields number (map M.spells messages.now))) }
     ensures kept { OnErr result (out.new.items ≡ out.old.items) }
@@ -128,8 +127,7 @@ fn append_each<A: Allocator + Copy, M: Encode<A>>(
     number: u32,
     messages: &[M],
 ) -> Result<(), AllocError>
-    requires at_least { 1 ≤ number }
-    requires at_most { number ≤ 536870911 }
+    requires number { IsFieldNumber number }
     ensures appended { OnOk result (out.new.items ≡ out.old.items
         ++ spelling (element_fields number (map M.spells messages.now))) }
     ensures front { OnErr result (take (length out.old.items) out.new.items ≡ out.old.items) }

@@ -9,11 +9,10 @@ use Rattle.plan.specs.declared.error.PlanError.{PlanError}
 use Rattle.plan.specs.declared.error.Fault.{Fault}
 use Rattle.plan.specs.declared.version.Version.{Version}
 use Rattle.plan.specs.declared.version.Version.TheVariants.{One, Two}
-use Rattle.plan.specs.Faults.{Beginning, at_start, in_step, in_root, IsBeginning, beginning_text, next_number, BeginsWithLine, IsNextFault, IsFaultBehind, IsPlanFault}
+use Rattle.plan.specs.Faults.{Beginning, at_start, in_step, in_root, IsBeginning, beginning_text, next_number, BeginsWithLine, IsNextFault, IsFaultBehind, IsPlanFault, OverlapsAny}
 use Rattle.plan.specs.Line.{line_text, Begins, step_words}
 use Rattle.plan.specs.Lines.{WrittenLine, step_line, root_line, in_line, IsWrittenLine, written_words, written_origin}
 use Rattle.plan.specs.Plan.{AreLines, NoTargetsOverlap, KeepApart, AllKeepApart, IsStep, AreSteps, IsPlan, plan_header, lines_text, step_text, plan_text}
-use Rattle.plan.specs.Targets.{OverlapsAny}
 use Rattle.plan.specs.Values.{LineValue, StepValue, PlanValue, IsLine}
 use Rattle.plan.proofs.Beginnings.{step_with, plan_with, has_not_new}
 use Rattle.plan.proofs.Directories.{targets_of, turned, named, written_valid}
@@ -221,7 +220,7 @@ begins_behind version text rest b e =
 header_apart : (text : List ℕ) → Begins (plan_header One) text → Begins (plan_header Two) text → ⊥
 header_apart text f g = heads 49 50 _ _ (omega arith) (append_cancel_left (codes "buildplan ") (49 ∷ 10 ∷ f.0) (50 ∷ 10 ∷ g.0) (sym f.1 ∙ g.1))
 
-header_one : (v w : Version) (text : List ℕ) → Begins (plan_header v) text → Begins (plan_header w) text → v ≡ w
+pub header_one : (v w : Version) (text : List ℕ) → Begins (plan_header v) text → Begins (plan_header w) text → v ≡ w
 header_one One One text f g = refl
 header_one One Two text f g = absurd (header_apart text f g)
 header_one Two One text f g = absurd (header_apart text g f)

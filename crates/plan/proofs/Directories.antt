@@ -10,13 +10,13 @@ use Rattle.plan.specs.declared.error.ReadError.{ReadError}
 use Rattle.plan.specs.declared.error.ReadError.TheVariants.{Faulty}
 use Rattle.plan.specs.declared.version.Version.{Version}
 use Rattle.plan.specs.declared.version.Version.TheVariants.{One, Two}
-use Rattle.plan.specs.Faults.{BeginsWithLine, HasStep, IsLater}
+use Rattle.plan.specs.Faults.{BeginsWithLine, HasStep, IsLater, OverlapsAny}
 use Rattle.plan.specs.Parts.{IsFirstFault, IsNextInFault, IsLinesFault}
 use Rattle.plan.specs.Line.{line_text, Begins, IsStepName}
 use Rattle.plan.specs.Lines.{in_line, IsWrittenOrigin, in_words, written_origin, step_name}
 use Rattle.plan.specs.Plan.{AreLines, AreSteps, NoTargetsOverlap, KeepApart, lines_text}
 use Rattle.plan.specs.Reading.{FaultyUnlessMemory}
-use Rattle.plan.specs.Targets.{OverlapsAny, TakesIn}
+use Rattle.plan.specs.Targets.{TakesIn}
 use Rattle.plan.specs.Values.{OriginValue, source, output, LineValue, StepValue, IsOrigin, IsLine}
 
 -- ---- one more line

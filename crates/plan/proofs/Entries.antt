@@ -7,6 +7,7 @@ use Rattle.plan.specs.declared.error.Fault.{Fault}
 use Rattle.plan.specs.declared.error.ReadError.{ReadError}
 use Rattle.plan.specs.declared.error.ReadError.TheVariants.{Faulty}
 use Rattle.plan.specs.Line.{line_text, IsStepName, step_words}
+use Rattle.plan.specs.Parts.{BeginsWithEntry}
 use Rattle.plan.specs.Reading.{FaultyUnlessMemory}
 use Rattle.plan.specs.Record.{RecordValue, IsRecord, record_header, entries_text, IsNextEntryFault, IsEntryFault}
 use Rattle.plan.specs.Values.{StepValue}
@@ -78,6 +79,22 @@ next_entries steps k text rest more digests next digest step keeps lt e is begin
           ∙ ap (λ (t : List ℕ). t ++ more) (sym (entries_more (step_names (take k steps)) digests step.name digest keeps.same))
           ∙ ap (λ (l : List (List ℕ)). entries_text l (digests ++ digest ∷ []) ++ more) (sym names);
     })
+
+-- one entry at least begins the text
+begins_some : (steps : List StepValue) (k : ℕ) (text rest : List ℕ) (digests : List DigestValue) → AllByRecursion (λ s. IsStepName s.name) steps → 0 < length digests → KeepsEntries steps k text digests rest → BeginsWithEntry (step_names steps) text
+begins_some steps k text rest [] named some keeps = absurd (omega (arith, some))
+begins_some [] zero text rest (d ∷ ds) named some keeps = let same = keeps.same in absurd (omega (arith, same))
+begins_some [] (suc k) text rest (d ∷ ds) named some keeps = let same = keeps.same in absurd (omega (arith, same))
+begins_some (s ∷ steps) zero text rest (d ∷ ds) named some keeps = let same = keeps.same in absurd (omega (arith, same))
+begins_some (s ∷ steps) (suc k) text rest (d ∷ ds) named some keeps =
+    (d, ((named.0, keeps.valid.0), (entries_text (step_names (take k steps)) ds ++ rest, keeps.cut ∙ append_assoc (line_text (step_words s.name d)) (entries_text (step_names (take k steps)) ds) rest)))
+
+pub first_entry : (steps : List StepValue) (k : ℕ) (text rest more : List ℕ) (digests : List DigestValue) (digest : DigestValue) (step : StepValue)
+    → AllByRecursion (λ s. IsStepName s.name) steps → KeepsEntries steps k text digests rest → k < length steps → step ≡ get_or steps k step → IsDigest digest → rest ≡ line_text (step_words step.name digest) ++ more
+    → BeginsWithEntry (step_names steps) text
+first_entry steps k text rest more digests digest step named keeps lt e is begins =
+    let next = digests ++ digest ∷ [] in
+    begins_some steps (k + 1) text more next named (omega (arith, length-append digests (digest ∷ []))) (next_entries steps k text rest more digests next digest step keeps lt e is begins refl)
 
 -- ---- faults
 

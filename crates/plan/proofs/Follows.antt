@@ -4,10 +4,9 @@ use Rattle.plan.specs.declared.error.Fault.{Fault}
 use Rattle.plan.specs.declared.error.Fault.TheVariants as faults
 use Rattle.plan.specs.declared.version.Version.{Version}
 use Rattle.plan.specs.declared.version.Version.TheVariants.{One}
-use Rattle.plan.specs.Faults.{Beginning, at_start, in_step, in_root, BeginsWithLine, MayStand, HasStep, IsLater, IsStepFault, IsInFault, IsLineFault, IsNextFault}
+use Rattle.plan.specs.Faults.{Beginning, at_start, in_step, in_root, BeginsWithLine, MayStand, HasStep, IsLater, IsStepFault, IsInFault, IsLineFault, IsNextFault, OverlapsAny}
 use Rattle.plan.specs.Lines.{WrittenOrigin, WrittenLine, step_line, root_line, in_line, written_origin, step_name}
 use Rattle.plan.specs.Plan.{AreSteps}
-use Rattle.plan.specs.Targets.{OverlapsAny}
 use Rattle.plan.specs.Values.{OriginValue, source, output, LineValue, StepValue, IsOrigin, IsLine}
 use Rattle.plan.proofs.Beginnings.{step_with, has_not_new}
 use Rattle.plan.proofs.Directories.{targets_of, not_later}

@@ -1,6 +1,7 @@
 mod Beginnings
 mod Chains
 mod Directories
+mod Early
 mod Entries
 mod Escapes
 mod Examples

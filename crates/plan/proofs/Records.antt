@@ -1,6 +1,6 @@
 -- A text is that of one record of a plan, and has one first fault.
-use Rattle.std.proofs.Common.{◌≡◌, ◌≢◌, ◌⊎◌, ℕ, ◌+◌, List, [], ◌∷◌, ◌++◌, length, refl, ap, sym, ◌∙◌, subst, inl, inr, arith, append_assoc, append-nil, Result, Ok, Err, IfOk, IfErr}
-use Rattle.std.specs.Result.{IsErr}
+use Rattle.std.proofs.Common.{◌≡◌, ◌≢◌, ◌⊎◌, ℕ, ◌+◌, ◌≤◌, List, [], ◌∷◌, ◌++◌, length, refl, ap, sym, ◌∙◌, subst, inl, inr, arith, append_assoc, append-nil, Result, Ok, Err, IfOk, IfErr}
+use Rattle.std.specs.Result.{IsErr, IsErrAnd}
 use Rattle.std.proofs.lemmas.List.{append_cancel_left}
 use Rattle.blob_digest.specs.Digest.{DigestValue}
 use Rattle.plan.specs.declared.error.PlanError.{PlanError}
@@ -11,6 +11,7 @@ use Rattle.plan.specs.declared.error.ReadError.TheVariants.{Faulty, Memory}
 use Rattle.plan.specs.Faults.{BeginsWithLine}
 use Rattle.plan.specs.Line.{line_text, Begins, step_words}
 use Rattle.plan.specs.Lines.{WrittenLine, step_line}
+use Rattle.plan.specs.Parts.{BeginsWithEntry}
 use Rattle.plan.specs.Reading.{FaultyUnlessMemory, ReadsUnlessMemory}
 use Rattle.plan.specs.Record.{RecordValue, IsRecord, record_header, entries_text, build_record_text, IsNextEntryFault, IsEntryFault, IsRecordFault}
 use Rattle.plan.proofs.Entries.{record_with}
@@ -213,3 +214,34 @@ only_handed_record names text (Err x) r err is fits e fault = only_record names 
 
 pub lifted_record : (names : List (List ℕ)) (text rest : List ℕ) (x : PlanError) → text ≡ record_header ++ rest → IsEntryFault names (record_header ++ rest) x → IsRecordFault names text x
 lifted_record names text rest x e h = inr (subst (λ (t : List ℕ). IsEntryFault names t x) (sym e) h)
+
+-- ---- faults in line 1 or 2
+
+entry_goes : (left names : List (List ℕ)) (rest : List ℕ) → names ≡ left → BeginsWithEntry names rest → GoesOn left rest
+unfolding GoesOn
+entry_goes left [] rest same h = absurd h
+entry_goes left (n ∷ names) rest same h = (n, h.0, names, sym same, h.1)
+
+not_early_record : (names : List (List ℕ)) (text rest : List ℕ) (e : PlanError) → text ≡ record_header ++ rest → BeginsWithEntry names rest → IsRecordFault names text e → e.line ≤ 2 → ⊥
+not_early_record names text rest e cut first (inl x) few = x.1 (rest, cut)
+not_early_record names text rest e cut first (inr x) few = by x.done x.split x.cut x.number
+  where
+    by : (done : List (List ℕ)) → names ≡ done ++ x.left → text ≡ build_record_text (record_with done x.digests) ++ x.rest → e.line ≡ length done + 2 → ⊥
+    by [] split at number =
+        let same : rest ≡ x.rest = append_cancel_left record_header rest x.rest (sym cut ∙ cut_header text [] x.rest at) in
+        no_goes_on x.left x.rest e.fault (entry_goes x.left names x.rest split (subst (BeginsWithEntry names) same first)) x.fault
+    by (n ∷ done) split at number = omega (arith, number, few)
+
+pub told_record : (names : List (List ℕ)) (text : List ℕ) (x : ReadError) (y e : PlanError) → x ≡ Faulty y → FaultyUnlessMemory (IsRecordFault names text) x → IsRecordFault names text e → x ≡ Faulty e
+told_record names text x y e is h f = is ∙ ap Faulty (record_fault_one names text y e (subst (FaultyUnlessMemory (IsRecordFault names text)) is h) f)
+
+-- an error that is handed on is the fault in line 1 or 2, or else the first entry was read
+pub early_record : (names : List (List ℕ)) (text rest : List ℕ) (r : Result RecordValue ReadError) (x : ReadError) (e : PlanError) → text ≡ record_header ++ rest → IsErrAnd r (λ other. other ≡ x)
+    → IfErr r (FaultyUnlessMemory (IsRecordFault names text)) → (x ≡ Memory → BeginsWithEntry names rest) → IsRecordFault names text e → e.line ≤ 2 → r ≡ Err (Faulty e)
+early_record names text rest (Ok s) x e cut exit h late f few = absurd exit
+early_record names text rest (Err Memory) x e cut exit h late f few = absurd (not_early_record names text rest e cut (late (sym exit)) f few)
+early_record names text rest (Err (Faulty y)) x e cut exit h late f few = ap Err (told_record names text (Faulty y) y e refl h f)
+
+pub read_without_fault : (names : List (List ℕ)) (text rest : List ℕ) (digests : List DigestValue) (e : PlanError) → text ≡ record_header ++ rest → IsRecord (record_with names digests) → rest ≡ entries_text names digests → IsRecordFault names text e → ⊥
+read_without_fault names text rest digests e cut is all f =
+    no_record_fault (record_with names digests) e is (subst (λ (t : List ℕ). IsRecordFault names t e) (cut ∙ ap (λ (t : List ℕ). record_header ++ t) all) f)

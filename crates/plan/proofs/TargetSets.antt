@@ -8,7 +8,8 @@ use Rattle.std.specs.List.{Contains}
 use Rattle.std.specs.BTreeSet.{BTreeSet, contains, IsKeyRangeOf, Updates}
 use Rattle.std.proofs.lemmas.Map.Views.{btree_set_contains_iff}
 use Rattle.messages.specs.Path.{Overlap}
-use Rattle.plan.specs.Targets.{names_cmp, IsAtOrBelow, AreTargetsApart, OverlapsAny}
+use Rattle.plan.specs.Faults.{OverlapsAny}
+use Rattle.plan.specs.Targets.{names_cmp, IsAtOrBelow, AreTargetsApart}
 use Rattle.plan.proofs.NamesOrder.{names_cmp_total, names_same, names_itself, before_longer, between, not_behind, begins_from, overlap_under, overlap_above}
 
 abbrev Key : Type 0

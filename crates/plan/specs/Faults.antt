@@ -1,6 +1,7 @@
 -- The first fault of a text that is no plan.
 use Rattle.std.specs.Prelude.{◌≡◌, ◌≢◌, ◌⊎◌, ℕ, ◌+◌, ◌<◌, List, [], ◌∷◌, ◌++◌, length, map}
-use Rattle.std.specs.List.{flat_map}
+use Rattle.std.specs.List.{Contains, flat_map}
+use Rattle.messages.specs.Path.{Overlap}
 use Rattle.plan.specs.declared.error.PlanError.{PlanError}
 use Rattle.plan.specs.declared.error.Fault.{Fault}
 use Rattle.plan.specs.declared.error.Fault.TheVariants as faults
@@ -11,7 +12,6 @@ use Rattle.plan.specs.Lines.{WrittenOrigin, from_source, from_step, WrittenLine,
 use Rattle.plan.specs.Lines.{root_line, in_line, IsWrittenLine, written_words}
 use Rattle.plan.specs.Plan.{KeepApart, AllKeepApart, IsStep, AreSteps, IsPlan, plan_header}
 use Rattle.plan.specs.Plan.{step_text, plan_text}
-use Rattle.plan.specs.Targets.{OverlapsAny}
 use Rattle.plan.specs.Values.{LineValue, StepValue}
 
 -- the text begins with the header of no version
@@ -87,6 +87,10 @@ abbrev pub IsStepFault : List StepValue → List ℕ → Fault → Type 0
 IsStepFault steps name faults.SameStep = HasStep steps name
 IsStepFault steps name faults.TooMany = (¬ HasStep steps name) × (length steps ≡ 4096)
 IsStepFault steps name _ = ⊥
+
+-- a path overlaps one of the targets
+abbrev pub OverlapsAny : List (List ℕ) → List (List (List ℕ)) → Type 0
+OverlapsAny path targets = (other : List (List ℕ)) × Contains targets other × Overlap path other
 
 -- The faults of a line after these lines of a directory, before which these steps stand: it reads a
 -- later step; or else the lines are as many as may be; or else, in version 1, its target overlaps

@@ -2,9 +2,9 @@ pub mod Escape
 pub mod Values
 pub mod Line
 pub mod Lines
-pub mod Targets
 pub mod Plan
 pub mod Faults
+pub mod Targets
 pub mod Parts
 pub mod Reading
 pub mod Record

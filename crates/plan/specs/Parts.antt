@@ -1,5 +1,6 @@
 -- Parts of the reading of a plan, and what the code keeps of its steps.
-use Rattle.std.specs.Prelude.{◌≡◌, ◌≢◌, ◌⊎◌, ℕ, ◌+◌, ◌≤◌, List, [], ◌++◌, length, map, codes}
+use Rattle.std.specs.Prelude.{◌≡◌, ◌≢◌, ◌⊎◌, ℕ, ◌+◌, ◌≤◌, List, [], ◌∷◌, ◌++◌, length, map}
+use Rattle.std.specs.Prelude.{codes}
 use Rattle.std.specs.List.{flat_map}
 use Rattle.std.specs.declared.vec.Vec.{Vec}
 use Rattle.blob_digest.specs.Digest.{DigestValue}
@@ -7,9 +8,10 @@ use Rattle.plan.specs.declared.error.PlanError.{PlanError}
 use Rattle.plan.specs.declared.error.Fault.{Fault}
 use Rattle.plan.specs.declared.error.Fault.TheVariants as faults
 use Rattle.plan.specs.declared.version.Version.{Version}
-use Rattle.plan.specs.Faults.{line_count, BeginsWithLine, IsLater, IsInFault}
+use Rattle.plan.specs.Faults.{line_count, BeginsWithLine, IsLater, IsInFault, MayStand, at_start}
 use Rattle.plan.specs.Line.{Begins}
-use Rattle.plan.specs.Lines.{WrittenOrigin, step_line, in_line, IsWrittenOrigin, IsWrittenLine}
+use Rattle.plan.specs.Lines.{WrittenOrigin, WrittenLine, step_line, in_line}
+use Rattle.plan.specs.Lines.{IsWrittenOrigin, IsWrittenLine}
 use Rattle.plan.specs.Lines.{written_origin_words, written_words}
 use Rattle.plan.specs.Plan.{KeepApart, AllKeepApart, AreLines, AreSteps, lines_text, step_text}
 use Rattle.plan.specs.Values.{LineValue, StepValue}
@@ -69,6 +71,16 @@ pub record IsLinesFault (version : Version) (steps : List StepValue) (first : �
   pub cut : text ≡ lines_text steps good ++ rest
   pub number : e.line ≡ first + length good
   pub fault : IsNextInFault version steps good rest e.fault
+
+-- the text, after the header, begins with a line that may stand there
+abbrev pub HasLineTwo : List ℕ → Type 0
+HasLineTwo text = (line : WrittenLine) × MayStand at_start line × BeginsWithLine line text
+
+-- the text begins with an entry of the first name
+abbrev pub BeginsWithEntry : List (List ℕ) → List ℕ → Type 0
+BeginsWithEntry [] text = ⊥
+BeginsWithEntry (name ∷ names) text =
+    (digest : DigestValue) × BeginsWithLine (step_line name digest) text
 
 -- The text, after the header, begins with these steps, and with no further one. The next line has
 -- this number.

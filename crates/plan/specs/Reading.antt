@@ -1,6 +1,5 @@
 -- What reading a plan answers where memory may run out.
 use Rattle.std.specs.Prelude.{◌≡◌, Result, Ok, Err}
-use Rattle.plan.specs.declared.error.Fault.TheVariants.{BadHeader}
 use Rattle.plan.specs.declared.error.PlanError.{PlanError}
 use Rattle.plan.specs.declared.error.ReadError.{ReadError}
 use Rattle.plan.specs.declared.error.ReadError.TheVariants.{Faulty, Memory}
@@ -15,7 +14,3 @@ abbrev pub ReadsUnlessMemory : {X : Type 0} → Result X ReadError → X → Typ
 ReadsUnlessMemory (Ok x) y = x ≡ y
 ReadsUnlessMemory (Err Memory) y = Unit {0}
 ReadsUnlessMemory (Err (Faulty e)) y = ⊥
-
--- line 1 is not a header
-abbrev pub bad_header : ReadError
-bad_header = Faulty (record { line = 1; fault = BadHeader })

@@ -1,4 +1,4 @@
--- Targets of lines, of which none overlaps another.
+-- What the private functions that take targets speak of: none of them overlaps another.
 use Rattle.std.specs.Prelude.{◌≡◌, ◌↔◌, ◌⊎◌, ℕ, Bool, true, false, List, ◌++◌}
 use Rattle.std.specs.declared.cmp.Ordering.{Ordering}
 use Rattle.std.specs.Ordering.{nat_cmp}
@@ -7,10 +7,7 @@ use Rattle.std.specs.List.{Contains}
 use Rattle.messages.specs.Path.{Overlap}
 use Rattle.plan.specs.declared.version.Version.{Version}
 use Rattle.plan.specs.declared.version.Version.TheVariants.{One, Two}
-
--- a path overlaps one of the targets
-abbrev pub OverlapsAny : List (List ℕ) → List (List (List ℕ)) → Type 0
-OverlapsAny path targets = (other : List (List ℕ)) × Contains targets other × Overlap path other
+use Rattle.plan.specs.Faults.{OverlapsAny}
 
 -- no two of the targets overlap
 abbrev pub AreTargetsApart : List (List (List ℕ)) → Type 0

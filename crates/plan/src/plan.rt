@@ -1,14 +1,15 @@
 ghost use Rattle.std.specs.Prelude.{◌≡◌, ◌+◌, ◌<◌, ◌≤◌, ◌^◌, ◌++◌, [], Err, IfOk, IfErr, IsOk};
-ghost use Rattle.std.specs.Prelude.{OnOk, MatchOption, length, codes};
+ghost use Rattle.std.specs.Prelude.{OnOk, OnErr, MatchOption, length, codes};
 ghost use Rattle.std.specs.List.{AllByRecursion, flat_map};
 ghost use Rattle.plan.specs.Faults.{HasNoHeader, IsFaultBehind, IsPlanFault};
-ghost use Rattle.plan.specs.Parts.{IsLinesFault, IsFront};
+ghost use Rattle.plan.specs.Parts.{HasLineTwo, IsLinesFault, IsFront};
 ghost use Rattle.plan.specs.Line.{Begins};
 ghost use Rattle.plan.specs.Plan.{KeepApart, AreLines, AreSteps, IsPlan, plan_header, lines_text};
 ghost use Rattle.plan.specs.Plan.{step_text, plan_text};
-ghost use Rattle.plan.specs.Reading.{FaultyUnlessMemory, ReadsUnlessMemory, bad_header};
+ghost use Rattle.plan.specs.Reading.{FaultyUnlessMemory, ReadsUnlessMemory};
 ghost use Rattle.plan.specs.Targets.{TakesIn};
 ghost use Rattle.plan.specs.Values.{PlanValue, IsLine};
+ghost use Rattle.plan.specs.declared.error.PlanError.{PlanError};
 ghost use Rattle.plan.specs.declared.version.Version.TheVariants.{Two};
 
 use crate::error::{Fault, ReadError};
@@ -144,6 +145,8 @@ fn read_steps<A: Allocator + Copy>(
         (λ front. IsFront version text.now front.steps front.rest.now front.number) }
     ensures fault { IfErr result
         (FaultyUnlessMemory (IsFaultBehind (plan_header version ++ text.now))) }
+    // Line 2 takes no memory.
+    ensures late { OnErr result (HasLineTwo text.now) }
 {
     let mut steps = Steps::new(alloc);
     let mut rest = text;
@@ -184,8 +187,9 @@ impl<A: Allocator + Copy> Plan<A> {
             → ReadsUnlessMemory result plan }
         // Which line is at fault, and how.
         ensures fault { IfErr result (FaultyUnlessMemory (IsPlanFault text.now)) }
-        // A text without a header takes no memory to refuse.
-        ensures header { HasNoHeader text.now → result ≡ Err bad_header }
+        // Lines 1 and 2 take no memory.
+        ensures early { (e : PlanError) → IsPlanFault text.now e → e.line ≤ 2
+            → result ≡ Err (ReadError.Faulty e) }
     {
         let Some((version, rest)) = read_version(text) else {
             return Err(ReadError::at(1, Fault::BadHeader));

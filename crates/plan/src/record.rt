@@ -2,11 +2,13 @@ ghost use Rattle.std.specs.Prelude.{◌≡◌, ◌≢◌, ◌↔◌, ◌≤◌, 
 ghost use Rattle.std.specs.Prelude.{MatchResult, IsTrue, length, map};
 ghost use Rattle.std.specs.List.{AllByRecursion};
 ghost use Rattle.blob_digest.specs.Digest.{IsDigest};
-ghost use Rattle.plan.specs.Line.{Begins, IsStepName, line_text, step_words};
+ghost use Rattle.plan.specs.Line.{IsStepName, line_text, step_words};
+ghost use Rattle.plan.specs.Parts.{BeginsWithEntry};
 ghost use Rattle.plan.specs.Record.{RecordValue, IsRecord, IsNextEntryFault, IsEntryFault};
 ghost use Rattle.plan.specs.Record.{names_of, Fits, entries_text, record_header, build_record_text};
 ghost use Rattle.plan.specs.Record.{IsRecordFault};
-ghost use Rattle.plan.specs.Reading.{FaultyUnlessMemory, ReadsUnlessMemory, bad_header};
+ghost use Rattle.plan.specs.Reading.{FaultyUnlessMemory, ReadsUnlessMemory};
+ghost use Rattle.plan.specs.declared.error.PlanError.{PlanError};
 
 use crate::error::{Fault, ReadError};
 use crate::plan::Plan;
@@ -74,6 +76,9 @@ fn read_entries<A: Allocator + Copy>(
     ensures fault { IfErr result
         (FaultyUnlessMemory
         (IsEntryFault (map (λ s. s.name) steps.now) (record_header ++ text.now))) }
+    // Line 2 takes no memory.
+    ensures late { result ≡ Err ReadError.Memory
+        → BeginsWithEntry (map (λ s. s.name) steps.now) text.now }
 {
     let mut digests = Vec::new(alloc);
     let mut rest = text;
@@ -141,8 +146,9 @@ impl<A: Allocator + Copy> Record<A> {
         // Which line is at fault, and how.
         ensures fault { IfErr result
             (FaultyUnlessMemory (IsRecordFault (names_of plan.now) text.now)) }
-        // A text without the header takes no memory to refuse.
-        ensures header { ¬ Begins record_header text.now → result ≡ Err bad_header }
+        // Lines 1 and 2 take no memory.
+        ensures early { (e : PlanError) → IsRecordFault (names_of plan.now) text.now e
+            → e.line ≤ 2 → result ≡ Err (ReadError.Faulty e) }
     {
         let Some(rest) = strip(text, HEADER) else {
             return Err(ReadError::at(1, Fault::BadHeader));

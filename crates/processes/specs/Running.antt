@@ -34,6 +34,10 @@ alive_of r = alive_in r.tally
 abbrev pub failures_of : {W A : Type 0} → ProcessRunner W A → ℕ
 failures_of r = failures_in r.tally
 
+-- where the processes run
+abbrev pub workshop_of : {W A : Type 0} → ProcessRunner W A → W
+workshop_of r = r.workshop
+
 -- the folder of all jobs, and the number of the next one
 abbrev pub work_of : {W A : Type 0} → ProcessRunner W A → List ℕ
 work_of r = string_bytes r.work

@@ -4,7 +4,8 @@ ghost use Rattle.std.specs.declared.io.Error.{Error};
 ghost use Rattle.worker.specs.Counted.{TellsRunFailure};
 ghost use Rattle.worker.specs.Values.{items_of, failed};
 ghost use Rattle.worker.specs.declared.failure.Cause.TheVariants.{Unread};
-ghost use Rattle.processes.specs.Collected.{AreCollected, HasNoOutput, IsFirstBad, IsMore, IsUnread};
+ghost use Rattle.processes.specs.Collected.{AreCollected, HasNoOutput, IsFirstBad, IsMore};
+ghost use Rattle.processes.specs.Collected.{IsUnread};
 ghost use Rattle.processes.specs.Walking.{IsUnreadOutput, TellsTrouble};
 
 use crate::laying::place_in;

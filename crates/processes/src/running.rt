@@ -10,7 +10,7 @@ ghost use Rattle.messages.specs.Path.{begins_with_slash};
 ghost use Rattle.processes.specs.Laying.{IsUnstarted, folder_of};
 ghost use Rattle.processes.specs.Running.{CameOf, HaveStarted, IsEnded, IsJobLaunched, TellsCame};
 ghost use Rattle.processes.specs.Running.{alive_of, process_in, failures_of, may_come, may_yield};
-ghost use Rattle.processes.specs.Running.{next_of, start_in, work_of};
+ghost use Rattle.processes.specs.Running.{next_of, start_in, work_of, workshop_of};
 
 use crate::collecting::collect;
 use crate::laying::{lay_out, make_parents, make_start};
@@ -51,6 +51,7 @@ pub struct ProcessJob<C, A: Allocator> {
 impl<W, A: Allocator> ProcessRunner<W, A> {
     /// No job yet. The folder of the jobs has to be there when one is started.
     pub fn new(workshop: W, work: String<A>) -> ProcessRunner<W, A>
+        ensures workshop { workshop_of result ≡ workshop }
         ensures work { work_of result ≡ string_bytes work }
         ensures next { next_of result ≡ 0 }
         ensures alive { alive_of result ≡ 0 }

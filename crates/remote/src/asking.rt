@@ -1,8 +1,9 @@
-ghost use Rattle.std.specs.Prelude.{◌≡◌, ◌≤◌, IfOk, IfErr, IsErrOf, None, Ok, OnErr, OnOk};
+ghost use Rattle.std.specs.Prelude.{◌≡◌, ◌≤◌, IfOk, IfErr, OnErr, OnOk};
 ghost use Rattle.blob_source.specs.Source.{GrowsAt, bytes_of, greatest_count};
-ghost use Rattle.remote.specs.Line.{ExplainsMemory, Gets, RefusesRequest, get, line_value};
-ghost use Rattle.remote.specs.Table.{HasAnswer, IsSameBut, KeepsAnswers, told_by};
+ghost use Rattle.remote.specs.Line.{line_value};
+ghost use Rattle.remote.specs.Remote.{LooksUp};
 ghost use Rattle.remote.specs.Steps.{KeepsAnswer, KeepsBytes, KeepsNothing};
+ghost use Rattle.remote.specs.Table.{KeepsAnswers, told_by};
 
 use crate::line::Line;
 use crate::stream::Stream;
@@ -22,24 +23,8 @@ pub(crate) fn look_up<S: Stream + Drop, A: Allocator + Copy>(
 ) -> Result<Option<Vec<u8, A>>, FetchError>
     ensures told { IfOk result (λ answer. bytes_of answer ≡ told_by table.new digest.now) }
     ensures grows { GrowsAt digest.now (told_by table.old) (told_by table.new) }
-    ensures held { IfOk result (λ _. HasAnswer table.new digest.now) }
-    ensures kept { HasAnswer table.old digest.now → IfOk result
-        (λ _. line_value S.flow line.new ≡ line_value S.flow line.old) }
-    ensures silent { HasAnswer table.old digest.now
-        → S.flow line.new.stream ≡ S.flow line.old.stream }
-    ensures absent { HasAnswer table.old digest.now → told_by table.old digest.now ≡ None
-        → result ≡ Ok None }
-    ensures asked { (HasAnswer table.old digest.now → ⊥) → IfOk result (λ answer. Gets
-        (line_value S.flow line.old)
-        (line_value S.flow line.new) area digest.now.hash (bytes_of answer)) }
-    ensures unfailed { HasAnswer table.old digest.now → IsErrOf result FetchError.Failed → ⊥ }
-    ensures refused { IfErr result (RefusesRequest
-        (line_value S.flow line.old) (line_value S.flow line.new) (get area digest.now.hash)) }
-    ensures starved { (HasAnswer table.old digest.now → ⊥) → IfErr result (ExplainsMemory
-        (line_value S.flow line.old) (line_value S.flow line.new) (get area digest.now.hash)) }
-    ensures same { HasAnswer table.old digest.now → KeepsAnswers table.old table.new }
-    ensures unheld { OnErr result (KeepsAnswers table.old table.new) }
-    ensures others { IsSameBut digest.now table.old table.new }
+    ensures looked { LooksUp area digest.now (line_value S.flow line.old)
+        (line_value S.flow line.new) table.old table.new result }
     ensures risen { line.old.failures ≤ line.new.failures }
     ensures bounded { line.new.failures ≤ greatest_count }
 {

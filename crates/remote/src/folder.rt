@@ -1,12 +1,11 @@
-ghost use Rattle.std.specs.Prelude.{◌≡◌, ◌≢◌, ◌⊎◌, ◌+◌, ◌≤◌, IfErr, IfOk, IsErrOf, IsSomeAnd, None};
-ghost use Rattle.std.specs.Prelude.{Ok, OnErr, Some};
-ghost use Rattle.std.specs.Prelude.{◌↔◌, IsTrue, codes, string_bytes};
+ghost use Rattle.std.specs.Prelude.{◌≡◌, ◌≢◌, ◌⊎◌, ◌↔◌, ◌+◌, ◌≤◌, IfOk, IsErrOf, IsTrue, Some};
+ghost use Rattle.std.specs.Prelude.{codes, string_bytes};
 ghost use Rattle.blob_source.specs.Called.{Calls};
 ghost use Rattle.blob_source.specs.Source.{AsksBlob, AsksResult, GrowsAt, bytes_of, greatest_count};
-ghost use Rattle.remote.specs.Folder.{IsFaultAt, IsFreshFolder, IsNotThere, IsReadAs};
-ghost use Rattle.remote.specs.Folder.{IsReadAt, LooksInFolder, entry_path};
-ghost use Rattle.remote.specs.Folder.{blobs_of, error_of, place_of, results_of, telling_of};
-ghost use Rattle.remote.specs.Table.{HasAnswer, IsSameBut, KeepsAnswers, KeepsNone, told_by};
+ghost use Rattle.remote.specs.Folder.{IsFreshFolder, IsNotThere, IsReadAs, LooksInFolder};
+ghost use Rattle.remote.specs.Folder.{blobs_of, entry_path, error_of, place_of, results_of};
+ghost use Rattle.remote.specs.Folder.{telling_of};
+ghost use Rattle.remote.specs.Table.{KeepsNone, told_by};
 ghost use Rattle.remote.specs.declared.files.FileError.TheVariants as errors;
 
 use crate::asking::keep_answer;
@@ -109,22 +108,9 @@ impl<'r, F: FileReader<A>, A: Allocator + Copy> Folder<'r, F, A> {
     ) -> Result<Option<Vec<u8, A>>, FetchError>
         ensures told { IfOk result (λ answer. bytes_of answer ≡ told_by table.new digest.now) }
         ensures grows { GrowsAt digest.now (told_by table.old) (told_by table.new) }
-        ensures held { IfOk result (λ _. HasAnswer table.new digest.now) }
-        ensures kept { HasAnswer table.old digest.now → IsErrOf result FetchError.Failed → ⊥ }
-        ensures absent { HasAnswer table.old digest.now → told_by table.old digest.now ≡ None
-            → result ≡ Ok None }
-        ensures same { HasAnswer table.old digest.now → KeepsAnswers table.old table.new }
-        ensures unheld { OnErr result (KeepsAnswers table.old table.new) }
-        ensures others { IsSameBut digest.now table.old table.new }
-        ensures read { (HasAnswer table.old digest.now → ⊥)
-            → IfOk result (λ answer. IsReadAt F.reads F.fails
-            (entry_path (string_bytes self.old.place) part.now digest.now) (bytes_of answer)) }
-        ensures failed { IsErrOf result FetchError.Failed → IsSomeAnd self.new.error
-            (IsFaultAt (entry_path (string_bytes self.old.place) part.now digest.now)) }
-        ensures fault { IsErrOf result FetchError.Failed → IsSomeAnd self.new.error
-            (F.fails (entry_path (string_bytes self.old.place) part.now digest.now)) }
-        ensures real { IsErrOf result FetchError.Failed
-            → IsSomeAnd self.new.error (λ e. IsNotThere e → ⊥) }
+        ensures looked { LooksInFolder F.reads F.fails
+            (entry_path (string_bytes self.old.place) part.now digest.now) digest.now
+            self.old.error self.new.error table.old table.new result }
         ensures counted { IsErrOf result FetchError.Failed
             → self.new.failures ≡ self.old.failures + 1 }
         ensures unfailed { (IsErrOf result FetchError.Failed → ⊥) → self.new ≡ self.old }

@@ -33,7 +33,7 @@ use Rattle.tree.specs.Lookup.{found, LooksFrom, IsValue}
 use Rattle.tree.proofs.TreeDigests.{IsDigest-digest_of}
 use Rattle.verifier.specs.Together.{StandsAtOrigin, Resolves}
 use Rattle.verifier.specs.AsRecorded.{IsAsRecorded, AreAsRecorded, IsPlanAsRecorded}
-use Rattle.verifier.specs.Build.{Meaning, ActionMeaning, action_digest, Outcome, output_at, Event, State, origin_at, origins, graft_of, action_of, AreLinesOf}
+use Rattle.verifier.specs.Build.{Meaning, ActionMeaning, action_digest, Outcome, output_at, Event, State, origin_at, origins, merge_of, action_of, AreLinesOf}
 use Rattle.verifier.specs.Headline.{IsBlobOfAction, IsBlobOfOutcome, IsConcerned}
 use Rattle.verifier.specs.Holding.{HoldsResult}
 use Rattle.verifier.specs.Recorded.{IsRecordedAs, Agrees}
@@ -266,7 +266,7 @@ module _ (B C : Blobs) (e : EngineValue) (t : Tree Leaf) (meaning : Meaning) (X 
     same : root tree ≡ root (form g)
 
   lines_merge : (before : List OutcomeValue) → AreServed before → (ls : List LineValue) → AreLinesOf e.plan ls → ArePaths ls → AllByRecursion (IsLine (length before)) ls
-      → ((l : LineValue) → Contains ls l → (p : List Name) → l.origin ≡ source p → TellsWay B t p) → (g : Tree Leaf) → graft_of t s ls ≡ Some g → LinesMerge before ls g
+      → ((l : LineValue) → Contains ls l → (p : List Name) → l.origin ≡ source p → TellsWay B t p) → (g : Tree Leaf) → merge_of t s ls ≡ Some g → LinesMerge before ls g
   lines_merge before all ls of_plan paths valid tells g is = by (origins t s ls) refl is
     where
       by : (q : Option (List (List Name × Entry Leaf))) → origins t s ls ≡ q → option_and_then merge q ≡ Some g → LinesMerge before ls g
@@ -280,7 +280,7 @@ module _ (B C : Blobs) (e : EngineValue) (t : Tree Leaf) (meaning : Meaning) (X 
             tree = made.0;
             resolved = found.recorded;
             put_together = merge_alike B S k.apart (λ b q. inl (inl (inl q))) found.twins found.are found.one found.other made.0 made.1;
-            same = sym known.2 ∙ ap (λ u. root (form u)) (one_answer (graft_of t s ls) known.0 g known.1 is);
+            same = sym known.2 ∙ ap (λ u. root (form u)) (one_answer (merge_of t s ls) known.0 g known.1 is);
           }
 
   -- a step
@@ -294,7 +294,7 @@ module _ (B C : Blobs) (e : EngineValue) (t : Tree Leaf) (meaning : Meaning) (X 
       let a = kept.0 in
       let made = made_of e.plan meaning t s i a kept.1 in
       let same : made.step ≡ step = one_answer (slice_get e.plan.steps i) made.step step made.at at in
-      let parts = lines_merge before all step.lines (inr (i, step, at, refl)) paths_are valid (λ l c p is. serves.sources l (inl (i, step, at, c)) p is) a.input (subst (λ (x : StepValue). graft_of t s x.lines ≡ Some a.input) same made.input) in
+      let parts = lines_merge before all step.lines (inr (i, step, at, refl)) paths_are valid (λ l c p is. serves.sources l (inl (i, step, at, c)) p is) a.input (subst (λ (x : StepValue). merge_of t s x.lines ≡ Some a.input) same made.input) in
       let frame = k.mirrors.frames i step at ∙ made.frame in
       let command = k.mirrors.commands i step at ∙ made.command in
       let stands = engine.stand.each i step a.frame a.command at frame command in
@@ -365,13 +365,13 @@ module _ (B C : Blobs) (e : EngineValue) (t : Tree Leaf) (meaning : Meaning) (X 
       counted h = omega (arith, h)
 
   -- the whole plan
-  pub plan_recorded : (ds : List DigestValue) (d : DigestValue) → IsPlan e.plan → kept_digests e.finished ≡ Some ds → IsSomeAnd (graft_of t s e.plan.root_lines) (λ g. root (form g) ≡ d) → IsPlanAsRecorded B C e.sources e.plan ds d
+  pub plan_recorded : (ds : List DigestValue) (d : DigestValue) → IsPlan e.plan → kept_digests e.finished ≡ Some ds → IsSomeAnd (merge_of t s e.plan.root_lines) (λ g. root (form g) ≡ d) → IsPlanAsRecorded B C e.sources e.plan ds d
   plan_recorded ds d plan kept ends =
       let all = steps_recorded [] e.plan.steps [] ds plan.steps refl (λ j v at. absurd cc) (record {
         steps = λ j step at. subst (λ m. slice_get e.plan.steps m ≡ Some step) (first j) at;
         digests = λ j step at. let f = kept_each e.finished ds j kept (subst (λ m. j < m) (sym engine.count) (slice_get_within e.plan.steps j step at)) in (f.0, subst (λ m. finished_in m e ≡ Some f.0) (first j) f.1, f.2);
       }) in
-      let g = there_and (λ g. root (form g) ≡ d) (graft_of t s e.plan.root_lines) ends in
+      let g = there_and (λ g. root (form g) ≡ d) (merge_of t s e.plan.root_lines) ends in
       let lines = subst (λ m. AllByRecursion (IsLine m) e.plan.root_lines) (first (length e.plan.steps) ∙ sym all.3) plan.root_lines.each in
       let parts = lines_merge all.0 all.2 e.plan.root_lines (inl refl) (paths_of (length all.0) e.plan.root_lines lines) lines (λ l c p is. serves.sources l (inr c) p is) g.0 g.1 in
       record {

@@ -2,17 +2,11 @@
 use Rattle.std.proofs.Common.{◌≡◌, ℕ, zero, suc, ◌<◌, List, [], ◌∷◌, length, Option, Some, None, refl, subst, arith, IsSome}
 use Rattle.std.specs.List.{AllByRecursion}
 use Rattle.std.specs.Prelude.{Result, Ok, Err, IfErr, IfOk}
-use Rattle.plan.specs.Plan.{IsPlan}
 use Rattle.plan.specs.Values.{OriginValue, source, output, LineValue, IsLine, IsOrigin}
-use Rattle.blob_digest.specs.Digest.{DigestValue}
-use Rattle.blob_source.specs.Source.{Blobs}
 use Rattle.actions.specs.Outcome.{OutcomeValue}
 use Rattle.verifier.specs.Together.{IsThere, AreThere}
-use Rattle.runs.specs.Engine.{FinishedValue, EngineValue, IsEngine}
+use Rattle.runs.specs.Engine.{FinishedValue}
 use Rattle.runs.specs.Looking.{outcomes_in}
-use Rattle.runs.specs.Calls.{IsGraftedRoot}
-use Rattle.runs.specs.Ties.{IsRootOf}
-use Rattle.runs.proofs.Starts.{root_event}
 
 all_there : (fs : List (Option FinishedValue)) (j : ℕ) → AllByRecursion IsSome fs → j < length fs → (o : OutcomeValue) × (outcomes_in fs j ≡ Some o)
 all_there [] j all lt = absurd (omega arith)
@@ -35,6 +29,3 @@ ok_map (Err e) f h = h
 pub err_map : {T E : Type 0} {P Q : E → Type 0} (r : Result T E) → ((x : E) → P x → Q x) → IfErr r P → IfErr r Q
 err_map (Ok x) f h = h
 err_map (Err e) f h = f e h
-
-pub grafted_root : (B : Blobs) (e : EngineValue) (d : DigestValue) → IsPlan e.plan → IsEngine e → IsGraftedRoot B e d → IsRootOf B e d
-grafted_root B e d plan engine g = root_event B e g.tree d plan engine g.together g.same

@@ -205,11 +205,11 @@ foreign_outcome e w j v k is valid other = record { of_run = λ t meaning X es s
 pub fault_of_outcome : {A : Type 0} (e : EngineValue) (w : ℕ) (j : JobValue) (c : CommandValue) (v : OutcomeValue) (why : RunsError A) → job_in w e ≡ Some j → slice_get e.commands j.step ≡ Some c → IsOutcomeFault c v why → IsFinishFault e w v why
 fault_of_outcome e w j c v (errors.ExitCode n) is command h = (j, is, c, command, h)
 fault_of_outcome e w j c v (errors.Unlisted path) is command h = (j, is, c, command, h)
-fault_of_outcome e w j c v errors.Memory is command h = (j, is, h.0)
-fault_of_outcome e w j c v errors.NotReady is command h = elim h [ ]
-fault_of_outcome e w j c v errors.NoSuchJob is command h = elim h [ ]
-fault_of_outcome e w j c v errors.Disagrees is command h = elim h [ ]
-fault_of_outcome e w j c v (errors.Origin path) is command h = elim h [ ]
-fault_of_outcome e w j c v (errors.Source why) is command h = elim h [ ]
-fault_of_outcome e w j c v (errors.Conflict path) is command h = elim h [ ]
-fault_of_outcome e w j c v errors.Full is command h = elim h [ ]
+fault_of_outcome e w j c v errors.Memory is command h = (j, is, h.0, inl (c, command, h.1.0, h.1.1))
+fault_of_outcome e w j c v errors.NotReady is command h = elim h.1 [ ]
+fault_of_outcome e w j c v errors.NoSuchJob is command h = elim h.1 [ ]
+fault_of_outcome e w j c v errors.Disagrees is command h = elim h.1 [ ]
+fault_of_outcome e w j c v (errors.Origin path) is command h = elim h.1 [ ]
+fault_of_outcome e w j c v (errors.Source why) is command h = elim h.1 [ ]
+fault_of_outcome e w j c v (errors.Conflict path) is command h = elim h.1 [ ]
+fault_of_outcome e w j c v errors.Full is command h = elim h.1 [ ]

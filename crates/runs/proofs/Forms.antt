@@ -98,7 +98,7 @@ if_err (Err e) f h = f e h
 
 pub outcome_fault : {A : Type 0} (c : CommandValue) (v : OutcomeValue) (es : List (List (List ℕ) × OutputValue)) → es ≡ v.outputs → v.exit_code ≡ pos 0 → (why : RunsError A) → IsUnlisted c (paths_of_outputs es) why → IsOutcomeFault c v why
 outcome_fault c v es same code (errors.Unlisted path) h = (code, subst (λ es. IsFirstUnlisted c (paths_of_outputs es) path) same h)
-outcome_fault c v es same code errors.Memory h = (code, h.0, subst (λ es. IsFirstUnlisted c (paths_of_outputs es) h.0) same h.1)
+outcome_fault c v es same code errors.Memory h = (code, (h.0, subst (λ es. IsFirstUnlisted c (paths_of_outputs es) h.0) same h.1))
 outcome_fault c v es same code errors.NotReady h = elim h [ ]
 outcome_fault c v es same code errors.NoSuchJob h = elim h [ ]
 outcome_fault c v es same code (errors.ExitCode n) h = elim h [ ]

@@ -17,7 +17,7 @@ use Rattle.blob_source.specs.Told.{TellsDirectory, FailsDirectory}
 use Rattle.tree.specs.Lookup.{Looked, found, LooksFrom, AgreesWith, IsValue}
 use Rattle.tree.proofs.LookupLemmas.{looks_from, told_reads}
 use Rattle.tree.proofs.OrderLemmas.{IsOrderedAt, ordered_at}
-use Rattle.verifier.specs.Build.{Meaning, ActionMeaning, Outcome, output_at, Event, State, outcome_of, origin_at, graft_of}
+use Rattle.verifier.specs.Build.{Meaning, ActionMeaning, Outcome, output_at, Event, State, outcome_of, origin_at, merge_of}
 use Rattle.verifier.proofs.HeldOrigins.{source_held, outcome_held}
 use Rattle.verifier.proofs.LinesTold.{valid_tree, tree_blobs, IsRead, LinesTell, no_lines, one_more, told_graft, no_graft_told}
 use Rattle.verifier.proofs.OutputLookups.{HoldsOutput, output_found}
@@ -117,10 +117,10 @@ module _ (B : Blobs) (e : EngineValue) (t : Tree Leaf) (meaning : Meaning) (X : 
   values b v = inl (inl (inl v))
 
   -- the tree that they put together is there, with the digest of that by digests
-  pub grafted : (ls : List LineValue) → ArePaths ls → (made : Tree NodeValue) → (together_in B e ls).passes made → (g : Tree Leaf) × (graft_of t s ls ≡ Some g) × (root (form g) ≡ root made)
+  pub grafted : (ls : List LineValue) → ArePaths ls → (made : Tree NodeValue) → (together_in B e ls).passes made → (g : Tree Leaf) × (merge_of t s ls ≡ Some g) × (root (form g) ≡ root made)
   unfolding ◌and_then◌
   grafted ls paths made h = let g = told_graft S t s k.apart B values (lines_tell ls paths h.0 h.1) made h.2 in (g.0, g.1, g.2)
 
   -- and where they conflict there is none
-  pub no_graft : (ls : List LineValue) → ArePaths ls → (xs : MergeLines) → Resolves B e.sources (outcomes_in e.finished) ls xs → (p : List Name) → (merged B xs).fails (conflict p) → graft_of t s ls ≡ None
+  pub no_graft : (ls : List LineValue) → ArePaths ls → (xs : MergeLines) → Resolves B e.sources (outcomes_in e.finished) ls xs → (p : List Name) → (merged B xs).fails (conflict p) → merge_of t s ls ≡ None
   no_graft ls paths xs r p fails = no_graft_told S t s k.apart B values (lines_tell ls paths xs r) p fails

@@ -12,7 +12,7 @@ use Rattle.tree.specs.Memo.{Known, Learns}
 use Rattle.plan.specs.Values.{LineValue, StepValue}
 use Rattle.verifier.specs.Build.{ActionMeaning, action_digest, State, job_of, action_of, started}
 use Rattle.runs.specs.Engine.{JobValue, EngineValue, IsEngine, at_number, job_in}
-use Rattle.runs.specs.Looking.{outcomes_in, together_in}
+use Rattle.runs.specs.Looking.{together_in}
 use Rattle.runs.specs.LooksAt.{LinesNeed}
 use Rattle.runs.specs.Calls.{IsLeastFree, placed, with_job, IsStarted, IsPrepared}
 use Rattle.runs.specs.declared.starting.Job.{Job}
@@ -22,7 +22,6 @@ use Rattle.runs.proofs.Places.{taken_within, first_same, first_other}
 use Rattle.runs.proofs.Steady.{Extends, make, action_still}
 use Rattle.runs.proofs.Resolved.{grafted}
 use Rattle.plan.specs.Plan.{IsPlan}
-use Rattle.verifier.proofs.ChecksThen.{looked_lines}
 use Rattle.verifier.proofs.FreshRuns.{one_answer}
 use Rattle.verifier.proofs.Targets.{paths_of, step_paths}
 
@@ -180,9 +179,13 @@ started_as B i n old job x js p least lt is same = record {
   after = ap (λ (ks : List (Option JobValue)). record old { jobs = ks }) (is ∙ ap (λ d. placed old.jobs n (record { step = i; action = job.digest; input = d })) same ∙ ap (λ m. placed old.jobs m (record { step = i; action = job.digest; input = job.action.input })) (sym p.number));
 }
 
+-- what lines need, said of equal ones
+pub lines_needed : {refused : Type 0} {k0 k1 : Known} {t0 t1 : Telling} (e : EngineValue) {ls ls' : List LineValue} → ls ≡ ls' → Learns (LinesNeed t1.blobs e ls) refused k0 k1 t0 t1 → Learns (LinesNeed t1.blobs e ls') refused k0 k1 t0 t1
+lines_needed {refused = refused} {k0 = k0} {k1 = k1} {t0 = t0} {t1 = t1} e is h = subst (λ xs. Learns (LinesNeed t1.blobs e xs) refused k0 k1 t0 t1) is h
+
 -- what the lines of a step need, said of the step with its number
 pub step_needed : {refused : Type 0} {k0 k1 : Known} {t0 t1 : Telling} (e : EngineValue) (i : ℕ) (planned s : StepValue) {ls : List LineValue} → slice_get e.plan.steps i ≡ Some planned → slice_get e.plan.steps i ≡ Some s → ls ≡ planned.lines
     → Learns (LinesNeed t1.blobs e ls) refused k0 k1 t0 t1 → Learns (LinesNeed t1.blobs e s.lines) refused k0 k1 t0 t1
 step_needed e i planned s there at is h =
     let same : planned ≡ s = one_answer (slice_get e.plan.steps i) planned s there at in
-    looked_lines e.sources (outcomes_in e.finished) (is ∙ ap (λ (x : StepValue). x.lines) same) h
+    lines_needed e (is ∙ ap (λ (x : StepValue). x.lines) same) h

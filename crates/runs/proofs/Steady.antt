@@ -8,7 +8,7 @@ use Rattle.action_messages.specs.Frame.{FrameValue}
 use Rattle.plan.specs.Values.{OriginValue, source, output, LineValue, StepValue, PlanValue}
 use Rattle.tree.specs.Tree.{Name, Tree, Leaf, Entry}
 use Rattle.tree.specs.Merge.{merge}
-use Rattle.verifier.specs.Build.{Meaning, ActionMeaning, Outcome, output_at, Event, start, finish, lose, State, opening, outcome_of, job_of, origin_at, origins, graft_of, step_action, action_of, started, finished, lost, happens, IsTable, Obeys, IsRun}
+use Rattle.verifier.specs.Build.{Meaning, ActionMeaning, Outcome, output_at, Event, start, finish, lose, State, opening, outcome_of, job_of, origin_at, origins, merge_of, step_action, action_of, started, finished, lost, happens, IsTable, Obeys, IsRun}
 use Rattle.verifier.specs.Headline.{IsBlobOfAction, IsBlobOfOutcome, IsBlobOfEvent, IsBlobOfEvents}
 use Rattle.verifier.proofs.FreshRuns.{one_answer}
 use Rattle.runs.proofs.Places.{some_none, AreKeyed, removed_same, removed_other, keyed_removed, first_same, first_other, found_behind}
@@ -40,10 +40,10 @@ module _ (t : Tree Leaf) (s r : State) (ext : Extends s r) where
           ap (λ o. option_and_then (λ e. option_map (λ es. (l.target, e) ∷ es) (origins t r ls)) o) (origin_still l.origin e at)
           ∙ ap (option_map (λ es. (l.target, e) ∷ es)) (rest others those) ∙ is
 
-  pub graft_still : (ls : List LineValue) (g : Tree Leaf) → graft_of t s ls ≡ Some g → graft_of t r ls ≡ Some g
+  pub graft_still : (ls : List LineValue) (g : Tree Leaf) → merge_of t s ls ≡ Some g → merge_of t r ls ≡ Some g
   graft_still ls g is = by (origins t s ls) refl is
     where
-      by : (q : Option (List (List Name × Entry Leaf))) → origins t s ls ≡ q → option_and_then merge q ≡ Some g → graft_of t r ls ≡ Some g
+      by : (q : Option (List (List Name × Entry Leaf))) → origins t s ls ≡ q → option_and_then merge q ≡ Some g → merge_of t r ls ≡ Some g
       by None those is = absurd cc
       by (Some es) those is = ap (option_and_then merge) (origins_still ls es those) ∙ is
 
@@ -53,7 +53,7 @@ pub record IsMade (plan : PlanValue) (meaning : Meaning) (t : Tree Leaf) (s : St
   pub at : slice_get plan.steps i ≡ Some step
   pub frame : slice_get meaning.frames i ≡ Some a.frame
   pub command : slice_get meaning.commands i ≡ Some a.command
-  pub input : graft_of t s step.lines ≡ Some a.input
+  pub input : merge_of t s step.lines ≡ Some a.input
 
 module _ (plan : PlanValue) (meaning : Meaning) (t : Tree Leaf) where
   pub made_of : (s : State) (i : ℕ) (a : ActionMeaning) → action_of plan meaning t s i ≡ Some a → IsMade plan meaning t s i a
@@ -61,9 +61,9 @@ module _ (plan : PlanValue) (meaning : Meaning) (t : Tree Leaf) where
     where
       by : (q : Option StepValue) → slice_get plan.steps i ≡ q → option_and_then (step_action meaning t s i) q ≡ Some a → IsMade plan meaning t s i a
       by None at is = absurd cc
-      by (Some step) at is = parts (slice_get meaning.frames i) (slice_get meaning.commands i) (graft_of t s step.lines) refl refl refl is
+      by (Some step) at is = parts (slice_get meaning.frames i) (slice_get meaning.commands i) (merge_of t s step.lines) refl refl refl is
         where
-          parts : (f : Option FrameValue) (c : Option CommandValue) (g : Option (Tree Leaf)) → slice_get meaning.frames i ≡ f → slice_get meaning.commands i ≡ c → graft_of t s step.lines ≡ g
+          parts : (f : Option FrameValue) (c : Option CommandValue) (g : Option (Tree Leaf)) → slice_get meaning.frames i ≡ f → slice_get meaning.commands i ≡ c → merge_of t s step.lines ≡ g
               → option_and_then {U = ActionMeaning} (λ (frame : FrameValue). option_and_then {U = ActionMeaning} (λ (command : CommandValue). option_map {U = ActionMeaning} (λ input. record { frame = frame; command = command; input = input }) g) c) f ≡ Some a
               → IsMade plan meaning t s i a
           parts None c g fs cs gs is = absurd cc
@@ -82,8 +82,8 @@ module _ (plan : PlanValue) (meaning : Meaning) (t : Tree Leaf) where
   pub make : (s : State) (i : ℕ) (a : ActionMeaning) → IsMade plan meaning t s i a → action_of plan meaning t s i ≡ Some a
   make s i a m =
       ap (option_and_then (step_action meaning t s i)) m.at
-      ∙ ap (λ q. option_and_then {U = ActionMeaning} (λ (frame : FrameValue). option_and_then {U = ActionMeaning} (λ (command : CommandValue). option_map {U = ActionMeaning} (λ input. record { frame = frame; command = command; input = input }) (graft_of t s m.step.lines)) (slice_get meaning.commands i)) q) m.frame
-      ∙ ap (λ q. option_and_then {U = ActionMeaning} (λ (command : CommandValue). option_map {U = ActionMeaning} (λ input. record { frame = a.frame; command = command; input = input }) (graft_of t s m.step.lines)) q) m.command
+      ∙ ap (λ q. option_and_then {U = ActionMeaning} (λ (frame : FrameValue). option_and_then {U = ActionMeaning} (λ (command : CommandValue). option_map {U = ActionMeaning} (λ input. record { frame = frame; command = command; input = input }) (merge_of t s m.step.lines)) (slice_get meaning.commands i)) q) m.frame
+      ∙ ap (λ q. option_and_then {U = ActionMeaning} (λ (command : CommandValue). option_map {U = ActionMeaning} (λ input. record { frame = a.frame; command = command; input = input }) (merge_of t s m.step.lines)) q) m.command
       ∙ ap (option_map {U = ActionMeaning} (λ input. record { frame = a.frame; command = a.command; input = input })) m.input
 
   pub action_still : (s r : State) → Extends s r → (i : ℕ) (a : ActionMeaning) → action_of plan meaning t s i ≡ Some a → action_of plan meaning t r i ≡ Some a

@@ -139,6 +139,11 @@ abbrev pub Disagrees : List (Option FinishedValue) → ℕ → DigestValue → O
 Disagrees fs i action v = (k : ℕ) × (o : Option FinishedValue) × (slice_get fs k ≡ Some o)
     × IsOther o k i action v
 
+-- there is an outcome to compare with: that of the step, or of one with the same action
+abbrev pub IsCompared : List (Option FinishedValue) → ℕ → DigestValue → Type 0
+IsCompared fs i action = (k : ℕ) × (f : FinishedValue) × (at_number fs k ≡ Some f)
+    × ((k ≡ i) ⊎ (f.action ≡ action))
+
 -- the first path that a command doesn't list
 abbrev pub IsFirstUnlisted : CommandValue → List (List (List ℕ)) → List (List ℕ) → Type 0
 IsFirstUnlisted c [] p = ⊥
@@ -154,11 +159,7 @@ IsUnlisted c paths why = ⊥
 -- why an outcome isn't taken: its exit code isn't 0, or else an output isn't listed
 abbrev pub IsOutcomeFault : {A : Type 0} → CommandValue → OutcomeValue → RunsError A → Type 0
 IsOutcomeFault c v (errors.ExitCode code) = (code ≡ v.exit_code) × (v.exit_code ≢ pos 0)
-IsOutcomeFault c v (errors.Unlisted path) = (v.exit_code ≡ pos 0)
-    × IsFirstUnlisted c (paths_of_outputs v.outputs) path
-IsOutcomeFault c v errors.Memory = (v.exit_code ≡ pos 0)
-    × (path : List (List ℕ)) × IsFirstUnlisted c (paths_of_outputs v.outputs) path
-IsOutcomeFault c v why = ⊥
+IsOutcomeFault c v why = (v.exit_code ≡ pos 0) × IsUnlisted c (paths_of_outputs v.outputs) why
 
 -- what a step came to stays what it was at its first finish
 abbrev pub first_kept : Option FinishedValue → List (Option FinishedValue) → ℕ → FinishedValue
@@ -182,14 +183,20 @@ pub record IsFinished (w : ℕ) (v : OutcomeValue) (old new : EngineValue) : Typ
   pub agrees : Disagrees old.finished job.step job.action v → ⊥
   pub after : new ≡ with_finished w job v old
 
+-- the job's command doesn't list one of the outputs
+abbrev pub HasUnlisted : EngineValue → JobValue → OutcomeValue → Type 0
+HasUnlisted e j v = (c : CommandValue) × (slice_get e.commands j.step ≡ Some c)
+    × (path : List (List ℕ)) × IsFirstUnlisted c (paths_of_outputs v.outputs) path
+
 -- why a job doesn't finish: the first of no such job, the exit code, an unlisted output, and
--- another outcome; memory runs out only where the first two aren't so
+-- another outcome; memory runs out only to tell an unlisted output, or to compare outcomes
 abbrev pub IsFinishFault : {A : Type 0} → EngineValue → ℕ → OutcomeValue → RunsError A → Type 0
 IsFinishFault e w v errors.NoSuchJob = job_in w e ≡ None
 IsFinishFault e w v errors.Disagrees = (j : JobValue) × (job_in w e ≡ Some j)
     × ((c : CommandValue) → slice_get e.commands j.step ≡ Some c → TakesOutcome c v)
     × Disagrees e.finished j.step j.action v
 IsFinishFault e w v errors.Memory = (j : JobValue) × (job_in w e ≡ Some j) × (v.exit_code ≡ pos 0)
+    × (HasUnlisted e j v ⊎ IsCompared e.finished j.step j.action)
 IsFinishFault e w v why = (j : JobValue) × (job_in w e ≡ Some j) × (c : CommandValue)
     × (slice_get e.commands j.step ≡ Some c) × IsOutcomeFault c v why
 
@@ -257,12 +264,6 @@ IsStartFault B e i why = IsReady e i × HasRoomForJob e
     → ExplainsRefusal (together_in B e step.lines).fails why)
 
 -- ---- the root
-
--- the digest of what the root's lines put together
-pub record IsGraftedRoot (B : Blobs) (e : EngineValue) (d : DigestValue) : Type 0 where
-  pub tree : Tree NodeValue
-  pub together : (together_in B e e.plan.root_lines).passes tree
-  pub same : d ≡ root tree
 
 -- each step has finished
 abbrev pub HaveAllFinished : EngineValue → Type 0

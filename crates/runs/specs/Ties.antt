@@ -12,7 +12,7 @@ use Rattle.tree.specs.Lookup.{IsValue}
 use Rattle.blob_source.specs.Source.{Blobs}
 use Rattle.verifier.specs.Build.{Meaning, ActionMeaning, action_digest, Outcome, Event, start}
 use Rattle.verifier.specs.Build.{finish, State, opening, outcome_of, happens, action_of, origin_at}
-use Rattle.verifier.specs.Build.{graft_of, MeaningFits, Obeys, HasFinishedAll}
+use Rattle.verifier.specs.Build.{merge_of, MeaningFits, Obeys, HasFinishedAll}
 use Rattle.verifier.specs.Headline.{IsBlobOfMeaning, HasFinished}
 use Rattle.verifier.specs.Together.{origin_path}
 use Rattle.runs.specs.declared.error.RunsError.{RunsError}
@@ -101,12 +101,11 @@ pub record IsStart (B : Blobs) (old : EngineValue) (i id : ℕ) (digest : Digest
       × (digest ≡ action_digest a) × (next : State)
       × (happens old.plan meaning t s (start i id) ≡ Some next) × Mirrors new t meaning next
 
--- whatever run the engine mirrors, the graft of the root's lines is there after it, with this
--- digest
+-- whatever run the engine mirrors, the root's lines merge after it into a tree with this digest
 pub record IsRootOf (B : Blobs) (e : EngineValue) (d : DigestValue) : Type 0 where
   pub of_run : (t : Tree Leaf) (meaning : Meaning) (X : List (ActionMeaning × Outcome))
       (es : List Event) (s : State) → IsMirrored B e t meaning X es s
-      → IsSomeAnd (graft_of t s e.plan.root_lines) (λ g. root (form g) ≡ d)
+      → IsSomeAnd (merge_of t s e.plan.root_lines) (λ g. root (form g) ≡ d)
 
 -- whatever run the engine mirrors, one of the lines has no origin after it, and this is the
 -- origin's path
@@ -124,11 +123,11 @@ abbrev pub TellsMissing : {A : Type 0} → Blobs → EngineValue → List LineVa
 TellsMissing B e lines (errors.Origin path) = IsWithoutOrigin B e lines path
 TellsMissing B e lines why = Unit {0}
 
--- whatever run the engine mirrors, lines have no graft after it
+-- whatever run the engine mirrors, lines don't merge after it
 pub record IsWithoutGraft (B : Blobs) (e : EngineValue) (lines : List LineValue) : Type 0 where
   pub of_run : (t : Tree Leaf) (meaning : Meaning) (X : List (ActionMeaning × Outcome))
       (es : List Event) (s : State) → IsMirrored B e t meaning X es s
-      → graft_of t s lines ≡ None
+      → merge_of t s lines ≡ None
 
 -- a refusal of a conflict is so in each run that the engine mirrors
 abbrev pub TellsConflict : {A : Type 0} → Blobs → EngineValue → List LineValue → RunsError A

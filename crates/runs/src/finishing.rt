@@ -1,13 +1,14 @@
-ghost use Rattle.std.specs.Prelude.{◌≡◌, ◌↔◌, ◌⊎◌, ◌<◌, ℕ, IsTrue, IsErrOf, IfOk, IfErr, OnOk};
-ghost use Rattle.std.specs.Prelude.{OnErr, length};
+ghost use Rattle.std.specs.Prelude.{◌≡◌, ◌↔◌, ◌⊎◌, ◌<◌, ℕ, Some, IsTrue, IsErr, IsErrOf, IfOk};
+ghost use Rattle.std.specs.Prelude.{IfErr, OnOk, OnErr, length};
 ghost use Rattle.std.specs.List.{AllByRecursion, Contains};
 ghost use Rattle.messages.specs.Directory.{directory_bytes};
 ghost use Rattle.blob_digest.specs.Digest.{digest_of};
 ghost use Rattle.actions.specs.Outcome.{output_value, output_node, outputs_in, outputs_form};
 ghost use Rattle.actions.specs.Outcome.{paths_of_outputs};
-ghost use Rattle.runs.specs.Engine.{TakesOutcome, IsValidOutput, HoldValidTrees, at_number};
-ghost use Rattle.runs.specs.Calls.{HaveOneForm, IsOther, Disagrees, first_kept, IsUnlisted};
-ghost use Rattle.runs.specs.Calls.{IsOutcomeFault, IsFinished, IsFinishFault};
+ghost use Rattle.runs.specs.Engine.{FinishedValue, TakesOutcome, IsValidOutput, HoldValidTrees};
+ghost use Rattle.runs.specs.Engine.{at_number};
+ghost use Rattle.runs.specs.Calls.{HaveOneForm, IsOther, Disagrees, IsCompared, first_kept};
+ghost use Rattle.runs.specs.Calls.{IsUnlisted, IsOutcomeFault, IsFinished, IsFinishFault};
 ghost use Rattle.runs.specs.Ties.{IsFinish, IsForeign};
 
 use crate::engine::{Engine, Finished, job_at};
@@ -107,8 +108,10 @@ fn is_other<A: Allocator + Copy>(
     action: &Digest,
     outcome: &Outcome<A>,
 ) -> Result<bool, AllocError>
-    ensures { (k i : ℕ) → IsTrue is_step ↔ (k ≡ i)
+    ensures told { (k i : ℕ) → IsTrue is_step ↔ (k ≡ i)
         → IfOk result (λ other. IsTrue other ↔ IsOther finished.now k i action.now outcome.now) }
+    ensures memory { IsErr result → (f : FinishedValue) × (finished.now ≡ Some f)
+        × (IsTrue is_step ⊎ (f.action ≡ action.now)) }
 {
     let Some(finished) = finished else {
         return Ok(false);
@@ -137,8 +140,9 @@ fn disagrees<A: Allocator + Copy>(
     action: &Digest,
     outcome: &Outcome<A>,
 ) -> Result<bool, AllocError>
-    ensures { IfOk result (λ other. IsTrue other
+    ensures told { IfOk result (λ other. IsTrue other
         ↔ Disagrees finished.now step action.now outcome.now) }
+    ensures memory { IsErr result → IsCompared finished.now step action.now }
 {
     for (number, item) in finished.iter().enumerate() {
         if is_other(alloc, item, number == step, action, outcome)? {
@@ -214,6 +218,7 @@ impl<'p, A: Allocator + Copy> Engine<'p, A> {
     /// the number (`NoSuchJob`), an exit code that isn't 0 (`ExitCode`), an output that the command
     /// doesn't list (`Unlisted`), and that the step, or one that finished with the same action, has
     /// another outcome (`Disagrees`). What a step came to stays what it was at its first finish.
+    /// Only to tell an unlisted output, and to compare outcomes, does it take memory.
     pub fn finish(&mut self, alloc: A, id: u64, outcome: Outcome<A>) -> Result<(), RunsError<A>>
         ensures finished { OnOk result (IsFinished id outcome self.old self.new) }
         ensures refused { IfErr result (IsFinishFault self.old id outcome) }

@@ -6,7 +6,7 @@ ghost use Rattle.blob_source.specs.Called.{Called};
 ghost use Rattle.tree.specs.Folded.{IsFoldOfPassed};
 ghost use Rattle.verifier.specs.Together.{AreThere};
 ghost use Rattle.runs.specs.Engine.{at_number};
-ghost use Rattle.runs.specs.Calls.{HaveAllFinished, IsGraftedRoot, IsRootFault};
+ghost use Rattle.runs.specs.Calls.{HaveAllFinished, IsRootFault};
 ghost use Rattle.runs.specs.Ties.{IsRootOf, TellsConflict, TellsMissing};
 ghost use Rattle.runs.specs.Served.{IsServedYes};
 ghost use Rattle.runs.specs.LooksAt.{LinesNeed, RootNeeds};
@@ -15,7 +15,6 @@ ghost use Rattle.runs.specs.Looking.{ExplainsRefusal, StandsIn, outcomes_in, tog
 use crate::engine::{Engine, Finished};
 use crate::error::RunsError;
 use actions::Outcome;
-use blob_digest::Digest;
 use plan::Line;
 use std::alloc::Allocator;
 use tree::{BlobSource, Folded, Memo, TreeError};
@@ -85,7 +84,7 @@ fn have_all_finished<A: Allocator>(finished: &[Option<Finished<A>>]) -> bool
 
 impl<'p, A: Allocator + Copy> Engine<'p, A> {
     /// The tree that the root's lines put together.
-    fn graft_root<S: BlobSource<A>>(
+    fn merge_root<S: BlobSource<A>>(
         &self,
         alloc: A,
         memo: &mut Memo<A>,
@@ -131,7 +130,7 @@ impl<'p, A: Allocator + Copy> Engine<'p, A> {
         // `Origin` says that nothing stands at the origin in any run that the engine mirrors.
         ensures missing { IfErr result
             (TellsMissing (S.tells source.new).blobs self.now self.now.plan.root_lines) }
-        // `Conflict` says that the lines have no graft in any run that the engine mirrors.
+        // `Conflict` says that the lines don't merge in any run that the engine mirrors.
         ensures conflict { IfErr result
             (TellsConflict (S.tells source.new).blobs self.now self.now.plan.root_lines) }
         ensures called { Called (S.tells source.old) (S.tells source.new)
@@ -146,33 +145,6 @@ impl<'p, A: Allocator + Copy> Engine<'p, A> {
         if !have_all_finished(&self.finished) {
             return Err(RunsError::NotReady);
         }
-        self.graft_root(alloc, memo, source)
-    }
-
-    /// The digest of the tree in which the build ends. Refusals are those of `root_tree`.
-    pub fn root<S: BlobSource<A>>(
-        &self,
-        alloc: A,
-        memo: &mut Memo<A>,
-        source: &mut S,
-    ) -> Result<Digest, RunsError<A>>
-        requires { IsKnownOf (known_by memo.old) (S.tells source.old) }
-        ensures told { IfOk result (IsGraftedRoot (S.tells source.new).blobs self.now) }
-        ensures complete { IfOk result (λ _. HaveAllFinished self.now) }
-        ensures state { IfOk result (IsRootOf (S.tells source.new).blobs self.now) }
-        ensures served { IfOk result (IsServedYes A (S.tells source.new).blobs self.now) }
-        ensures refused { IfErr result (IsRootFault (S.tells source.new).blobs self.now) }
-        ensures stands { IfErr result (StandsIn (S.tells source.new).blobs) }
-        ensures missing { IfErr result
-            (TellsMissing (S.tells source.new).blobs self.now self.now.plan.root_lines) }
-        ensures conflict { IfErr result
-            (TellsConflict (S.tells source.new).blobs self.now self.now.plan.root_lines) }
-        ensures called { Called (S.tells source.old) (S.tells source.new)
-            (IsErrOf result (RunsError.Source TreeError.Fetch)) }
-        ensures learned { Learns (RootNeeds (S.tells source.new).blobs self.now)
-            (WasRefused result)
-            (known_by memo.old) (known_by memo.new) (S.tells source.old) (S.tells source.new) }
-    {
-        Ok(self.root_tree(alloc, memo, source)?.root)
+        self.merge_root(alloc, memo, source)
     }
 }

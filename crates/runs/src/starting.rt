@@ -132,7 +132,7 @@ impl<'p, A: Allocator + Copy> Engine<'p, A> {
         // `Origin` says that nothing stands at the origin in any run that the engine mirrors.
         ensures missing { (s : StepValue) → slice_get self.old.plan.steps step ≡ Some s
             → IfErr result (TellsMissing (S.tells source.new).blobs self.old s.lines) }
-        // `Conflict` says that the lines have no graft in any run that the engine mirrors.
+        // `Conflict` says that the lines don't merge in any run that the engine mirrors.
         ensures conflict { (s : StepValue) → slice_get self.old.plan.steps step ≡ Some s
             → IfErr result (TellsConflict (S.tells source.new).blobs self.old s.lines) }
         ensures unchanged { OnErr result (self.new ≡ self.old) }

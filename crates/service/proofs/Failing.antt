@@ -1,9 +1,13 @@
 -- Accepts that fail, one after another, and connections that fail.
-use Rattle.std.proofs.Common.{◌≡◌, ℕ, zero, suc, ◌+◌, subst, arith, Result, Ok, Err, IfErr}
-use Rattle.cache_server.specs.Connection.{IsFoundBy}
+use Rattle.std.proofs.Common.{◌≡◌, ℕ, zero, suc, ◌+◌, [], List, ◌++◌, subst, arith, Option, Some, Result, Ok, Err, IfErr, OnOk}
+use Rattle.std.specs.Prelude.{MatchResult}
+use Rattle.cache_server.specs.Cache.{CacheValue}
+use Rattle.cache_server.specs.Connection.{BreaksOff, IsFoundBy, Runs}
 use Rattle.cache_server.specs.declared.error.ConnError.{ConnError}
 use Rattle.cache_server.specs.declared.error.ConnError.TheVariants.{ReadFault, WriteFault, Memory}
-use Rattle.service.specs.Turns.{FailsAfter, LosesAs}
+use Rattle.service.specs.Sockets.{Why}
+use Rattle.service.specs.Turns.{FailsAfter, LedByStream, LedByStreams, LosesAs, ServesInTurn, no_stream, next_stream}
+use Rattle.service.specs.Turns as turns
 
 pub fails_none : {L : Type 0} (failed : L → ℕ → Type 0) (l : L) → FailsAfter failed 0 0 l l
 fails_none failed l = λ n is. let e : n ≡ n + 0 = omega arith in subst (failed l) e is
@@ -24,3 +28,27 @@ fault_lost (Ok done) reader writer lost l f = tt
 fault_lost (Err ReadFault) reader writer lost l f = l.reading f
 fault_lost (Err WriteFault) reader writer lost l f = l.writing f
 fault_lost (Err Memory) reader writer lost l f = tt
+
+-- ---- whatever is said of the connections themselves
+
+pub on_ok : {T E P Q : Type 0} (r : Result T E) → (P → Q) → OnOk r P → OnOk r Q
+on_ok (Ok x) f h = f h
+on_ok (Err e) f h = h
+
+pub if_err : {T E : Type 0} {P Q : E → Type 0} (r : Result T E) → ((e : E) → P e → Q e) → IfErr r P → IfErr r Q
+if_err (Ok x) f h = h
+if_err (Err e) f h = f e h
+
+led_by_run : (prefix : List ℕ) (old : CacheValue) (input left before after : Option (List ℕ)) (new : CacheValue) (why : Why)
+    → MatchResult why (λ _. Runs prefix old input left before after new) (BreaksOff prefix old input left before after new) → LedByStream prefix old new
+led_by_run prefix old input left before after new (Ok done) (rest, runs, end) = (runs.front, runs.told ++ [], rest, runs.answered)
+led_by_run prefix old input left before after new (Err ReadFault) (begun, runs) = (runs.front, runs.told ++ [], Some begun, runs.answered)
+led_by_run prefix old input left before after new (Err WriteFault) (rest, lost, begun, runs, all_but) = (runs.front, runs.told ++ lost, begun, runs.answered)
+led_by_run prefix old input left before after new (Err Memory) (rest, begun, runs, short) = (runs.front, runs.told ++ [], Some begun, runs.answered)
+
+pub led_by_streams : (opened : ℕ → Option (List ℕ) → Option (List ℕ) → Type 0) (ended : ℕ → Option (List ℕ) → Option (List ℕ) → Why → Type 0) (lost : ℕ → ConnError → Type 0)
+    (prefix : List ℕ) (opening : CacheValue) (count : ℕ) (new : CacheValue) → ServesInTurn opened ended lost prefix opening count new → LedByStreams prefix opening count new
+led_by_streams opened ended lost prefix opening _ _ turns.none = no_stream
+led_by_streams opened ended lost prefix opening _ _ (turns.next count old new earlier last) =
+    next_stream count old new (led_by_streams opened ended lost prefix opening count old earlier)
+    (led_by_run prefix old last.input last.left last.before last.after new last.why last.ran)

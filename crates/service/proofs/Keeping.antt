@@ -6,15 +6,16 @@ use Rattle.std.proofs.lemmas.Bool.Decides.{eqb_tells}
 use Rattle.std.proofs.lemmas.List.{append-nil}
 use Rattle.cache_server.specs.Cache.{CacheValue}
 use Rattle.cache_server.specs.History.{HistoryEntry, End}
-use Rattle.std.specs.Prelude.{Ok, Err}
+use Rattle.std.specs.Prelude.{Ok, Err, option_map, ⊤}
 use Rattle.cache_server.specs.Server.{ServerValue, ServerStands, IsOpenAt, session_at}
 use Rattle.cache_server.specs.declared.error.ConnError.TheVariants.{Memory, ReadFault}
 use Rattle.service.specs.Sockets.{Cause, EndsAs, Failed, Finished, Shut, Silent, Why}
 use Rattle.service.specs.Talks.{entry_number, AreApart, IsShut, IsReason, OrCutOff, HasEnded, AreBelow, ServesEach}
 use Rattle.service.specs.Talks as talks
-use Rattle.service.specs.Member.{MemberValue, TalksOn, MayEndNow, AreOf, HasMovedOn, new_member}
-use Rattle.service.specs.Together.{member_at, TalksOrEnded, KeepsTogether, GoesOnTogether, AreSame, OthersAreSame, MovesOnAt, MayEndAt, EntersAt, EndsAt, EndsIfAny}
-use Rattle.service.proofs.Talking.{apart_from_own, holds_apart, ended_before, answered_apart, may_end}
+use Rattle.service.specs.Member.{MemberValue, TalksOn, MayEndNow, AreOf, HasMovedOn, let_go, new_member, marked_by}
+use Rattle.service.specs.Together.{member_at, TalksOrEnded, KeepsTogether, GoesOnTogether, AreSame, AreSameButHeld, AreMarkedBy, OthersAreSame, MovesOnAt, MayEndAt, EntersAt, EndsAt, EndsIfAny}
+use Rattle.service.specs.declared.sockets.Ready.{Ready}
+use Rattle.service.proofs.Talking.{apart_from_own, holds_apart, ended_before, answered_apart, may_end, talks_as}
 
 -- ---- numbers below a count
 
@@ -36,6 +37,32 @@ below_more n (e ∷ es) (b, bs) = (omega arith, below_more n es bs)
 
 pub none_is_some : {A X : Type 0} (o : Option A) (x : A) → o ≡ Some x → o ≡ None → X
 none_is_some o x e f = let g : Some x ≡ None = sym e ∙ f in cc
+
+-- the same, but for what it waits for
+abbrev pub Alike : {S : Type 0} → Option (MemberValue S) → Option (MemberValue S) → Type 0
+Alike None None = ⊤
+Alike None (Some n) = ⊥
+Alike (Some m) None = ⊥
+Alike (Some m) (Some n) = (n.stream ≡ m.stream) × (n.left ≡ m.left) × (n.unsent ≡ m.unsent)
+
+pub none_alike : {S : Type 0} (o p : Option (MemberValue S)) → Alike o p → o ≡ None → p ≡ None
+none_alike o None alike none = refl
+none_alike None (Some m) alike none = absurd alike
+none_alike (Some n) (Some m) alike none = absurd cc
+
+pub held_alike : {S : Type 0} (o p : Option (MemberValue S)) → option_map let_go p ≡ option_map let_go o → Alike o p
+held_alike None None e = tt
+held_alike None (Some n) e = absurd cc
+held_alike (Some m) None e = absurd cc
+held_alike {S} (Some m) (Some n) e =
+    let same : let_go n ≡ let_go m = cc in (ap (λ (z : MemberValue S). z.stream) same, ap (λ (z : MemberValue S). z.left) same, ap (λ (z : MemberValue S). z.unsent) same)
+
+pub told_alike : {S : Type 0} (events : List Ready) (k : ℕ) (o p : Option (MemberValue S)) → p ≡ option_map (marked_by events k) o → Alike o p
+told_alike events k None None e = tt
+told_alike events k None (Some n) e = absurd cc
+told_alike events k (Some m) None e = absurd cc
+told_alike {S} events k (Some m) (Some n) e =
+    let same : n ≡ marked_by events k m = cc in (ap (λ (z : MemberValue S). z.stream) same, ap (λ (z : MemberValue S). z.left) same, ap (λ (z : MemberValue S). z.unsent) same)
 
 -- ---- why a connection may end
 
@@ -76,6 +103,38 @@ module _ {S : Type 0} (cut : Bool) (spoke : ℕ → S → List ℕ → List ℕ 
     each = λ k h. subst (TalksOrEnded cut spoke ended lost prefix opening history keeps.entries k) (sym (same.0 k)) (keeps.each k h);
     fresh = λ k h. same.0 k ∙ keeps.fresh k h;
   }
+
+  alike_talks : (prefix : List ℕ) (opening : CacheValue) (history entries : List HistoryEntry) (k : ℕ) (o p : Option (MemberValue S)) → Alike o p
+      → TalksOrEnded cut spoke ended lost prefix opening history entries k o → TalksOrEnded cut spoke ended lost prefix opening history entries k p
+  alike_talks prefix opening history entries k None None alike h = h
+  alike_talks prefix opening history entries k None (Some m) alike h = absurd alike
+  alike_talks prefix opening history entries k (Some m) None alike h = absurd alike
+  alike_talks prefix opening history entries k (Some m) (Some n) (stream, left, unsent) h = record {
+    read = h.read;
+    sent = h.sent;
+    said = subst (λ (z : S). spoke k z h.read h.sent) (sym stream) h.said;
+    talks = talks_as prefix opening history entries k h.read h.sent m.left m.unsent n.left n.unsent left unsent h.talks;
+  }
+
+  keeps_alike : (members members' : List (ℕ × MemberValue S)) (accepted : ℕ) (server : ServerValue) → ((k : ℕ) → Alike (member_at members k) (member_at members' k)) → GoesOnTogether cut spoke ended lost members accepted server members' accepted server
+  keeps_alike members members' accepted server alike = record {
+    on = λ prefix opening history keeps. record {
+      entries = keeps.entries;
+      stands = keeps.stands;
+      same = keeps.same;
+      theirs = keeps.theirs;
+      each = λ k h. alike_talks prefix opening history keeps.entries k (member_at members k) (member_at members' k) (alike k) (keeps.each k h);
+      fresh = λ k h. none_alike (member_at members k) (member_at members' k) (alike k) (keeps.fresh k h);
+    };
+  }
+
+  -- which of them wait for others makes no difference
+  pub keeps_but_held : (members members' : List (ℕ × MemberValue S)) (accepted : ℕ) (server : ServerValue) → AreSameButHeld members members' → GoesOnTogether cut spoke ended lost members accepted server members' accepted server
+  keeps_but_held members members' accepted server same = keeps_alike members members' accepted server (λ k. held_alike (member_at members k) (member_at members' k) (same.0 k))
+
+  -- nor does what the system tells
+  pub keeps_told : (events : List Ready) (members members' : List (ℕ × MemberValue S)) (accepted : ℕ) (server : ServerValue) → AreMarkedBy events members members' → GoesOnTogether cut spoke ended lost members accepted server members' accepted server
+  keeps_told events members members' accepted server told = keeps_alike members members' accepted server (λ k. told_alike events k (member_at members k) (member_at members' k) (told.0 k))
 
   pub keeps_same : (members members' : List (ℕ × MemberValue S)) (accepted : ℕ) (server : ServerValue) → AreSame members members' → GoesOnTogether cut spoke ended lost members accepted server members' accepted server
   keeps_same members members' accepted server same = record { on = keeps_same_so members members' accepted server same }
@@ -244,9 +303,9 @@ module _ {S : Type 0} (cut : Bool) (spoke : ℕ → S → List ℕ → List ℕ 
       keeps_further members mid members' accepted accepted accepted old between new (keeps_moved over members mid accepted old between k moves)
       (keeps_ended_so over (Err Memory) mid members' accepted between new k (λ m e prefix opening history entries stands same. uncut cut (Err Memory) (IsReason (over m.stream) (IsShut prefix k (history ++ entries)) m.left m.unsent (Err Memory)) (inl refl)) ends)
 
-  keeps_entered_so : (members members' : List (ℕ × MemberValue S)) (accepted : ℕ) (server : ServerValue) (stream : S)
-      → spoke accepted stream [] [] → EntersAt accepted stream members members' → KeepsSo members accepted server members' (accepted + 1) server
-  keeps_entered_so members members' accepted server stream said enters prefix opening history keeps = record {
+  keeps_entered_so : (members members' : List (ℕ × MemberValue S)) (accepted : ℕ) (server : ServerValue) (stream : S) (now : ℕ)
+      → spoke accepted stream [] [] → EntersAt accepted stream now members members' → KeepsSo members accepted server members' (accepted + 1) server
+  keeps_entered_so members members' accepted server stream now said enters prefix opening history keeps = record {
     entries = keeps.entries;
     stands = keeps.stands;
     same = keeps.same;
@@ -255,8 +314,8 @@ module _ {S : Type 0} (cut : Bool) (spoke : ℕ → S → List ℕ → List ℕ 
     fresh = λ j above. enters.others j (λ (e : j ≡ accepted). absurd (omega arith)) ∙ keeps.fresh j (omega arith);
   }
     where
-      now : TalksOn spoke prefix opening history keeps.entries accepted (new_member stream)
-      now = record {
+      talks_on : TalksOn spoke prefix opening history keeps.entries accepted (new_member stream now)
+      talks_on = record {
         read = [];
         sent = [];
         said = said;
@@ -274,7 +333,7 @@ module _ {S : Type 0} (cut : Bool) (spoke : ℕ → S → List ℕ → List ℕ 
           → TalksOrEnded cut spoke ended lost prefix opening history keeps.entries j (member_at members' j)
       by_test j below (inl (t, e)) =
           subst (λ (i : ℕ). TalksOrEnded cut spoke ended lost prefix opening history keeps.entries i (member_at members' i)) (sym e)
-          (subst (TalksOrEnded cut spoke ended lost prefix opening history keeps.entries accepted) (sym enters.at) now)
+          (subst (TalksOrEnded cut spoke ended lost prefix opening history keeps.entries accepted) (sym enters.at) talks_on)
       by_test j below (inr (f, n)) =
           subst (TalksOrEnded cut spoke ended lost prefix opening history keeps.entries j) (sym (enters.others j n)) (keeps.each j (less (cases_lt j accepted)))
         where
@@ -282,9 +341,9 @@ module _ {S : Type 0} (cut : Bool) (spoke : ℕ → S → List ℕ → List ℕ 
           less (inl h) = h
           less (inr h) = absurd (n (omega arith))
 
-  pub keeps_entered : (members members' : List (ℕ × MemberValue S)) (accepted : ℕ) (server : ServerValue) (stream : S)
-      → spoke accepted stream [] [] → EntersAt accepted stream members members' → GoesOnTogether cut spoke ended lost members accepted server members' (accepted + 1) server
-  keeps_entered members members' accepted server stream said enters = record { on = keeps_entered_so members members' accepted server stream said enters }
+  pub keeps_entered : (members members' : List (ℕ × MemberValue S)) (accepted : ℕ) (server : ServerValue) (stream : S) (now : ℕ)
+      → spoke accepted stream [] [] → EntersAt accepted stream now members members' → GoesOnTogether cut spoke ended lost members accepted server members' (accepted + 1) server
+  keeps_entered members members' accepted server stream now said enters = record { on = keeps_entered_so members members' accepted server stream now said enters }
 
   -- ---- the whole run
 

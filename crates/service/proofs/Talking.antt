@@ -26,6 +26,9 @@ use Rattle.service.specs.Member.{MemberValue, unsent_of, TalksOn, MayEndNow, Fai
 use Rattle.service.specs.declared.turn.Turn.{Turn}
 use Rattle.service.specs.declared.turn.Turn.TheVariants.{Again, Waits, Held, Ends}
 
+pub not_both : (b : Bool) → b ≡ false → b ≡ true → ⊥
+not_both b e f = let g : false ≡ true = sym e ∙ f in cc
+
 -- ---- entries of other connections
 
 pub apart_from_own : (k j : ℕ) (entries : List HistoryEntry) → (j ≡ k → ⊥) → AreOf k entries → AreApart j entries
@@ -301,19 +304,22 @@ module _ {S : Type 0} (spoke : ℕ → S → List ℕ → List ℕ → Type 0) (
   pub reads_none : (before after : S) (bytes : List ℕ) → bytes ≡ [] → ReadsFrom spoke before bytes after → Stays spoke before after
   reads_none before after bytes e reads k read sent h = subst (λ z. spoke k after z sent) (ap (λ z. read ++ z) e ∙ append-nil read) (reads k read sent h)
 
+  -- it stays so, and may end for this reason
+  ends_for : (prefix : List ℕ) (opening : CacheValue) (history entries : List HistoryEntry) (k : ℕ) (before after : MemberValue S) (why : Why) → Stays spoke before.stream after.stream
+      → TalksOn spoke prefix opening history entries k before → IsReason (over after.stream) (IsShut prefix k (history ++ entries)) before.left before.unsent why → MayEndNow spoke over prefix opening history entries k after.stream why
+  ends_for prefix opening history entries k before after why stays h may = record {
+    read = h.read;
+    sent = h.sent;
+    left = before.left;
+    unsent = before.unsent;
+    said = stays k h.read h.sent h.said;
+    talks = h.talks;
+    may = may;
+  }
+
   -- the peer has ended it, and nothing is left
   pub reads_end : (before after : MemberValue S) → Stays spoke before.stream after.stream → before.left ≡ [] → before.unsent ≡ [] → over after.stream Finished → Passes (Some (Ok tt)) spoke over before after
-  reads_end before after stays left unsent o = record {
-    on = λ prefix opening history entries k h. record {
-      read = h.read;
-      sent = h.sent;
-      left = before.left;
-      unsent = before.unsent;
-      said = stays k h.read h.sent h.said;
-      talks = h.talks;
-      may = inl (o, left, unsent);
-    };
-  }
+  reads_end before after stays left unsent o = record { on = λ prefix opening history entries k h. ends_for prefix opening history entries k before after (Ok tt) stays h (inl (o, left, unsent)) }
 
   -- no more can be answered
   pub lingers_moves : (e : Option Why) (k : ℕ) (server : ServerValue) (before after : MemberValue S) → EndsWell (over after.stream Shut) e → (IsOpenAt (session_at server k) → ⊥) → Stays spoke before.stream after.stream → after.left ≡ before.left → after.unsent ≡ before.unsent → before.unsent ≡ []
@@ -326,15 +332,8 @@ module _ {S : Type 0} (spoke : ℕ → S → List ℕ → List ℕ → Type 0) (
       theirs = tt;
       stands = subst (λ (z : List HistoryEntry). ServerStands opening server (history ++ z)) (sym (append-nil entries)) stands;
       same = refl;
-      holds = subst (λ (z : List HistoryEntry). MayEndNow spoke over server.prefix opening history z k after.stream (Ok done)) (sym (append-nil entries)) (record {
-        read = h.read;
-        sent = h.sent;
-        left = before.left;
-        unsent = before.unsent;
-        said = stays k h.read h.sent h.said;
-        talks = h.talks;
-        may = inr (shut_is opening server k (history ++ entries) stands shut, well, none);
-      });
+      holds = subst (λ (z : List HistoryEntry). MayEndNow spoke over server.prefix opening history z k after.stream (Ok done)) (sym (append-nil entries))
+          (ends_for server.prefix opening history entries k before after (Ok done) stays h (inr (shut_is opening server k (history ++ entries) stands shut, well, none)));
     };
   }
 

@@ -1,5 +1,5 @@
 -- A whole run over connections.
-use Rattle.std.proofs.Common.{◌≡◌, ℕ, ◌+◌, ◌<◌, ◌≤◌, ◌⊎◌, inl, inr, Bool, true, false, None, List, [], sym, ◌∙◌, subst, arith}
+use Rattle.std.proofs.Common.{◌≡◌, ℕ, ◌+◌, ◌<◌, ◌≤◌, ◌⊎◌, inl, inr, Bool, true, false, None, List, [], ◌++◌, sym, ◌∙◌, subst, arith}
 use Rattle.std.proofs.Math.Dec.{eqb}
 use Rattle.std.proofs.lemmas.Bool.{cases_lt}
 use Rattle.std.proofs.lemmas.Bool.Decides.{eqb_tells}
@@ -8,7 +8,7 @@ use Rattle.cache_server.specs.Cache.{CacheValue}
 use Rattle.cache_server.specs.History.{HistoryEntry}
 use Rattle.cache_server.specs.Server.{ServerValue, ServerStands}
 use Rattle.service.specs.Sockets.{Cause, Why}
-use Rattle.service.specs.Talks.{ServesEach}
+use Rattle.service.specs.Talks.{LedByConnections, ServesConnections, ServesEach}
 use Rattle.service.specs.Member.{MemberValue}
 use Rattle.service.specs.Together.{member_at, EndsIfAny, GoesOnTogether}
 use Rattle.service.proofs.Keeping.{keeps_nowhere, keeps_first, keeps_all, keeps_cut}
@@ -66,3 +66,31 @@ gone_more {S} spoke over ended lost number why s t old new ends gone k h = by_te
     by_test : ((eqb k number ≡ true) × (k ≡ number)) ⊎ ((eqb k number ≡ false) × (k ≡ number → ⊥)) → member_at new k ≡ None
     by_test (inl (t, e)) = subst (λ (i : ℕ). member_at new i ≡ None) (sym e) (at ends)
     by_test (inr (f, n)) = others ends n ∙ gone k (less (cases_lt k number) n)
+
+-- ---- whatever is said of the connections themselves
+
+pub led_by_served : (cut : Bool) (ended : ℕ → List ℕ → List ℕ → Why → Type 0) (lost : ℕ → Cause → Type 0) (old : ServerValue) (count : ℕ) (new : ServerValue)
+    → ServesConnections cut ended lost old count new → LedByConnections old count new
+led_by_served cut ended lost old count new serves opening history stands = let all : ServesEach cut ended lost old.prefix opening history count new = serves opening history stands in record {
+  entries = all.entries;
+  stands = all.stands;
+  theirs = all.theirs;
+  each = λ k h. let one = all.each k h in record {
+    before = one.before;
+    after = one.after;
+    whole = one.whole;
+    last = one.last;
+    came = one.talks.came;
+    earlier = one.talks.earlier;
+    answer = one.talks.part ++ one.unsent;
+    answered = one.talks.answered;
+  };
+}
+
+pub led_by_none : (server : ServerValue) → LedByConnections server 0 server
+led_by_none server opening history stands = record {
+  entries = [];
+  stands = subst (ServerStands opening server) (sym (append-nil history)) stands;
+  theirs = tt;
+  each = λ k h. absurd (omega arith);
+}

@@ -1,9 +1,13 @@
 -- An open connection, one of many.
-use Rattle.std.specs.Prelude.{◌≡◌, ◌⊎◌, ℕ, ⊤, List, [], ◌++◌, Option, Some, None, Ok, Err}
-use Rattle.std.specs.Prelude.{drop}
-use Rattle.std.specs.List.{AllByRecursion}
+use Rattle.std.specs.Prelude.{◌≡◌, ◌⊎◌, ℕ, ◌+◌, ◌-◌, ◌<◌, ◌≤◌, min, ⊤, Bool, true, false, List, []}
+use Rattle.std.specs.Prelude.{◌++◌, ◌==◌, ◌&&◌, ◌||◌, ◌/◌, length, nat_lt, if◌then◌else◌}
+use Rattle.std.specs.Prelude.{drop, Option, Some, None, option_map, Result, Ok, Err}
+use Rattle.std.specs.Option.{option_map_or, unwrap_or}
+use Rattle.std.specs.List.{AllByRecursion, list_any}
+use Rattle.std.specs.Duration.{as_nanos}
 use Rattle.std.specs.IoError.{error_kind}
 use Rattle.std.specs.declared.io.Error.{Error}
+use Rattle.std.specs.declared.time.Duration.{Duration}
 use Rattle.std.specs.declared.io.ErrorKind.TheVariants.{Interrupted, OutOfMemory, WouldBlock}
 use Rattle.cache_server.specs.Answer.{AnswerValue, text_of}
 use Rattle.cache_server.specs.Cache.{CacheValue}
@@ -13,23 +17,148 @@ use Rattle.service.specs.Sockets.{Cause, Failed, IsBroken, Stays, Why}
 use Rattle.cache_server.specs.declared.error.ConnError.{ConnError}
 use Rattle.cache_server.specs.declared.error.ConnError.TheVariants.{Memory}
 use Rattle.service.specs.Talks.{IsShut, IsReason, Talks, entry_number}
+use Rattle.service.specs.declared.lingering.Lingering.{Lingering}
+use Rattle.service.specs.declared.load.Leave.{Leave}
+use Rattle.service.specs.declared.load.Load.{Load}
+use Rattle.service.specs.declared.sockets.Ready.{Ready}
 use Rattle.service.specs.declared.turn.Turn.{Turn}
 use Rattle.service.specs.declared.turn.Turn.TheVariants.{Again, Waits, Held, Ends}
+
+-- a stream, and when a byte was moved there last, or it was held
+pub record WatchedValue (S : Type 0) : Type 0 where
+  pub stream : S
+  pub moved : ℕ
 
 -- its stream, what was read and hasn't come to the server, and what of the answers isn't sent
 pub record MemberValue (S : Type 0) : Type 0 where
   pub stream : S
   pub left : List ℕ
   pub unsent : List ℕ
+  -- how many bytes it holds, and how many of its answer nobody else can hold
+  pub load : Load
+  pub own : ℕ
+  -- when a byte was moved last, or it was held
+  pub moved : ℕ
+  -- what is left to do after its last answer
+  pub lingering : Option Lingering
+  -- there may be something to read
+  pub readable : Bool
+  -- it waits for others
+  pub held : Bool
 
 -- what isn't sent of an answer, of which so many bytes are
 abbrev pub unsent_of : Option AnswerValue → ℕ → List ℕ
 unsent_of None sent = []
 unsent_of (Some answer) sent = drop sent (text_of answer)
 
--- a new connection: nothing is left of what was read, and nothing unsent
-abbrev pub new_member : {S : Type 0} → S → MemberValue S
-new_member stream = record { stream = stream; left = []; unsent = [] }
+-- of nothing
+abbrev pub no_load : Load
+no_load = record { answers = 0; requests = 0 }
+
+-- what all hold together, once one holds so much that held so much before
+abbrev pub load_after : Load → Load → Load → Load
+load_after all before after = record {
+  answers = min (all.answers - before.answers + after.answers) 18446744073709551615;
+  requests = min (all.requests - before.requests + after.requests) 18446744073709551615;
+}
+
+-- how many bytes the body of an answer has
+abbrev pub answer_size : Option AnswerValue → ℕ
+answer_size None = 0
+answer_size (Some answer) = length answer.body
+
+-- and how many bytes of it nobody else can hold
+abbrev pub own_size : Option AnswerValue → ℕ
+own_size None = 0
+own_size (Some answer) = if answer.shared then 0 else length answer.body
+
+-- a new connection, at this time: nothing is left of what was read, and nothing unsent
+abbrev pub new_member : {S : Type 0} → S → ℕ → MemberValue S
+new_member stream now = record {
+  stream = stream;
+  left = [];
+  unsent = [];
+  load = no_load;
+  own = 0;
+  moved = now;
+  lingering = None;
+  readable = true;
+  held = false;
+}
+
+-- it may have something to read
+abbrev pub roused : {S : Type 0} → MemberValue S → MemberValue S
+roused m = record m { readable = true }
+
+-- the event is that there may be something to read of the connection with the number
+abbrev pub tells_to_read : ℕ → Ready → Bool
+tells_to_read k event = option_map_or (λ number. number == k) event.number false && event.readable
+
+-- what it is once these events are noted
+abbrev pub marked_by : {S : Type 0} → List Ready → ℕ → MemberValue S → MemberValue S
+marked_by events k m = record m { readable = m.readable || list_any (tells_to_read k) events }
+
+-- So many bytes of its answer nobody else holds: all, or none where others can hold them.
+abbrev pub HoldsAlone : {S : Type 0} → MemberValue S → ℕ → Type 0
+HoldsAlone m count = (count ≡ m.load.answers) ⊎ ((count ≡ 0) × (m.own ≡ 0))
+
+-- it waits for others no more
+abbrev pub let_go : {S : Type 0} → MemberValue S → MemberValue S
+let_go m = record m { held = false }
+
+-- When a connection will have been silent for too long that moved a byte last at this time and may
+-- be silent for so long. After the last answer that is 2 seconds, and 10 in all; and never while it
+-- waits for others.
+abbrev pub deadline_of : Option Lingering → Bool → ℕ → Option ℕ → Option ℕ
+deadline_of (Some it) held moved limit =
+    Some (min (min (moved + 2000) (it.begun + 10000)) 18446744073709551615)
+deadline_of None true moved limit = None
+deadline_of None false moved limit =
+    option_map (λ time. min (moved + time) 18446744073709551615) limit
+
+abbrev pub deadline_at : {S : Type 0} → MemberValue S → Option ℕ → Option ℕ
+deadline_at m limit = deadline_of m.lingering m.held m.moved limit
+
+-- so many milliseconds, as far as a machine word goes
+abbrev pub millis_of : Duration → ℕ
+millis_of time = min (as_nanos time / 1000000) 18446744073709551615
+
+-- for how long one may be silent that holds much, where others wait for memory: 5 seconds at most
+abbrev pub pressed_limit : Option ℕ → ℕ
+pressed_limit idle = min (unwrap_or idle 5000) 5000
+
+-- It is its deadline: where others wait for memory, a sooner one if it may hold much.
+abbrev pub IsDeadline : {S : Type 0} → MemberValue S → Option ℕ → Bool → Option ℕ → Type 0
+IsDeadline m idle pressed deadline =
+    (deadline ≡ deadline_at m idle)
+    ⊎ ((pressed ≡ true) × ((65536 < m.load.answers) ⊎ (65536 < m.load.requests))
+    × (deadline ≡ deadline_at m (Some (pressed_limit idle))))
+
+-- when a byte was moved last, after a call at this time that moved so many
+abbrev pub moved_by : Result ℕ Error → ℕ → ℕ → ℕ
+moved_by (Ok count) moved now = if nat_lt 0 count then now else moved
+moved_by (Err e) moved now = moved
+
+-- After the last answer a read that moves a byte is counted, or it was the last of 1,024.
+abbrev pub CountsRead :
+    {S : Type 0} → Option Why → ℕ → MemberValue S → MemberValue S → Lingering → Lingering → Type 0
+CountsRead end now old new before after =
+    ((after.reads ≡ before.reads) × (new.moved ≡ old.moved))
+    ⊎ (((after.reads ≡ before.reads + 1) × (new.moved ≡ now))
+    ⊎ ((1024 ≤ before.reads) × (after.reads ≡ before.reads) × (end ≡ Some (Ok tt))))
+
+-- Why it goes no further for now: some of an answer isn't sent, and its stream takes no more; or no
+-- byte is at hand there; or it is held, for this.
+abbrev pub PausesFor :
+    {S : Type 0} → (full dry : S → Type 0) → Type 0 → Turn → MemberValue S → Type 0
+PausesFor full dry held Again m = ⊤
+PausesFor full dry held Waits m = ((m.unsent ≡ [] → ⊥) × full m.stream) ⊎ dry m.stream
+PausesFor full dry held Held m = held
+PausesFor full dry held (Ends why) m = ⊤
+
+-- it has no leave to answer more, or to read more of a request of which it keeps so much
+abbrev pub HasNoLeave : Leave → Load → Type 0
+HasNoLeave leave load = (leave.answers ≡ false) ⊎ (leave.kept < load.requests)
 
 -- it goes on: what was read and what was sent is as the entries say
 pub record TalksOn

@@ -3,7 +3,7 @@ use Rattle.std.specs.Prelude.{◌≡◌, ◌⊎◌, ℕ, ◌<◌, Bool, true, fa
 use Rattle.std.specs.Prelude.{Ok, Err}
 use Rattle.std.specs.IoError.{error_kind}
 use Rattle.std.specs.declared.io.Error.{Error}
-use Rattle.std.specs.declared.io.ErrorKind.TheVariants.{OutOfMemory}
+use Rattle.std.specs.declared.io.ErrorKind.TheVariants.{OutOfMemory, WouldBlock}
 use Rattle.std.specs.List.{AllByRecursion}
 use Rattle.http_core.specs.Event.{EventValue}
 use Rattle.http_core.specs.Stream.{Cuts}
@@ -130,6 +130,36 @@ ServesConnections cut ended over old count new =
     → ServerStands opening old history
     → ServesEach cut ended over old.prefix opening history count new
 
+-- The entries have the connection's end, and none of it comes later. Before that these bytes came,
+-- one request at a time and as long as more could be answered.
+pub record ComesToEnd
+    (prefix : List ℕ) (opening : CacheValue) (history entries : List HistoryEntry) (k : ℕ)
+    : Type 0 where
+  pub before : List HistoryEntry
+  pub after : List HistoryEntry
+  pub whole : entries ≡ before ++ End k ∷ after
+  pub last : AreApart k after
+  pub came : List ℕ
+  pub earlier : List ℕ
+  pub answer : List ℕ
+  pub answered : Answered prefix opening history k before came earlier answer
+
+-- What came over some connections, of numbers below this one, and their ends alone led to the
+-- server.
+pub record ComesOfEach
+    (prefix : List ℕ) (opening : CacheValue) (history : List HistoryEntry) (count : ℕ)
+    (new : ServerValue) : Type 0 where
+  pub entries : List HistoryEntry
+  pub stands : ServerStands opening new (history ++ entries)
+  pub theirs : AreBelow count entries
+  pub each : (k : ℕ) → k < count → ComesToEnd prefix opening history entries k
+
+-- so it is, whatever history had led to the server
+abbrev pub LedByConnections : ServerValue → ℕ → ServerValue → Type 0
+LedByConnections old count new =
+    (opening : CacheValue) (history : List HistoryEntry)
+    → ServerStands opening old history → ComesOfEach old.prefix opening history count new
+
 -- A hundred accepts in a row have failed, the last so.
 pub record AcceptsNone
     {N : Type 0} (failed : N → ℕ → Type 0) (refused : N → Error → Type 0) (now : N) (e : Error)
@@ -137,6 +167,10 @@ pub record AcceptsNone
   pub before : N
   pub tried : FailsAfter failed 0 100 before now
   pub last : refused now e
+
+-- no connection waited to be accepted
+abbrev pub FindsNone : {N : Type 0} → (N → Error → Type 0) → N → Type 0
+FindsNone refused now = (e : Error) × refused now e × (error_kind e ≡ WouldBlock)
 
 -- Why no more connections are served: memory is wanting or a wait failed so; or no more can be
 -- accepted, and until then all was served.

@@ -1,6 +1,7 @@
 -- Open connections, each under its number, and a server.
-use Rattle.std.specs.Prelude.{◌≡◌, ℕ, ◌+◌, ◌<◌, ◌≤◌, ◌⊎◌, Bool, false, List, ◌++◌, length}
-use Rattle.std.specs.Prelude.{Option, Some, None}
+use Rattle.std.specs.Prelude.{◌≡◌, ℕ, ◌+◌, ◌<◌, ◌≤◌, ◌⊎◌, ◌&&◌, nat_le, min, Bool, false, List, []}
+use Rattle.std.specs.Prelude.{◌∷◌, ◌++◌, length, Option, Some, None, option_map, IfSome}
+use Rattle.std.specs.Option.{unwrap_or}
 use Rattle.std.specs.Ordering.{nat_cmp}
 use Rattle.std.specs.BTreeMap.{is_at}
 use Rattle.std.specs.Map.{lookup}
@@ -9,7 +10,10 @@ use Rattle.cache_server.specs.History.{HistoryEntry, End}
 use Rattle.cache_server.specs.Server.{ServerValue, ServerStands, LeadsTo, IsOpenAt, session_at}
 use Rattle.service.specs.Talks.{HasEnded, IsReason, AreBelow}
 use Rattle.service.specs.Sockets.{Cause, EndsAs, Why}
-use Rattle.service.specs.Member.{MemberValue, TalksOn, MovesOn, new_member}
+use Rattle.service.specs.Member.{MemberValue, TalksOn, MovesOn, deadline_at, let_go, new_member}
+use Rattle.service.specs.Member.{HoldsAlone, marked_by}
+use Rattle.service.specs.declared.load.Load.{Load}
+use Rattle.service.specs.declared.sockets.Ready.{Ready}
 
 -- the open connection with the number, if there is one
 abbrev pub member_at : {S : Type 0} → List (ℕ × MemberValue S) → ℕ → Option (MemberValue S)
@@ -83,6 +87,24 @@ LeavesPlaced places old new =
 abbrev pub AreSame : {S : Type 0} → List (ℕ × MemberValue S) → List (ℕ × MemberValue S) → Type 0
 AreSame old new = ((j : ℕ) → member_at new j ≡ member_at old j) × (length new ≡ length old)
 
+-- so they are, but for which of them wait for others
+abbrev pub AreSameButHeld :
+    {S : Type 0} → List (ℕ × MemberValue S) → List (ℕ × MemberValue S) → Type 0
+AreSameButHeld old new =
+    ((j : ℕ) → option_map let_go (member_at new j) ≡ option_map let_go (member_at old j))
+    × (length new ≡ length old)
+
+-- it waits for no others
+abbrev pub IsFree : {S : Type 0} → Option (MemberValue S) → Type 0
+IsFree member = IfSome member (λ m. m.held ≡ false)
+
+-- the same connections, for which these events are noted
+abbrev pub AreMarkedBy :
+    {S : Type 0} → List Ready → List (ℕ × MemberValue S) → List (ℕ × MemberValue S) → Type 0
+AreMarkedBy events old new =
+    ((j : ℕ) → member_at new j ≡ option_map (marked_by events j) (member_at old j))
+    × (length new ≡ length old)
+
 -- all but one connection are the same
 abbrev pub OthersAreSame :
     {S : Type 0} → ℕ → List (ℕ × MemberValue S) → List (ℕ × MemberValue S) → Type 0
@@ -102,11 +124,11 @@ pub record MovesOnAt
   pub many : length members' ≡ length members
   pub moves : MovesOn end spoke over k old before new after
 
--- a new connection
+-- a new connection, at this time
 pub record EntersAt
-    {S : Type 0} (k : ℕ) (stream : S)
+    {S : Type 0} (k : ℕ) (stream : S) (now : ℕ)
     (old new : List (ℕ × MemberValue S)) : Type 0 where
-  pub at : member_at new k ≡ Some (new_member stream)
+  pub at : member_at new k ≡ Some (new_member stream now)
   pub others : OthersAreSame k old new
   pub more : member_at old k ≡ None → length new ≡ length old + 1
 
@@ -142,3 +164,29 @@ abbrev pub EndsIfAny :
 EndsIfAny spoke over ended lost k why old members new members' =
     EndsAt spoke over ended lost k why old members new members'
     ⊎ ((member_at members k ≡ None) × (new ≡ old) × AreSame members members')
+
+-- ---- what they hold, and how long they are silent
+
+-- so many bytes of answers nobody else holds
+abbrev pub HoldAlone : {S : Type 0} → List (ℕ × MemberValue S) → ℕ → Type 0
+HoldAlone [] count = count ≡ 0
+HoldAlone (member ∷ members) count =
+    (own : ℕ) × (others : ℕ) × HoldsAlone member.1 own × HoldAlone members others
+    × (count ≡ own + others)
+
+-- whether answers hold too much: 256 MiB together, of which nobody else holds as much
+abbrev pub AreFull : {S : Type 0} → List (ℕ × MemberValue S) → Load → Bool → Type 0
+AreFull members load full =
+    (alone : ℕ) × HoldAlone members alone
+    × (full ≡ (nat_le 268435456 load.answers && nat_le 268435456 alone))
+
+-- when the first of them will have been silent for too long
+abbrev pub first_deadline : {S : Type 0} → Option ℕ → List (ℕ × MemberValue S) → ℕ
+first_deadline idle [] = 18446744073709551615
+first_deadline idle (member ∷ members) =
+    min (unwrap_or (deadline_at member.1 idle) 18446744073709551615) (first_deadline idle members)
+
+-- The next wake comes after this time, if ever, and no later than the first of their deadlines.
+abbrev pub WakesInTime : {S : Type 0} → Option ℕ → List (ℕ × MemberValue S) → ℕ → ℕ → Type 0
+WakesInTime idle members now wake =
+    ((now < wake) ⊎ (wake ≡ 18446744073709551615)) × (wake ≤ first_deadline idle members)

@@ -1,7 +1,7 @@
 -- What connections do to a cache that are served one after another.
 use Rattle.std.specs.Prelude.{ℕ, zero, suc, ◌+◌, List, Option, IfErr, MatchResult}
 use Rattle.cache_server.specs.Cache.{CacheValue}
-use Rattle.cache_server.specs.Connection.{Runs, BreaksOff, IsFoundBy}
+use Rattle.cache_server.specs.Connection.{Runs, BreaksOff, IsAnswered, IsFoundBy}
 use Rattle.cache_server.specs.declared.error.ConnError.{ConnError}
 use Rattle.cache_server.specs.declared.error.ConnError.TheVariants.{ReadFault, WriteFault}
 use Rattle.service.specs.Sockets.{Why}
@@ -44,3 +44,16 @@ pub data ServesInTurn
       → ServesInTurn opened ended lost prefix opening count old
       → ServesNext opened ended lost prefix count old new
       → ServesInTurn opened ended lost prefix opening (count + 1) new
+
+-- the requests in some stream, answered under the prefix, led from the one cache to the other
+abbrev pub LedByStream : List ℕ → CacheValue → CacheValue → Type 0
+LedByStream prefix old new =
+    (stream : List ℕ) × (text : List ℕ) × (left : Option (List ℕ))
+    × IsAnswered prefix old stream text left new
+
+-- so did those in so many streams, one after another
+pub data LedByStreams (prefix : List ℕ) (opening : CacheValue) : ℕ → CacheValue → Type 0 where
+  no_stream : LedByStreams prefix opening 0 opening
+  next_stream : (count : ℕ) (old new : CacheValue)
+      → LedByStreams prefix opening count old → LedByStream prefix old new
+      → LedByStreams prefix opening (count + 1) new

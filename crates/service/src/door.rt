@@ -1,9 +1,9 @@
 //! How connections come in.
-ghost use Rattle.std.specs.Prelude.{◌≡◌, ◌+◌, ◌<◌, ◌≤◌, [], IfErr, IfNone, IfOk, IfSome};
-ghost use Rattle.std.specs.Prelude.{OnErr, OnOk, false, length};
+ghost use Rattle.std.specs.Prelude.{◌≡◌, ◌+◌, ◌<◌, ◌≤◌, ◌⊎◌, [], IfErr, IfNone, IfOk, IfSome};
+ghost use Rattle.std.specs.Prelude.{IsTrue, OnErr, OnOk, false, length};
 ghost use Rattle.cache_server.specs.Server.{ServerValue};
 ghost use Rattle.service.specs.Sockets.{KeepsPlaces, TakesPlace};
-ghost use Rattle.service.specs.Talks.{AcceptsNone};
+ghost use Rattle.service.specs.Talks.{AcceptsNone, FindsNone};
 ghost use Rattle.service.specs.Together.{AreSame, EntersAt, GoesOnTogether, StaysPlaced};
 
 use crate::error::finds_none;
@@ -41,6 +41,8 @@ impl<S: Peer + Drop> Together<S> {
         ensures within { accepted.new ≤ connections }
         ensures fails { IfErr result (AcceptsNone N.failed N.refused sockets.new) }
         ensures none { OnErr result (self.new.members.entries ≡ []) }
+        ensures again { IsTrue self.old.waits → self.new.waits ≡ false
+            → (self.new.members.entries ≡ [] → ⊥) ⊎ FindsNone N.refused sockets.new }
     {
         for _ in 0..u64::MAX {
             if !self.waits || *accepted >= connections || self.members.len() >= at_once {
@@ -71,6 +73,8 @@ impl<S: Peer + Drop> Together<S> {
         ensures within { accepted.new ≤ connections }
         ensures fails { IfErr result (AcceptsNone N.failed N.refused sockets.new) }
         ensures none { OnErr result (self.new.members.entries ≡ []) }
+        ensures again { IsTrue self.old.waits → self.new.waits ≡ false
+            → (self.new.members.entries ≡ [] → ⊥) ⊎ FindsNone N.refused sockets.new }
     {
         let number = *accepted;
         let now = self.timer.now(rt);
@@ -109,6 +113,8 @@ impl<S: Peer + Drop> Together<S> {
         ensures fails { IfErr result (AcceptsNone N.failed N.refused sockets.new) }
         ensures none { OnErr result (self.new.members.entries ≡ []) }
         ensures stays { OnErr result (KeepsPlaces N.places sockets.old sockets.new) }
+        ensures again { IsTrue self.old.waits → self.new.waits ≡ false
+            → (self.new.members.entries ≡ [] → ⊥) ⊎ FindsNone N.refused sockets.new }
     {
         for failed in 0..TRIES {
             let fault = match sockets.accept(number, now) {
@@ -143,11 +149,12 @@ impl<S: Peer + Drop> Together<S> {
         now: u64,
     ) -> Result<(), S>
         requires { S.quiet stream now }
-        ensures ok { OnOk result (EntersAt number stream
+        ensures ok { OnOk result (EntersAt number stream now
             self.old.members.entries self.new.members.entries) }
         ensures err { OnErr result (AreSame self.old.members.entries self.new.members.entries) }
         ensures back { IfErr result (λ it. it ≡ stream) }
         ensures wake { OnOk result (IfSome self.old.idle (λ idle. self.new.wake ≤ now + idle)) }
+        ensures waits { self.new.waits ≡ self.old.waits }
     {
         let idle = self.idle;
         let member = Member::new(alloc, stream, peer, now);

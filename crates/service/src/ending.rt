@@ -1,5 +1,6 @@
 //! How connections end.
-ghost use Rattle.std.specs.Prelude.{◌≡◌, ◌+◌, ◌<◌, ℕ, IsSome, IsTrue, None, length, true};
+ghost use Rattle.std.specs.Prelude.{◌≡◌, ◌+◌, ◌<◌, ℕ, IfSome, IsSome, IsTrue, None, length, true};
+ghost use Rattle.service.specs.Member.{load_after, no_load};
 ghost use Rattle.service.specs.Together.{AreSame, EndsIfAny, GoesOnTogether, LeavesPlaced};
 ghost use Rattle.service.specs.Together.{OthersAreSame, member_at};
 
@@ -29,6 +30,11 @@ impl<S: Peer + Drop> Together<S> {
             (sockets.new, self.new.members.entries) }
         ensures again { IsSome (member_at self.old.members.entries number)
             → IsTrue self.new.waits }
+        ensures load { IfSome (member_at self.old.members.entries number) (λ m.
+            self.new.scales.load ≡ load_after self.old.scales.load m.load no_load) }
+        ensures fewer { IsSome (member_at self.old.members.entries number)
+            → length self.new.members.entries + 1 ≡ length self.old.members.entries }
+        ensures idle { self.new.idle ≡ self.old.idle }
     {
         let Some(member) = self.take(number) else {
             return;
@@ -52,6 +58,7 @@ impl<S: Peer + Drop> Together<S> {
             → AreSame self.old.members.entries self.new.members.entries }
         ensures fewer { IsSome result
             → length self.new.members.entries + 1 ≡ length self.old.members.entries }
+        ensures rest { self.new ≡ record self.old { members = self.new.members } }
     {
         self.members.remove(&number)
     }

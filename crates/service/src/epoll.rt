@@ -49,23 +49,21 @@ impl Peer for TcpStream {
 
     ghost dry = { λ _. Unit {0} };
 
+    ghost full = { λ _. Unit {0} };
+
     ghost quiet = { λ _ _. Unit {0} };
 
-    fn read(&mut self, buffer: &mut [u8], now: u64) -> io::Result<usize> {
-        let _now = now;
+    fn read(&mut self, buffer: &mut [u8], _now: u64) -> io::Result<usize> {
         let mut stream = &*self;
         Read::read(&mut stream, buffer)
     }
 
-    fn write(&mut self, bytes: &[u8], now: u64) -> io::Result<usize> {
-        let _now = now;
+    fn write(&mut self, bytes: &[u8], _now: u64) -> io::Result<usize> {
         let mut stream = &*self;
         Write::write(&mut stream, bytes)
     }
 
-    fn hold(&mut self, now: u64) {
-        let _now = now;
-    }
+    fn hold(&mut self, _now: u64) {}
 
     fn is_silent(&self, moved: u64, now: u64, allowed: u64) -> bool {
         now.saturating_sub(moved) >= allowed
@@ -75,8 +73,7 @@ impl Peer for TcpStream {
         let _ended = self.shutdown(Shutdown::Write);
     }
 
-    fn discard(&mut self, buffer: &mut [u8], now: u64) -> io::Result<usize> {
-        let _now = now;
+    fn discard(&mut self, buffer: &mut [u8], _now: u64) -> io::Result<usize> {
         let mut stream = &*self;
         Read::read(&mut stream, buffer)
     }
@@ -97,8 +94,7 @@ impl Sockets for Epoll {
 
     ghost broken = { λ _. Unit {0} };
 
-    fn accept(&mut self, number: u64, now: u64) -> io::Result<(TcpStream, SocketAddr)> {
-        let _now = now;
+    fn accept(&mut self, number: u64, _now: u64) -> io::Result<(TcpStream, SocketAddr)> {
         let (stream, peer) = self.listener.accept()?;
         let mut stream = stream;
         let _set = stream.set_nodelay(true);
@@ -109,10 +105,7 @@ impl Sockets for Epoll {
         Ok((stream, peer))
     }
 
-    fn end(&mut self, stream: TcpStream, why: Result<(), ConnError>) {
-        let _why = why;
-        let _closed = stream;
-    }
+    fn end(&mut self, _stream: TcpStream, _why: Result<(), ConnError>) {}
 
     fn wait(
         &mut self,

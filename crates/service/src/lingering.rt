@@ -1,6 +1,6 @@
 //! What is left to do after the last answer.
-ghost use Rattle.std.specs.Prelude.{◌≡◌, ◌+◌, ◌<◌, ◌≤◌, min, IfSome, IfNone, None, Some, false, true};
-ghost use Rattle.std.specs.Prelude.{if◌then◌else◌, option_map, unwrap_or};
+ghost use Rattle.std.specs.Prelude.{◌≡◌, ◌+◌, ◌≤◌, min, IfSome, IfNone, Some, if◌then◌else◌};
+ghost use Rattle.service.specs.Member.{deadline_of, pressed_limit};
 
 /// The most reads of what still comes.
 const LAST_READS: u32 = 1024;
@@ -59,7 +59,7 @@ impl Lingering {
 /// How many milliseconds a connection may be silent that has so many else, where it holds much and
 /// others wait for memory.
 pub(crate) fn limit_of(idle: Option<u64>, is_pressed: bool) -> Option<u64>
-    ensures { result ≡ (if is_pressed then Some (min (unwrap_or idle 5000) 5000) else idle) }
+    ensures { result ≡ (if is_pressed then Some (pressed_limit idle) else idle) }
 {
     if is_pressed {
         return Some(idle.unwrap_or(PRESSED_TIME).min(PRESSED_TIME));
@@ -75,11 +75,7 @@ pub(crate) fn deadline_of(
     moved: u64,
     limit: Option<u64>,
 ) -> Option<u64>
-    ensures lingers { IfSome lingering (λ it.
-        result ≡ Some (min (min (moved + 2000) (it.begun + 10000)) u64.MAX)) }
-    ensures waits { lingering ≡ None → is_held ≡ true → result ≡ None }
-    ensures limit { lingering ≡ None → is_held ≡ false
-        → result ≡ option_map (λ time. min (moved + time) u64.MAX) limit }
+    ensures { result ≡ deadline_of lingering is_held moved limit }
 {
     if let Some(lingering) = lingering {
         return Some(lingering.deadline(moved));

@@ -93,8 +93,10 @@ impl<'r, R: AllocGlobal + Clock> Listener for System<'r, R> {
 
     ghost refused = { λ _ _. Unit {0} };
 
-    fn accept(&mut self, number: u64) -> io::Result<Accepted<Metered, BufWriter<Metered, Global>>> {
-        let _number = number;
+    fn accept(
+        &mut self,
+        _number: u64,
+    ) -> io::Result<Accepted<Metered, BufWriter<Metered, Global>>> {
         let (stream, peer) = self.listener.accept()?;
         let _set = stream.set_nodelay(true);
         let _set = stream.set_read_timeout(self.idle);
@@ -109,12 +111,11 @@ impl<'r, R: AllocGlobal + Clock> Listener for System<'r, R> {
 
     fn end(
         &mut self,
-        number: u64,
+        _number: u64,
         reader: Metered,
         writer: BufWriter<Metered, Global>,
         why: Result<(), ConnError>,
     ) -> (u64, u64) {
-        let _number = number;
         let (sender, _unsent) = writer.into_parts();
         // Without a fault the peer may still be sending.
         if why.is_ok() {

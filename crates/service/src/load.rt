@@ -1,9 +1,17 @@
 ghost use Rattle.std.specs.Prelude.{◌≡◌, ◌+◌, ◌-◌, ◌<◌, ◌⊎◌, ◌↔◌, ◌==◌, ◌&&◌, ℕ, min, false};
 ghost use Rattle.std.specs.Prelude.{IsTrue, None, Some, nat_le, nat_lt, if◌then◌else◌};
+ghost use Rattle.service.specs.Member.{load_after, no_load};
 
 /// The most bytes that may be held of answers that nothing else holds, and of requests that aren't
 /// whole: over all connections, and of each kind.
 pub(crate) const GREATEST: u64 = 268_435_456;
+
+/// Whether so many bytes of one kind are too much for all connections.
+pub(crate) fn is_too_much(bytes: u64) -> bool
+    ensures { result ≡ nat_le 268435456 bytes }
+{
+    bytes >= GREATEST
+}
 
 /// How many bytes of answers aren't sent, and how many of requests are kept that aren't whole.
 #[derive(Clone, Copy, Debug, PartialEq, Eq)]
@@ -14,7 +22,7 @@ pub(crate) struct Load {
 
 impl Load {
     pub(crate) fn none() -> Load
-        ensures { result ≡ record { answers = 0; requests = 0 } }
+        ensures { result ≡ no_load }
     {
         Load {
             answers: 0,
@@ -73,7 +81,7 @@ pub(crate) struct Scales {
 impl Scales {
     pub(crate) fn new() -> Scales
         ensures { result ≡ record {
-          load = record { answers = 0; requests = 0 };
+          load = no_load;
           senior = None;
           eased = false;
         } }
@@ -87,10 +95,7 @@ impl Scales {
 
     /// Notes what the connection with the number holds now, and held before.
     pub(crate) fn weigh(&mut self, number: u64, before: &Load, after: &Load)
-        ensures answers { self.new.load.answers
-            ≡ min ((self.old.load.answers - before.now.answers) + after.now.answers) u64.MAX }
-        ensures requests { self.new.load.requests
-            ≡ min ((self.old.load.requests - before.now.requests) + after.now.requests) u64.MAX }
+        ensures load { self.new.load ≡ load_after self.old.load before.now after.now }
         ensures eased { IsTrue self.new.eased ↔ (IsTrue self.old.eased
             ⊎ ((after.now.answers < before.now.answers)
             ⊎ (after.now.requests < before.now.requests))) }
@@ -111,7 +116,7 @@ impl Scales {
             Some(senior) => if senior == number && after.requests == 0 {
                 self.senior = None;
             },
-            None => if self.load.requests >= GREATEST && after.requests > 0 {
+            None => if is_too_much(self.load.requests) && after.requests > 0 {
                 self.senior = Some(number);
             },
         }

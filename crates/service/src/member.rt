@@ -1,8 +1,12 @@
-ghost use Rattle.std.specs.Prelude.{◌≡◌, ◌↔◌, ◌<◌, ◌≤◌, [], length, take, drop, IfErr, IfOk, IfSome};
-ghost use Rattle.std.specs.Prelude.{IsTrue, None, OnErr, false};
+ghost use Rattle.std.specs.Prelude.{◌≡◌, ◌↔◌, ◌+◌, ◌-◌, ◌<◌, ◌≤◌, ◌⊎◌, [], length, take, drop};
+ghost use Rattle.std.specs.Prelude.{IfErr, IfOk, IfSome, IsSome, IsTrue, None, OnErr, Some, false};
 ghost use Rattle.cache_server.specs.Server.{IsOpenAt, session_at};
-ghost use Rattle.service.specs.Member.{EndsWell, MovesOn, Passes, PassesSent};
-ghost use Rattle.service.specs.Member.{end_of, new_member, unsent_of};
+ghost use Rattle.std.specs.IoError.{error_kind};
+ghost use Rattle.std.specs.declared.io.ErrorKind.TheVariants.{WouldBlock};
+ghost use Rattle.service.specs.Member.{CountsRead, EndsWell, HasNoLeave, HoldsAlone, IsDeadline};
+ghost use Rattle.service.specs.Member.{MovesOn, Passes, PassesSent, PausesFor};
+ghost use Rattle.service.specs.Member.{answer_size, deadline_at, end_of, let_go, new_member};
+ghost use Rattle.service.specs.Member.{pressed_limit, roused, unsent_of};
 ghost use Rattle.service.specs.Sockets.{Failed, IsBroken, SendsTo, Shut, Stays};
 ghost use Rattle.service.specs.Talks.{IsReason};
 
@@ -29,7 +33,7 @@ const STEPS: u32 = 16;
 const HEAVY: u64 = 65_536;
 
 /// An open connection, one of many. Clauses see its stream, what was read and hasn't come to the
-/// server, and what of the answers isn't sent.
+/// server, what of the answers isn't sent, what it holds, and what its deadline comes of.
 #[derive(Drop)]
 pub(crate) struct Member<S: Peer> {
     stream: Watched<S>,
@@ -53,26 +57,32 @@ pub(crate) struct Member<S: Peer> {
 }
 
 impl<S: Peer> Model for Member<S> {
-    ghost use Rattle.service.specs.Member.{MemberValue, unsent_of};
+    ghost use Rattle.service.specs.Member.{MemberValue, answer_size, own_size, unsent_of};
     ghost use Rattle.service.specs.Sockets.{Shut};
     ghost use Rattle.std.specs.Prelude.{◌≡◌, IsSome, drop, false};
 
     ghost Value = { MemberValue S };
 
     ghost view = { λ m. record {
-      stream = m.stream;
+      stream = m.stream.stream;
       left = drop m.at m.input.items;
       unsent = unsent_of m.answer m.sent;
+      load = record { answers = answer_size m.answer; requests = m.kept };
+      own = own_size m.answer;
+      moved = m.stream.moved;
+      lingering = m.lingering;
+      readable = m.readable;
+      held = m.is_held;
     } };
 
-    ghost invariant = { λ m. (IsSome m.lingering → S.over m.stream Shut)
-        × (m.readable ≡ false → S.dry m.stream) };
+    ghost invariant = { λ m. (IsSome m.lingering → S.over m.stream.stream Shut)
+        × (m.readable ≡ false → S.dry m.stream.stream) };
 }
 
 impl<S: Peer + Drop> Member<S> {
     pub(crate) fn new(alloc: Global, stream: S, peer: SocketAddr, now: u64) -> Member<S>
         requires { S.quiet stream now }
-        ensures { result ≡ new_member stream }
+        ensures { result ≡ new_member stream now }
     {
         Member {
             stream: Watched::new(stream, now),
@@ -99,7 +109,9 @@ impl<S: Peer + Drop> Member<S> {
     }
 
     /// What it holds.
-    pub(crate) fn load(&self) -> Load {
+    pub(crate) fn load(&self) -> Load
+        ensures { result ≡ self.now.load }
+    {
         let answers = match &self.answer {
             Some(answer) => answer.body().len() as u64,
             None => 0,
@@ -110,15 +122,23 @@ impl<S: Peer + Drop> Member<S> {
         }
     }
 
-    /// How many bytes of its answer nobody else holds.
-    pub(crate) fn held_alone(&self) -> u64 {
-        match &self.answer {
-            Some(answer) if answer.is_alone() => answer.body().len() as u64,
-            _ => 0,
+    /// How many bytes of its answer nobody else holds: all or none, and all that nobody else can.
+    #[tactic(auto, using(crate::proofs::Waking::shared_owns_none))]
+    pub(crate) fn held_alone(&self) -> u64
+        ensures { HoldsAlone self.now result }
+    {
+        let Some(answer) = &self.answer else {
+            return 0;
+        };
+        if !answer.is_alone() {
+            return 0;
         }
+        answer.body().len() as u64
     }
 
-    pub(crate) fn is_held(&self) -> bool {
+    pub(crate) fn is_held(&self) -> bool
+        ensures { result ≡ self.now.held }
+    {
         self.is_held
     }
 
@@ -133,14 +153,14 @@ impl<S: Peer + Drop> Member<S> {
 
     /// It needn't wait for others any more.
     pub(crate) fn release(&mut self)
-        ensures { self.new ≡ self.old }
+        ensures { self.new ≡ let_go self.old }
     {
         self.is_held = false;
     }
 
     /// The system has something to read, or nothing more.
     pub(crate) fn wake(&mut self, read_closed: bool)
-        ensures { self.new ≡ self.old }
+        ensures { self.new ≡ roused self.old }
     {
         self.readable = true;
         if read_closed {
@@ -150,7 +170,11 @@ impl<S: Peer + Drop> Member<S> {
 
     /// When it will have been silent for too long. Where others wait for memory, that is sooner for
     /// one that holds much.
-    pub(crate) fn deadline(&self, idle: Option<u64>, pressed: bool) -> Option<u64> {
+    pub(crate) fn deadline(&self, idle: Option<u64>, pressed: bool) -> Option<u64>
+        ensures is { IsDeadline self.now idle pressed result }
+        ensures heavy { IsTrue pressed → (65536 < self.now.own) ⊎ (65536 < self.now.load.requests)
+            → result ≡ deadline_at self.now (Some (pressed_limit idle)) }
+    {
         let is_pressed = pressed && self.held_alone().max(self.kept) > HEAVY;
         deadline_of(
             self.lingering,
@@ -160,21 +184,20 @@ impl<S: Peer + Drop> Member<S> {
         )
     }
 
-    /// Why it ends, where it was silent for too long: its deadline is over, and so says its stream.
-    /// After the last answer that is no fault.
+    /// Why it ends, where it was silent for too long: this deadline is over, and so its stream
+    /// says. After the last answer that is no fault.
     #[tactic(auto, using(crate::proofs::Talking::sender_silent, crate::proofs::Talking::reader_silent))]
     pub(crate) fn silence(
         &self,
         is_open: bool,
-        idle: Option<u64>,
-        pressed: bool,
+        deadline: u64,
         now: u64,
     ) -> Option<Result<(), ConnError>>
         ensures reason { IfSome result (λ why. IsReason (S.over self.now.stream)
             (IsTrue is_open → ⊥) self.now.left self.now.unsent why) }
         ensures known { IfSome result (λ why. why ≡ Err ConnError.Memory → ⊥) }
+        ensures silent { IsSome result ↔ (deadline - self.now.moved ≤ now - self.now.moved) }
     {
-        let deadline = self.deadline(idle, pressed)?;
         if !self.stream.was_silent(deadline, now) {
             return None;
         }
@@ -197,8 +220,10 @@ impl<S: Peer + Drop> Member<S> {
         leave: Leave,
         now: u64,
     ) -> Turn
-        ensures { MovesOn (end_of result) S.spoke S.over number
+        ensures moves { MovesOn (end_of result) S.spoke S.over number
             server.old self.old server.new self.new }
+        ensures pauses { PausesFor S.full S.dry (HasNoLeave leave self.new.load) result self.new }
+        ensures held { IsTrue self.new.held ↔ (result ≡ Turn.Held) }
     {
         for _ in 0..STEPS {
             match self.step(number, server, desk, leave, now) {
@@ -231,9 +256,12 @@ impl<S: Peer + Drop> Member<S> {
     ) -> Turn
         ensures moves { MovesOn (end_of result) S.spoke S.over number
             server.old self.old server.new self.new }
+        ensures pauses { PausesFor S.full S.dry (HasNoLeave leave self.new.load) result self.new }
         ensures bound { leave.answers ≡ false → server.new ≡ server.old }
+        ensures share { self.old.left ≡ [] → leave.kept < self.old.load.requests
+            → server.new ≡ server.old }
     {
-        if self.answer.is_some() {
+        if !self.is_sent() {
             return self.send(desk, now);
         }
         if !server.is_open(number) {
@@ -259,6 +287,9 @@ impl<S: Peer + Drop> Member<S> {
         ensures left { self.new.left ≡ self.old.left }
         ensures unsent { self.new.unsent ≡ self.old.unsent }
         ensures stays { Stays S.spoke self.old.stream self.new.stream }
+        ensures load { self.new.load ≡ self.old.load }
+        ensures held { IsTrue self.new.held }
+        ensures moved { self.new.moved ≡ now }
     {
         self.stream.hold(now);
         self.is_held = true;
@@ -266,7 +297,9 @@ impl<S: Peer + Drop> Member<S> {
 
     /// Sends some of the answer.
     fn send(&mut self, desk: &mut Desk, now: u64) -> Turn
-        ensures { Passes (end_of result) S.spoke S.over self.old self.new }
+        requires { self.old.unsent ≡ [] → ⊥ }
+        ensures passes { Passes (end_of result) S.spoke S.over self.old self.new }
+        ensures pauses { PausesFor S.full S.dry ⊥ result self.new }
     {
         match self.write_some(desk, now) {
             Ok(count) => self.pass(count),
@@ -282,6 +315,7 @@ impl<S: Peer + Drop> Member<S> {
             SendsTo S.spoke self.old.stream (take count self.old.unsent) self.new.stream) }
         ensures within { IfOk result (λ count. count ≤ length self.old.unsent) }
         ensures fault { OnErr result (Stays S.spoke self.old.stream self.new.stream) }
+        ensures full { IfErr result (λ e. error_kind e ≡ WouldBlock → S.full self.new.stream) }
         ensures end { IfOk result (λ count. count ≡ 0
             → S.over self.new.stream (Failed ConnError.WriteFault)) }
         ensures broken { IfErr result (λ e. IsBroken e
@@ -306,8 +340,8 @@ impl<S: Peer + Drop> Member<S> {
         requires within { count ≤ length self.old.unsent }
         requires over { count ≡ 0 → S.over self.old.stream (Failed ConnError.WriteFault) }
         ensures passes { PassesSent (end_of result) S.spoke S.over count self.old self.new }
-        ensures none { count ≡ 0 → end_of result ≡ Some (Err ConnError.WriteFault) }
-        ensures some { 0 < count → end_of result ≡ None }
+        ensures none { count ≡ 0 → result ≡ Turn.Ends (Err ConnError.WriteFault) }
+        ensures some { 0 < count → result ≡ Turn.Again }
     {
         if count == 0 {
             return Turn::Ends(Err(ConnError::WriteFault));
@@ -336,8 +370,10 @@ impl<S: Peer + Drop> Member<S> {
 
     /// The answer is sent.
     fn finish(&mut self)
-        requires { self.old.unsent ≡ [] }
-        ensures { self.new ≡ self.old }
+        ensures stream { self.new.stream ≡ self.old.stream }
+        ensures left { self.new.left ≡ self.old.left }
+        ensures unsent { self.new.unsent ≡ [] }
+        ensures load { self.new.load.answers ≡ 0 }
     {
         self.answer = None;
         self.sent = 0;
@@ -348,6 +384,7 @@ impl<S: Peer + Drop> Member<S> {
         ensures left { self.new.left ≡ self.old.left }
         ensures unsent { self.new.unsent ≡ self.old.unsent }
         ensures stays { Stays S.spoke self.old.stream self.new.stream }
+        ensures since { self.new.lingering ≡ Some (record { begun = now; reads = 0 }) }
     {
         self.stream.shut();
         self.lingering = Some(Lingering::begin(now));
@@ -362,6 +399,12 @@ impl<S: Peer + Drop> Member<S> {
         ensures left { self.new.left ≡ self.old.left }
         ensures unsent { self.new.unsent ≡ self.old.unsent }
         ensures stays { Stays S.spoke self.old.stream self.new.stream }
+        ensures begun { IfSome self.old.lingering (λ it.
+            IfSome self.new.lingering (λ next. next.begun ≡ it.begun)) }
+        ensures lingers { IsSome self.old.lingering → IsSome self.new.lingering }
+        ensures reads { IfSome self.old.lingering (λ it. IfSome self.new.lingering (λ next.
+            CountsRead (end_of result) now self.old self.new it next)) }
+        ensures pauses { PausesFor S.full S.dry ⊥ result self.new }
     {
         let Some(lingering) = self.lingering else {
             self.shut(now);
@@ -394,8 +437,9 @@ impl<S: Peer + Drop> Member<S> {
     fn go_on(&mut self, number: u64, server: &mut Server<Global>, desk: &Desk) -> Turn
         requires unsent { self.old.unsent ≡ [] }
         requires more { IsOpenAt (session_at server.old number) }
-        ensures { MovesOn (end_of result) S.spoke S.over number
+        ensures moves { MovesOn (end_of result) S.spoke S.over number
             server.old self.old server.new self.new }
+        ensures pauses { PausesFor S.full S.dry ⊥ result self.new }
     {
         let input = mem::replace(&mut self.input, Vec::new(desk.alloc));
         let at = self.at.min(input.len());
@@ -423,8 +467,9 @@ impl<S: Peer + Drop> Member<S> {
         requires left { self.old.left ≡ [] }
         requires unsent { self.old.unsent ≡ [] }
         requires more { IsOpenAt (session_at server.old number) }
-        ensures { MovesOn (end_of result) S.spoke S.over number
+        ensures moves { MovesOn (end_of result) S.spoke S.over number
             server.old self.old server.new self.new }
+        ensures pauses { PausesFor S.full S.dry ⊥ result self.new }
     {
         let buffer = desk.buffer.as_mut_slice();
         let count = match self.stream.read(buffer, now) {
@@ -469,6 +514,7 @@ impl<S: Peer + Drop> Member<S> {
         ensures stream { self.new.stream ≡ self.old.stream }
         ensures left { self.new.left ≡ drop at input.items }
         ensures unsent { self.new.unsent ≡ unsent_of answer 0 }
+        ensures load { self.new.load ≡ record { answers = answer_size answer; requests = kept } }
     {
         self.answer = answer;
         self.sent = 0;

@@ -1,5 +1,10 @@
 //! Who has something to do, and who waits for others.
-ghost use Rattle.service.specs.Together.{AreSame};
+ghost use Rattle.std.specs.Prelude.{◌≡◌, ◌||◌, [], ◌∷◌, IfSome, length, min, option_map};
+ghost use Rattle.std.specs.List.{AllByRecursion, list_any};
+ghost use Rattle.std.specs.Option.{is_none, unwrap_or};
+ghost use Rattle.service.specs.Member.{deadline_at, let_go, roused};
+ghost use Rattle.service.specs.Together.{AreSame, AreSameButHeld, AreMarkedBy, IsFree};
+ghost use Rattle.service.specs.Together.{OthersAreSame, member_at};
 
 use crate::sockets::{Peer, Ready};
 use crate::together::Together;
@@ -9,7 +14,9 @@ use std::mem;
 impl<S: Peer + Drop> Together<S> {
     /// The member with the number has something to do.
     pub(crate) fn queue(&mut self, number: u64)
-        ensures { AreSame self.old.members.entries self.new.members.entries }
+        ensures same { AreSame self.old.members.entries self.new.members.entries }
+        ensures waits { self.new.waits ≡ self.old.waits }
+        ensures held { self.new.held ≡ self.old.held }
     {
         if let Some(member) = self.members.get_mut(&number) {
             if !member.queue(true) && self.ready.push(number).is_err() {
@@ -20,7 +27,11 @@ impl<S: Peer + Drop> Together<S> {
 
     /// The system has something for the member with the number.
     fn rouse(&mut self, number: u64, read_closed: bool)
-        ensures { AreSame self.old.members.entries self.new.members.entries }
+        ensures at { member_at self.new.members.entries number
+            ≡ option_map roused (member_at self.old.members.entries number) }
+        ensures others { OthersAreSame number self.old.members.entries self.new.members.entries }
+        ensures many { length self.new.members.entries ≡ length self.old.members.entries }
+        ensures waits { self.new.waits ≡ self.old.waits }
     {
         if let Some(member) = self.members.get_mut(&number) {
             member.wake(read_closed);
@@ -29,23 +40,39 @@ impl<S: Peer + Drop> Together<S> {
 
     /// Notes what the system tells.
     pub(crate) fn mark(&mut self, events: &[Ready])
-        ensures { AreSame self.old.members.entries self.new.members.entries }
+        ensures marks { AreMarkedBy events.now self.old.members.entries self.new.members.entries }
+        ensures waits { self.new.waits
+            ≡ (self.old.waits || list_any (λ e. is_none e.number) events.now) }
     {
         for event in events {
-            let Some(number) = event.number else {
-                self.waits = true;
-                continue;
-            };
-            if event.readable {
-                self.rouse(number, event.read_closed);
-            }
-            self.queue(number);
+            self.note(event);
         }
+    }
+
+    /// Notes an event.
+    fn note(&mut self, event: &Ready)
+        ensures marks { AreMarkedBy (event.now ∷ [])
+            self.old.members.entries self.new.members.entries }
+        ensures waits { self.new.waits ≡ (self.old.waits || is_none event.now.number) }
+    {
+        let Some(number) = event.number else {
+            self.waits = true;
+            return;
+        };
+        if !event.readable {
+            self.queue(number);
+            return;
+        }
+        self.rouse(number, event.read_closed);
+        self.queue(number);
     }
 
     /// Those that were held have something to do.
     pub(crate) fn release(&mut self, alloc: Global)
-        ensures { AreSame self.old.members.entries self.new.members.entries }
+        ensures same { AreSameButHeld self.old.members.entries self.new.members.entries }
+        ensures free { AllByRecursion
+            (λ k. IsFree (member_at self.new.members.entries k)) self.old.held.items }
+        ensures none { self.new.held.items ≡ [] }
     {
         let held = mem::replace(&mut self.held, Vec::new(alloc));
         for number in held.iter() {
@@ -54,12 +81,23 @@ impl<S: Peer + Drop> Together<S> {
         }
     }
 
-    /// The member with the number needn't wait for others any more.
+    /// The member with the number needn't wait for others any more, and has a deadline again.
     fn let_go_on(&mut self, number: u64)
-        ensures { AreSame self.old.members.entries self.new.members.entries }
+        ensures at { member_at self.new.members.entries number
+            ≡ option_map let_go (member_at self.old.members.entries number) }
+        ensures others { OthersAreSame number self.old.members.entries self.new.members.entries }
+        ensures many { length self.new.members.entries ≡ length self.old.members.entries }
+        ensures wake { IfSome (member_at self.new.members.entries number) (λ m. self.new.wake
+            ≡ min self.old.wake (unwrap_or (deadline_at m self.old.idle) u64.MAX)) }
+        ensures none { self.new.held ≡ self.old.held }
     {
-        if let Some(member) = self.members.get_mut(&number) {
+        let deadline = {
+            let Some(member) = self.members.get_mut(&number) else {
+                return;
+            };
             member.release();
-        }
+            member.deadline(self.idle, false)
+        };
+        self.wake = self.wake.min(deadline.unwrap_or(u64::MAX));
     }
 }

@@ -1,5 +1,5 @@
 ghost use Rattle.std.specs.Prelude.{◌<◌, IfErr, IfOk, OnErr, OnOk};
-ghost use Rattle.service.specs.Turns.{FailsAfter, ServesInTurn, ServesNext};
+ghost use Rattle.service.specs.Turns.{FailsAfter, LedByStreams, ServesInTurn, ServesNext};
 
 use crate::error::NotAccepted;
 use crate::listening::{Accepted, Listener, System};
@@ -17,6 +17,7 @@ const TRIES: u32 = 100;
 
 /// Serves so many connections of the listener, one after another: `serve_listener` over sockets of
 /// the system. One that is silent for `idle`, or takes no answer for so long, is ended.
+#[tactic(auto, using(crate::proofs::Failing::led_by_streams))]
 pub fn serve<R: AllocGlobal + Clock + Log>(
     rt: &R,
     listener: &TcpListener,
@@ -25,11 +26,11 @@ pub fn serve<R: AllocGlobal + Clock + Log>(
     cache: &mut Cache<Global>,
     prefix: &Prefix<Global>,
 ) -> Result<(), NotAccepted>
-    // The requests of some streams, one for each connection, led to the cache.
-    ensures ok { OnOk result (ServesInTurn (λ _ _ _. Unit {0}) (λ _ _ _ _. Unit {0})
-        (λ _ _. Unit {0}) prefix.now cache.old connections cache.new) }
-    ensures err { IfErr result (λ fault. ServesInTurn (λ _ _ _. Unit {0}) (λ _ _ _ _. Unit {0})
-        (λ _ _. Unit {0}) prefix.now cache.old fault.accepted cache.new) }
+    // The requests of some streams, one for each connection, led to the cache. No contract says
+    // which bytes a socket gives and takes: what is said of these is said over `Listener`.
+    ensures ok { OnOk result (LedByStreams prefix.now cache.old connections cache.new) }
+    ensures err { IfErr result (λ fault.
+        LedByStreams prefix.now cache.old fault.accepted cache.new) }
     ensures few { IfErr result (λ fault. fault.accepted < connections) }
 {
     let mut system = System { rt, listener, idle };

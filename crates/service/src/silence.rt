@@ -1,57 +1,75 @@
 //! Which connections were silent for too long.
-ghost use Rattle.std.specs.Prelude.{◌≡◌, IfSome};
-ghost use Rattle.service.specs.Together.{LeavesPlaced, LeavesTogether, MayEndAt};
+ghost use Rattle.std.specs.Prelude.{◌≡◌, ◌+◌, ◌<◌, ◌≤◌, ◌⊎◌, IfErr, IfOk, IfSome, IsSome, false};
+ghost use Rattle.std.specs.Prelude.{length};
+ghost use Rattle.service.specs.Together.{LeavesPlaced, LeavesTogether, MayEndAt, WakesInTime};
+ghost use Rattle.service.specs.Together.{first_deadline, member_at};
 
-use crate::load::GREATEST;
+use crate::load::is_too_much;
 use crate::sockets::{Peer, Sockets};
 use crate::together::Together;
 use cache_server::{ConnError, Server};
 use log::Log;
 use std::alloc::Global;
-use std::time::Clock;
 
 impl<S: Peer + Drop> Together<S> {
-    /// Ends the connections that were silent for too long.
+    /// Ends the connections that were silent for too long by this time, one after another. Before
+    /// the next wake there is none, but where others wait for memory.
     #[tactic(auto, using(crate::proofs::Keeping::keeps_nowhere, crate::proofs::Keeping::keeps_further, crate::proofs::Places::placed_nowhere))]
-    pub(crate) fn sweep<R: AllocGlobal + Clock + Log, N: Sockets<Stream = S>>(
+    pub(crate) fn sweep<R: Log, N: Sockets<Stream = S>>(
         &mut self,
         rt: &R,
         sockets: &mut N,
         server: &mut Server<Global>,
+        now: u64,
     )
         ensures keeps { LeavesTogether S.spoke N.ended N.lost
             (self.old.members.entries, server.old) (self.new.members.entries, server.new) }
         ensures places { LeavesPlaced N.places (sockets.old, self.old.members.entries)
             (sockets.new, self.new.members.entries) }
+        ensures wake { (now < self.old.wake)
+            ⊎ WakesInTime self.old.idle self.new.members.entries now self.new.wake }
     {
-        let now = self.timer.now(rt);
-        let pressed = self.scales.load.requests >= GREATEST || self.is_full();
+        let pressed = is_too_much(self.scales.load.requests) || self.is_full();
         if now < self.wake && !pressed {
             return;
         }
-        let mut due = Vec::new(rt.alloc());
-        self.wake = self.overdue(now, pressed, &mut due);
-        for number in due.iter() {
-            self.give_up(rt, sockets, server, *number, pressed, now);
-        }
-    }
-
-    /// The connections that were silent for too long, and when the next one will have been.
-    fn overdue(&self, now: u64, pressed: bool, due: &mut Vec<u64, Global>) -> u64 {
-        let mut wake = u64::MAX;
-        for (number, member) in self.members.iter() {
-            match member.deadline(self.idle, pressed) {
-                Some(deadline) if deadline <= now => if due.push(*number).is_err() {
-                    wake = now;
-                },
-                Some(deadline) => wake = wake.min(deadline),
-                None => (),
+        for _ in 0..self.members.len() {
+            match self.next_wake(pressed, now) {
+                Ok(wake) => {
+                    self.wake = wake;
+                    return;
+                }
+                Err((number, deadline)) => {
+                    self.give_up(rt, sockets, server, number, deadline, now);
+                }
             }
         }
-        wake
+        self.wake = u64::MAX;
     }
 
-    /// Ends the connection with the number, if it was silent for too long.
+    /// When the next connection will have been silent for too long, or one that was by this time,
+    /// and its deadline.
+    fn next_wake(&self, pressed: bool, now: u64) -> Result<u64, (u64, u64)>
+        ensures wake { IfOk result (WakesInTime self.now.idle self.now.members.entries now) }
+        ensures calm { pressed ≡ false → IfOk result (λ wake.
+            wake ≡ first_deadline self.now.idle self.now.members.entries) }
+        ensures open { IfErr result (λ it. IsSome (member_at self.now.members.entries it.0)) }
+        ensures due { IfErr result (λ it. it.1 ≤ now) }
+    {
+        let mut wake = u64::MAX;
+        for (number, member) in self.members.iter() {
+            let Some(deadline) = member.deadline(self.idle, pressed) else {
+                continue;
+            };
+            if deadline <= now {
+                return Err((*number, deadline));
+            }
+            wake = wake.min(deadline);
+        }
+        Ok(wake)
+    }
+
+    /// Ends the connection with the number, which was silent for too long.
     #[tactic(auto, using(crate::proofs::Keeping::keeps_nowhere, crate::proofs::Keeping::keeps_ended, crate::proofs::Places::placed_nowhere))]
     fn give_up<R: Log, N: Sockets<Stream = S>>(
         &mut self,
@@ -59,17 +77,20 @@ impl<S: Peer + Drop> Together<S> {
         sockets: &mut N,
         server: &mut Server<Global>,
         number: u64,
-        pressed: bool,
+        deadline: u64,
         now: u64,
     )
+        requires open { IsSome (member_at self.old.members.entries number) }
+        requires due { deadline ≤ now }
         ensures keeps { LeavesTogether S.spoke N.ended N.lost
             (self.old.members.entries, server.old) (self.new.members.entries, server.new) }
         ensures places { LeavesPlaced N.places (sockets.old, self.old.members.entries)
             (sockets.new, self.new.members.entries) }
+        ensures fewer { length self.new.members.entries + 1 ≡ length self.old.members.entries }
+        ensures idle { self.new.idle ≡ self.old.idle }
     {
-        match self.silence(server, number, pressed, now) {
-            Some(why) => self.end(rt, sockets, server, number, why),
-            None => self.wake = now,
+        if let Some(why) = self.silence(server, number, deadline, now) {
+            self.end(rt, sockets, server, number, why);
         }
     }
 
@@ -78,17 +99,18 @@ impl<S: Peer + Drop> Together<S> {
         &self,
         server: &Server<Global>,
         number: u64,
-        pressed: bool,
+        deadline: u64,
         now: u64,
     ) -> Option<Result<(), ConnError>>
         ensures may { IfSome result (λ why.
             MayEndAt S.over number server.now self.now.members.entries why) }
         ensures known { IfSome result (λ why. why ≡ Err ConnError.Memory → ⊥) }
+        ensures due { deadline ≤ now → IsSome (member_at self.now.members.entries number)
+            → IsSome result }
     {
         let is_open = server.is_open(number);
-        let idle = self.idle;
         match self.members.get(&number) {
-            Some(member) => member.silence(is_open, idle, pressed, now),
+            Some(member) => member.silence(is_open, deadline, now),
             None => None,
         }
     }

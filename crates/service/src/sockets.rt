@@ -1,5 +1,5 @@
-ghost use Rattle.std.specs.Prelude.{◌≡◌, ◌-◌, ◌<◌, ◌≤◌, ◌↔◌, ℕ, List, [], length, take, IfErr, IfOk};
-ghost use Rattle.std.specs.Prelude.{IsTrue, OnErr, OnOk};
+ghost use Rattle.std.specs.Prelude.{◌≡◌, ◌-◌, ◌<◌, ◌≤◌, ◌↔◌, ℕ, List, [], length, take, IfErr};
+ghost use Rattle.std.specs.Prelude.{IfOk, IsTrue, OnErr, OnOk};
 ghost use Rattle.cache_server.specs.declared.error.ConnError.{ConnError};
 ghost use Rattle.std.specs.Io.{ReadsAtMost, WritesAtMost};
 ghost use Rattle.std.specs.IoError.{error_kind};
@@ -38,6 +38,9 @@ pub trait Peer {
     /// That no byte is at hand there, until an event tells of some.
     ghost dry: { Self → Type 0 };
 
+    /// That it takes no more bytes, until an event tells that it does.
+    ghost full: { Self → Type 0 };
+
     /// That no byte has moved there since this time. Only the calls that open it and move bytes, or
     /// begin to count anew, say so.
     ghost quiet: { Self → ℕ → Type 0 };
@@ -67,6 +70,7 @@ pub trait Peer {
         ensures waits { StaysDry dry self.old self.new }
         ensures moved { IfOk result (IsQuietAfter quiet now self.old self.new) }
         ensures still { OnErr result (StaysQuiet quiet self.old self.new) }
+        ensures full { IfErr result (λ e. error_kind e ≡ WouldBlock → full self.new) }
         ensures end { IfOk result (λ count. count ≡ 0
             → over self.new (Failed ConnError.WriteFault)) }
         ensures broken { IfErr result (λ e. IsBroken e

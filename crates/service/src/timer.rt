@@ -1,3 +1,6 @@
+ghost use Rattle.std.specs.Prelude.{◌≡◌};
+ghost use Rattle.service.specs.Member.{millis_of};
+
 use std::time::{Clock, Duration, Instant};
 
 /// The milliseconds since a beginning.
@@ -26,9 +29,9 @@ impl Timer {
     }
 }
 
-/// So many milliseconds.
-pub(crate) fn millis(time: &Duration) -> u64 {
-    time.as_secs()
-        .saturating_mul(1000)
-        .saturating_add((time.subsec_nanos() / 1_000_000) as u64)
+/// So many milliseconds, as far as a machine word goes.
+pub(crate) fn millis(time: &Duration) -> u64
+    ensures { result ≡ millis_of time.now }
+{
+    time.as_millis().min(u64::MAX as u128) as u64
 }

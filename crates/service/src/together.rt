@@ -1,7 +1,11 @@
-ghost use Rattle.std.specs.Prelude.{◌≡◌, ◌≤◌, ℕ, [], None, IfErr, IfOk, IsTrue, OnOk, false, true};
+ghost use Rattle.std.specs.Prelude.{◌≡◌, ◌+◌, ◌-◌, ◌*◌, ◌/◌, ◌==◌, ◌<◌, ◌≤◌, ℕ, [], None, Some};
+ghost use Rattle.std.specs.Prelude.{IfErr, IfOk};
+ghost use Rattle.std.specs.Prelude.{IsTrue, OnOk, false, min, option_map, true, if◌then◌else◌};
+ghost use Rattle.std.specs.Duration.{as_nanos};
 ghost use Rattle.std.specs.IoError.{error_kind};
 ghost use Rattle.std.specs.declared.io.ErrorKind.TheVariants.{OutOfMemory};
-ghost use Rattle.service.specs.Talks.{ServesConnections, Stops};
+ghost use Rattle.service.specs.Member.{millis_of, no_load};
+ghost use Rattle.service.specs.Talks.{LedByConnections, ServesConnections, Stops};
 ghost use Rattle.service.specs.Together.{AreSame, GoesOnTogether, StaysPlaced, member_at};
 
 use crate::desk::Desk;
@@ -29,8 +33,9 @@ const EVENTS: usize = 256;
 pub(crate) struct Together<S: Peer> {
     // The open ones, each under its number.
     pub(crate) members: BTreeMap<u64, Member<S>, Global>,
-    // Those with something to do, each once.
+    // Those with something to do, each once; and room for as many, which the next are put into.
     pub(crate) ready: Vec<u64, Global>,
+    pub(crate) spare: Vec<u64, Global>,
     // Those that wait until others hold less.
     pub(crate) held: Vec<u64, Global>,
     pub(crate) scales: Scales,
@@ -49,7 +54,7 @@ pub(crate) struct Together<S: Peer> {
 /// Serves so many connections of the listener, up to `at_once` of them at a time, none of which
 /// waits for another: `serve_sockets` over epoll. Where standard error is a terminal, a line there
 /// says how many are open, and the hits so far.
-#[tactic(auto, using(crate::proofs::Whole::serves_none))]
+#[tactic(auto, using(crate::proofs::Whole::led_by_none, crate::proofs::Whole::led_by_served))]
 pub fn serve_together<R: AllocGlobal + Clock + ErrorTerminal + Log + Net>(
     rt: &R,
     listener: net::TcpListener,
@@ -58,11 +63,11 @@ pub fn serve_together<R: AllocGlobal + Clock + ErrorTerminal + Log + Net>(
     idle: Option<Duration>,
     server: &mut Server<Global>,
 ) -> Result<(), NotAccepted>
-    // What came over these connections led to the server, in the order of its calls.
-    ensures ok { OnOk result (ServesConnections false (λ _ _ _ _. Unit {0}) (λ _ _. Unit {0})
-        server.old connections server.new) }
-    ensures err { IfErr result (λ fault. ServesConnections true (λ _ _ _ _. Unit {0})
-        (λ _ _. Unit {0}) server.old fault.accepted server.new) }
+    // What came over some connections led to the server, in the order of its calls. No contract
+    // says which bytes a socket gives and takes: what is said of these is said over `Sockets`.
+    ensures ok { OnOk result (LedByConnections server.old connections server.new) }
+    ensures err { IfErr result (λ fault.
+        LedByConnections server.old fault.accepted server.new) }
     ensures few { IfErr result (λ fault. fault.accepted ≤ connections) }
 {
     let mut sockets = match Epoll::new(rt, listener) {
@@ -136,12 +141,18 @@ impl<S: Peer + Drop> Together<S> {
     ) -> io::Result<Together<S>>
         ensures ok { IfOk result (λ together. together.members.entries ≡ []) }
         ensures waits { IfOk result (λ together. IsTrue together.waits) }
+        ensures idle { IfOk result (λ together. together.idle ≡ option_map millis_of idle) }
+        ensures share { IfOk result (λ together. 0 < at_once
+            → together.share ≡ 268435456 / at_once) }
+        ensures scales { IfOk result (λ together. (together.scales.load ≡ no_load)
+            × (together.scales.senior ≡ None) × (together.wake ≡ u64.MAX)) }
         ensures err { IfErr result (λ e. error_kind e ≡ OutOfMemory) }
     {
         let alloc = rt.alloc();
         Ok(Together {
             members: BTreeMap::new(alloc),
             ready: Vec::with_capacity(alloc, at_once)?,
+            spare: Vec::with_capacity(alloc, at_once)?,
             held: Vec::new(alloc),
             scales: Scales::new(),
             share: GREATEST / (at_once as u64).max(1),
@@ -157,8 +168,14 @@ impl<S: Peer + Drop> Together<S> {
         })
     }
 
-    /// How long the system may be waited for.
-    fn timeout<C: Clock>(&self, clock: &C) -> Option<Duration> {
+    /// How long the system may be waited for at this time: to the next wake, and a millisecond
+    /// more, since the time is whole milliseconds; not at all while one has something to do.
+    fn timeout(&self, now: u64) -> Option<Duration>
+        ensures ready { (self.now.ready.items ≡ [] → ⊥) → option_map as_nanos result ≡ Some 0 }
+        ensures wake { self.now.ready.items ≡ [] → option_map as_nanos result
+            ≡ (let wake = min self.now.wake self.now.line.due in
+            if wake == u64.MAX then None else Some ((wake - now + 1) * 1000000)) }
+    {
         if !self.ready.is_empty() {
             return Some(Duration::from_secs(0));
         }
@@ -166,8 +183,7 @@ impl<S: Peer + Drop> Together<S> {
         if wake == u64::MAX {
             return None;
         }
-        let left = wake.saturating_sub(self.timer.now(clock)).saturating_add(1);
-        Some(Duration::from_millis(left))
+        Some(Duration::from_millis(wake.saturating_sub(now) + 1))
     }
 
     /// Serves so many connections, up to `at_once` at a time, to the end of each, or as many as can
@@ -203,10 +219,11 @@ impl<S: Peer + Drop> Together<S> {
             }
             self.show(rt, server);
             events.clear();
-            sockets.wait(self.timeout(rt), &mut events)?;
+            sockets.wait(self.timeout(self.timer.now(rt)), &mut events)?;
             self.mark(events.as_slice());
             self.run(rt, sockets, server);
-            self.sweep(rt, sockets, server);
+            let now = self.timer.now(rt);
+            self.sweep(rt, sockets, server, now);
         }
         Err(io::Error::from(ErrorKind::OutOfMemory))
     }

@@ -1,10 +1,12 @@
 //! A turn of each that has something to do.
-ghost use Rattle.std.specs.Prelude.{◌≡◌, ◌==◌, ◌||◌, None, IfSome, true, nat_lt, if◌then◌else◌};
-ghost use Rattle.std.specs.Option.{option_map_or};
-ghost use Rattle.service.specs.Member.{end_of};
-ghost use Rattle.service.specs.Together.{AreSame, LeavesPlaced, LeavesTogether, MovesOnAt};
+ghost use Rattle.std.specs.Prelude.{◌≡◌, ◌==◌, ◌&&◌, ℕ, None, IfSome, min, nat_le, not, true};
+ghost use Rattle.std.specs.Prelude.{if◌then◌else◌};
+ghost use Rattle.std.specs.Option.{option_map_or, unwrap_or};
+ghost use Rattle.service.specs.Member.{deadline_at, end_of, load_after};
+ghost use Rattle.service.specs.Together.{AreFull, AreSame, HoldAlone, LeavesPlaced};
+ghost use Rattle.service.specs.Together.{LeavesTogether, MovesOnAt, member_at};
 
-use crate::load::{GREATEST, Leave};
+use crate::load::{Leave, is_too_much};
 use crate::sockets::{Peer, Sockets};
 use crate::together::Together;
 use crate::turn::Turn;
@@ -16,7 +18,7 @@ use std::time::Clock;
 
 impl<S: Peer + Drop> Together<S> {
     /// A turn of each member that has something to do.
-    #[tactic(auto, using(crate::proofs::Keeping::keeps_nowhere, crate::proofs::Keeping::keeps_further, crate::proofs::Keeping::keeps_same, crate::proofs::Places::placed_nowhere))]
+    #[tactic(auto, using(crate::proofs::Keeping::keeps_nowhere, crate::proofs::Keeping::keeps_further, crate::proofs::Keeping::keeps_but_held, crate::proofs::Places::placed_nowhere))]
     pub(crate) fn run<R: AllocGlobal + Clock + Log, N: Sockets<Stream = S>>(
         &mut self,
         rt: &R,
@@ -29,14 +31,13 @@ impl<S: Peer + Drop> Together<S> {
             (sockets.new, self.new.members.entries) }
     {
         let now = self.timer.now(rt);
-        let mut ready = mem::replace(&mut self.ready, Vec::new(rt.alloc()));
+        let spare = mem::replace(&mut self.spare, Vec::new(rt.alloc()));
+        let mut ready = mem::replace(&mut self.ready, spare);
         for number in ready.iter() {
             self.turn(rt, sockets, server, *number, now);
         }
         ready.clear();
-        if self.ready.is_empty() {
-            self.ready = ready;
-        }
+        self.spare = ready;
         if self.scales.eased {
             self.scales.eased = false;
             self.release(rt.alloc());
@@ -82,6 +83,12 @@ impl<S: Peer + Drop> Together<S> {
     ) -> Option<(Turn, bool)>
         ensures some { IfSome result (λ out. MovesOnAt (end_of out.0) S.spoke S.over number
             server.old self.old.members.entries server.new self.new.members.entries) }
+        ensures wake { IfSome result (λ _. IfSome (member_at self.new.members.entries number) (λ m.
+            self.new.wake
+            ≡ min self.old.wake (unwrap_or (deadline_at m self.old.idle) u64.MAX))) }
+        ensures load { IfSome (member_at self.old.members.entries number) (λ before.
+            IfSome (member_at self.new.members.entries number) (λ after.
+            self.new.scales.load ≡ load_after self.old.scales.load before.load after.load)) }
         ensures server { result ≡ None → server.new ≡ server.old }
         ensures members { result ≡ None
             → AreSame self.old.members.entries self.new.members.entries }
@@ -106,18 +113,20 @@ impl<S: Peer + Drop> Together<S> {
     /// What the connection with the number may do. Where requests that aren't whole hold too much,
     /// each may keep its share, and one of them is read to its end.
     fn leave(&self, number: u64) -> Leave
-        ensures kept { result.kept ≡ (if nat_lt self.now.scales.load.requests 268435456
-            || option_map_or (λ senior. senior == number) self.now.scales.senior true
-            then u64.MAX else self.now.share) }
+        ensures answers { AreFull self.now.members.entries self.now.scales.load
+            (not result.answers) }
+        ensures kept { result.kept ≡ (if nat_le 268435456 self.now.scales.load.requests
+            && not (option_map_or (λ senior. senior == number) self.now.scales.senior true)
+            then self.now.share else u64.MAX) }
     {
         let is_senior = match self.scales.senior {
             Some(senior) => senior == number,
             None => true,
         };
-        let kept = if self.scales.load.requests < GREATEST || is_senior {
-            u64::MAX
-        } else {
+        let kept = if is_too_much(self.scales.load.requests) && !is_senior {
             self.share
+        } else {
+            u64::MAX
         };
         Leave {
             answers: !self.is_full(),
@@ -127,12 +136,17 @@ impl<S: Peer + Drop> Together<S> {
 
     /// Whether answers hold too much. An answer that the cache holds too costs nothing, so they are
     /// looked at one by one only where all of them together would be too much.
-    pub(crate) fn is_full(&self) -> bool {
-        self.scales.load.answers >= GREATEST && self.held_alone() >= GREATEST
+    pub(crate) fn is_full(&self) -> bool
+        ensures { AreFull self.now.members.entries self.now.scales.load result }
+    {
+        is_too_much(self.scales.load.answers) && is_too_much(self.held_alone())
     }
 
     /// How many bytes of answers nobody else holds.
-    fn held_alone(&self) -> u64 {
+    fn held_alone(&self) -> u64
+        ensures { (alone : ℕ) × HoldAlone self.now.members.entries alone
+            × (result ≡ min alone u64.MAX) }
+    {
         let mut sum: u64 = 0;
         for (_, member) in self.members.iter() {
             sum = sum.saturating_add(member.held_alone());

@@ -1,4 +1,4 @@
-ghost use Rattle.std.specs.Prelude.{◌≡◌, ◌-◌, ◌<◌, ◌≤◌, ◌↔◌, ℕ, length, take, IfErr, IfOk, IsTrue};
+ghost use Rattle.std.specs.Prelude.{◌≡◌, ◌-◌, ◌<◌, ◌≤◌, ◌↔◌, length, take, IfErr, IfOk, IsTrue};
 ghost use Rattle.std.specs.Prelude.{OnErr};
 ghost use Rattle.std.specs.Io.{ReadsAtMost, WritesAtMost};
 ghost use Rattle.std.specs.IoError.{error_kind};
@@ -6,12 +6,13 @@ ghost use Rattle.std.specs.declared.io.ErrorKind.TheVariants.{WouldBlock};
 ghost use Rattle.cache_server.specs.declared.error.ConnError.{ConnError};
 ghost use Rattle.service.specs.Sockets.{Failed, Finished, IsBroken, ReadsFrom, SendsTo, Shut};
 ghost use Rattle.service.specs.Sockets.{Silent, Stays, StaysDry, StaysShut};
+ghost use Rattle.service.specs.Member.{moved_by};
 
 use crate::sockets::Peer;
 use std::io;
 use std::marker::Model;
 
-/// A stream, and when a byte was moved there last. Clauses see the stream.
+/// A stream, and when a byte was moved there last, or it was held.
 #[derive(Drop)]
 pub(crate) struct Watched<S: Peer> {
     stream: S,
@@ -19,9 +20,11 @@ pub(crate) struct Watched<S: Peer> {
 }
 
 impl<S: Peer> Model for Watched<S> {
-    ghost Value = { S };
+    ghost use Rattle.service.specs.Member.{WatchedValue};
 
-    ghost view = { λ w. w.stream };
+    ghost Value = { WatchedValue S };
+
+    ghost view = { λ w. record { stream = w.stream; moved = w.moved } };
 
     ghost invariant = { λ w. S.quiet w.stream w.moved };
 }
@@ -30,20 +33,20 @@ impl<S: Peer> Watched<S> {
     /// One that was opened at this time.
     pub(crate) fn new(stream: S, now: u64) -> Watched<S>
         requires { S.quiet stream now }
-        ensures { result ≡ stream }
+        ensures { result ≡ record { stream = stream; moved = now } }
     {
         Watched { stream, moved: now }
     }
 
     pub(crate) fn into_inner(self) -> S
-        ensures { result ≡ self }
+        ensures { result ≡ self.stream }
     {
         self.stream
     }
 
     /// When a byte was moved last, or it was held.
     pub(crate) fn moved(&self) -> u64
-        ensures { S.quiet self.now result }
+        ensures { result ≡ self.now.moved }
     {
         self.moved
     }
@@ -51,14 +54,15 @@ impl<S: Peer> Watched<S> {
     pub(crate) fn read(&mut self, buffer: &mut [u8], now: u64) -> io::Result<usize>
         ensures bound { ReadsAtMost result buffer.new }
         ensures read { IfOk result (λ count.
-            ReadsFrom S.spoke self.old (take count buffer.new) self.new) }
-        ensures fault { OnErr result (Stays S.spoke self.old self.new) }
-        ensures shut { StaysShut S.over self.old self.new }
-        ensures end { IfOk result (λ count. count ≡ 0 → S.over self.new Finished) }
-        ensures short { IfOk result (λ count. count < length buffer.new → S.dry self.new) }
-        ensures nothing { IfErr result (λ e. error_kind e ≡ WouldBlock → S.dry self.new) }
+            ReadsFrom S.spoke self.old.stream (take count buffer.new) self.new.stream) }
+        ensures fault { OnErr result (Stays S.spoke self.old.stream self.new.stream) }
+        ensures shut { StaysShut S.over self.old.stream self.new.stream }
+        ensures end { IfOk result (λ count. count ≡ 0 → S.over self.new.stream Finished) }
+        ensures short { IfOk result (λ count. count < length buffer.new → S.dry self.new.stream) }
+        ensures nothing { IfErr result (λ e. error_kind e ≡ WouldBlock → S.dry self.new.stream) }
+        ensures moved { self.new.moved ≡ moved_by result self.old.moved now }
         ensures broken { IfErr result (λ e. IsBroken e
-            → S.over self.new (Failed ConnError.ReadFault)) }
+            → S.over self.new.stream (Failed ConnError.ReadFault)) }
     {
         let called = self.stream.read(buffer, now);
         self.moved = moved_by(&called, self.moved, now);
@@ -68,14 +72,16 @@ impl<S: Peer> Watched<S> {
     pub(crate) fn write(&mut self, bytes: &[u8], now: u64) -> io::Result<usize>
         ensures bound { WritesAtMost result bytes.now }
         ensures sent { IfOk result (λ count.
-            SendsTo S.spoke self.old (take count bytes.now) self.new) }
-        ensures fault { OnErr result (Stays S.spoke self.old self.new) }
-        ensures shut { StaysShut S.over self.old self.new }
-        ensures waits { StaysDry S.dry self.old self.new }
+            SendsTo S.spoke self.old.stream (take count bytes.now) self.new.stream) }
+        ensures fault { OnErr result (Stays S.spoke self.old.stream self.new.stream) }
+        ensures shut { StaysShut S.over self.old.stream self.new.stream }
+        ensures waits { StaysDry S.dry self.old.stream self.new.stream }
+        ensures full { IfErr result (λ e. error_kind e ≡ WouldBlock → S.full self.new.stream) }
+        ensures moved { self.new.moved ≡ moved_by result self.old.moved now }
         ensures end { IfOk result (λ count. count ≡ 0
-            → S.over self.new (Failed ConnError.WriteFault)) }
+            → S.over self.new.stream (Failed ConnError.WriteFault)) }
         ensures broken { IfErr result (λ e. IsBroken e
-            → S.over self.new (Failed ConnError.WriteFault)) }
+            → S.over self.new.stream (Failed ConnError.WriteFault)) }
     {
         let called = self.stream.write(bytes, now);
         self.moved = moved_by(&called, self.moved, now);
@@ -83,9 +89,10 @@ impl<S: Peer> Watched<S> {
     }
 
     pub(crate) fn discard(&mut self, buffer: &mut [u8], now: u64) -> io::Result<usize>
-        ensures stays { Stays S.spoke self.old self.new }
-        ensures shut { StaysShut S.over self.old self.new }
-        ensures nothing { IfErr result (λ e. error_kind e ≡ WouldBlock → S.dry self.new) }
+        ensures stays { Stays S.spoke self.old.stream self.new.stream }
+        ensures shut { StaysShut S.over self.old.stream self.new.stream }
+        ensures nothing { IfErr result (λ e. error_kind e ≡ WouldBlock → S.dry self.new.stream) }
+        ensures moved { self.new.moved ≡ moved_by result self.old.moved now }
     {
         let called = self.stream.discard(buffer, now);
         self.moved = moved_by(&called, self.moved, now);
@@ -93,17 +100,18 @@ impl<S: Peer> Watched<S> {
     }
 
     pub(crate) fn shut(&mut self)
-        ensures stays { Stays S.spoke self.old self.new }
-        ensures shut { S.over self.new Shut }
+        ensures stays { Stays S.spoke self.old.stream self.new.stream }
+        ensures shut { S.over self.new.stream Shut }
     {
         self.stream.shut();
     }
 
     /// It waits for others, and isn't silent by itself.
     pub(crate) fn hold(&mut self, now: u64)
-        ensures stays { Stays S.spoke self.old self.new }
-        ensures shut { StaysShut S.over self.old self.new }
-        ensures waits { StaysDry S.dry self.old self.new }
+        ensures stays { Stays S.spoke self.old.stream self.new.stream }
+        ensures shut { StaysShut S.over self.old.stream self.new.stream }
+        ensures waits { StaysDry S.dry self.old.stream self.new.stream }
+        ensures moved { self.new.moved ≡ now }
     {
         self.stream.hold(now);
         self.moved = now;
@@ -111,9 +119,8 @@ impl<S: Peer> Watched<S> {
 
     /// Whether it was silent for too long: since it moved a byte, to its deadline.
     pub(crate) fn was_silent(&self, deadline: u64, now: u64) -> bool
-        ensures is { (moved : ℕ) × S.quiet self.now moved
-            × (IsTrue result ↔ (deadline - moved ≤ now - moved)) }
-        ensures found { IsTrue result → S.over self.now Silent }
+        ensures is { IsTrue result ↔ (deadline - self.now.moved ≤ now - self.now.moved) }
+        ensures found { IsTrue result → S.over self.now.stream Silent }
     {
         let allowed = deadline.saturating_sub(self.moved);
         self.stream.is_silent(self.moved, now, allowed)
@@ -122,9 +129,7 @@ impl<S: Peer> Watched<S> {
 
 /// When a byte was moved last, after a call at this time that moved so many.
 fn moved_by(called: &io::Result<usize>, moved: u64, now: u64) -> u64
-    ensures some { IfOk called.now (λ count. 0 < count → result ≡ now) }
-    ensures none { IfOk called.now (λ count. count ≡ 0 → result ≡ moved) }
-    ensures err { OnErr called.now (result ≡ moved) }
+    ensures { result ≡ moved_by called.now moved now }
 {
     match called {
         Ok(count) => if *count > 0 { now } else { moved },

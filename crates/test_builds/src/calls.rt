@@ -154,10 +154,10 @@ pub fn root_over<A: Allocator + Copy, S: BlobSource<A>>(
     requires { IsKnownOf (known_by memo.old) (S.tells source.old) }
     ensures { IsKnownOf (known_by memo.new) (S.tells source.new) }
 {
-    match engine.root(alloc, memo, source) {
+    match engine.root_tree(alloc, memo, source) {
         Err(error) => refusal_told(global, error),
-        Ok(root) => {
-            let digest = root.write_text(global)?;
+        Ok(tree) => {
+            let digest = tree.root.write_text(global)?;
             Ok(format!(in global; "root {digest}")?)
         }
     }

@@ -1,5 +1,5 @@
 //! Rows of canonical messages by a shape with a field of each kind.
-ghost use Rattle.std.specs.Prelude.{◌≤◌};
+ghost use Rattle.wire.specs.Record.{IsFieldNumber};
 
 use crate::answers::{Answer, Broken, number_in, said, word, yes_or_no};
 use canonical::*;
@@ -106,8 +106,7 @@ fn write_list<A: Allocator + Copy>(
     fields: &[Field<'_>],
     number: u32,
 ) -> Result<(), CanonError>
-    requires least { 1 ≤ number }
-    requires most { number ≤ 536870911 }
+    requires number { IsFieldNumber number }
 {
     for element in &read_elements(alloc, fields, number)? {
         write_element(out, number, element)?;

@@ -4,8 +4,6 @@ use Rattle.blob_digest.specs.Digest.{DigestValue}
 use Rattle.blob_digest.specs.Text.{BeginsWithHash}
 use Rattle.blob_digest.specs.declared.error.DigestError.{DigestError}
 use Rattle.blob_digest.specs.declared.error.DigestError.TheVariants.{BadHex}
-use Rattle.plan.specs.declared.error.Fault.TheVariants.{BadHeader}
-use Rattle.plan.specs.declared.error.PlanError.{PlanError}
 use Rattle.plan.specs.Faults.{IsPlanFault}
 use Rattle.plan.specs.Record.{IsRecordFault}
 use Rattle.verifier.specs.declared.error.VerifyError.{VerifyError}
@@ -63,10 +61,6 @@ IsNoFault (Plan fault) = ⊥
 IsNoFault (Record fault) = ⊥
 IsNoFault Fetch = Unit {0}
 IsNoFault Memory = Unit {0}
-
--- line 1 is no header
-abbrev pub no_header : PlanError
-no_header = record { line = 1; fault = BadHeader }
 
 -- this is answered, unless memory ran out
 abbrev pub AnswersUnlessMemory : {X : Type 0} → Result X TextError → X → Type 0

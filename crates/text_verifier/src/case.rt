@@ -1,7 +1,7 @@
-ghost use Rattle.std.specs.Prelude.{◌≡◌, Err, IfErr, IfOk};
-ghost use Rattle.plan.specs.Line.{Begins};
-ghost use Rattle.plan.specs.Record.{RecordValue, names_of, record_header};
-ghost use Rattle.text_verifier.specs.Refused.{AnswersUnlessMemory, IsRecordRefusal, no_header};
+ghost use Rattle.std.specs.Prelude.{◌≡◌, ◌≤◌, Err, IfErr, IfOk};
+ghost use Rattle.plan.specs.declared.error.PlanError.{PlanError};
+ghost use Rattle.plan.specs.Record.{RecordValue, names_of, IsRecordFault};
+ghost use Rattle.text_verifier.specs.Refused.{AnswersUnlessMemory, IsRecordRefusal};
 ghost use Rattle.text_verifier.specs.Texts.{HasRecord, question_of};
 
 use crate::error::TextError;
@@ -46,9 +46,9 @@ impl<A: Allocator + Copy> Case<A> {
         ensures only { (record_of : RecordValue) → HasRecord plan noted.now record_of
             → AnswersUnlessMemory result
             (question_of digests.sources digests.claim plan record_of) }
-        // A text without the header takes no memory to refuse.
-        ensures header { ¬ Begins record_header noted.now
-            → result ≡ Err (TextError.Record no_header) }
+        // Lines 1 and 2 take no memory.
+        ensures early { (e : PlanError) → IsRecordFault (names_of plan) noted.now e → e.line ≤ 2
+            → result ≡ Err (TextError.Record e) }
         ensures fault { IfErr result (IsRecordRefusal (names_of plan) noted.now) }
     {
         let noted = read_record(alloc, noted, &plan)?;

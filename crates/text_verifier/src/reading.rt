@@ -1,13 +1,13 @@
-ghost use Rattle.std.specs.Prelude.{◌≡◌, IfOk, IfErr, Ok, Err};
+ghost use Rattle.std.specs.Prelude.{◌≡◌, ◌≤◌, IfOk, IfErr, Ok, Err};
 ghost use Rattle.blob_digest.specs.Digest.{DigestValue};
-ghost use Rattle.plan.specs.Faults.{HasNoHeader};
-ghost use Rattle.plan.specs.Line.{Begins};
+ghost use Rattle.plan.specs.Faults.{IsPlanFault};
 ghost use Rattle.plan.specs.Plan.{IsPlan, plan_text};
 ghost use Rattle.plan.specs.Record.{IsRecord, Fits, RecordValue, names_of, build_record_text};
-ghost use Rattle.plan.specs.Record.{record_header};
+ghost use Rattle.plan.specs.Record.{IsRecordFault};
 ghost use Rattle.plan.specs.Values.{PlanValue};
+ghost use Rattle.plan.specs.declared.error.PlanError.{PlanError};
 ghost use Rattle.text_verifier.specs.Refused.{AnswersUnlessMemory, IsDigestRefusal, IsPlanRefusal};
-ghost use Rattle.text_verifier.specs.Refused.{IsRecordRefusal, no_header};
+ghost use Rattle.text_verifier.specs.Refused.{IsRecordRefusal};
 ghost use Rattle.text_verifier.specs.Texts.{IsDigestText};
 
 use crate::error::TextError;
@@ -47,8 +47,9 @@ pub fn read_plan<A: Allocator + Copy>(alloc: A, text: &[u8]) -> Result<Plan<A>, 
     // The plan whose text it is is answered.
     ensures only { (plan : PlanValue) → IsPlan plan → text.now ≡ plan_text plan
         → AnswersUnlessMemory result plan }
-    // A text without a header takes no memory to refuse.
-    ensures header { HasNoHeader text.now → result ≡ Err (TextError.Plan no_header) }
+    // Lines 1 and 2 take no memory.
+    ensures early { (e : PlanError) → IsPlanFault text.now e → e.line ≤ 2
+        → result ≡ Err (TextError.Plan e) }
     ensures fault { IfErr result (IsPlanRefusal text.now) }
 {
     match Plan::read(alloc, text) {
@@ -70,8 +71,9 @@ pub(crate) fn read_record<A: Allocator + Copy>(
     // The record whose text it is is answered.
     ensures only { (noted : RecordValue) → IsRecord noted → Fits noted plan.now
         → text.now ≡ build_record_text noted → AnswersUnlessMemory result noted }
-    // A text without the header takes no memory to refuse.
-    ensures header { ¬ Begins record_header text.now → result ≡ Err (TextError.Record no_header) }
+    // Lines 1 and 2 take no memory.
+    ensures early { (e : PlanError) → IsRecordFault (names_of plan.now) text.now e → e.line ≤ 2
+        → result ≡ Err (TextError.Record e) }
     ensures fault { IfErr result (IsRecordRefusal (names_of plan.now) text.now) }
 {
     match Record::read(alloc, text, plan) {

@@ -1,10 +1,21 @@
 -- Paths that don't overlap, name by name.
-use Rattle.std.proofs.Common.{◌≡◌, List, [], ◌∷◌, refl, sym, inl, inr}
+use Rattle.std.proofs.Common.{◌≡◌, ◌≢◌, List, [], ◌∷◌, refl, sym, inl, inr}
 use Rattle.std.specs.List.{AllByRecursion}
 use Rattle.messages.specs.Path.{Overlap}
 use Rattle.tree.specs.Tree.{Name}
 use Rattle.tree.specs.Graft.{IsApart, HaveApartTargets}
-use Rattle.tree.specs.Visiting.{Apart, HaveApart}
+
+-- paths apart, name by name: neither equals the other or lies under it
+abbrev pub Apart : List Name → List Name → Type 0
+Apart [] q = ⊥
+Apart (n ∷ p) [] = ⊥
+Apart (n ∷ p) (m ∷ q) = n ≡ m → Apart p q
+
+-- no target is empty, equals another or lies under it
+abbrev pub HaveApart : {X : Type 0} → List (List Name × X) → Type 0
+HaveApart [] = Unit {0}
+HaveApart (l ∷ ls) =
+    (l.0 ≢ []) × AllByRecursion (λ k. Apart l.0 k.0 × Apart k.0 l.0) ls × HaveApart ls
 
 -- the same below one name
 longer : (n m : Name) (p q : List Name) → n ≡ m → Overlap p q → Overlap (n ∷ p) (m ∷ q)

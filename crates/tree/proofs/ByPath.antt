@@ -9,8 +9,7 @@ use Rattle.std.specs.Cmp.Lexicographic.{lists_total, nat_list_cmp_total}
 use Rattle.tree.specs.declared.flat_tree.FlatEntry.{FlatEntry}
 use Rattle.tree.specs.Tree.{Name, path_cmp, Tree, empty, leaf, folder, Standing, IsOrdered}
 use Rattle.tree.specs.Form.{NodeValue}
-use Rattle.tree.specs.FlatTree.{under, listed, FlatValue, IsFlatTree, entry_value, flat_value}
-use Rattle.tree.specs.Visiting.{Ascend}
+use Rattle.tree.specs.FlatTree.{Ascend, under, listed, FlatValue, IsFlatTree, entry_value, flat_value}
 use Rattle.tree.proofs.SortedInsert.{vec_cmp}
 use Rattle.tree.proofs.Listings.{AllFirst, less_first, same_first, first_listed, all_join}
 use Rattle.tree.proofs.FlatTrees.{flat_inserted}
@@ -47,11 +46,11 @@ under_less n p [] h = tt
 under_less n p (e ∷ es) h = (same_first n p e.0 ∙ h.0, under_less n p es h.1)
 
 -- the entries below a directory, and then later ones
-ascend_under : (n : Name) (es fs : FlatValue) → Ascend es → AllFirst Less n fs → Ascend fs → Ascend (under n es ++ fs)
+pub ascend_under : (n : Name) (es fs : FlatValue) → Ascend es → AllFirst Less n fs → Ascend fs → Ascend (under n es ++ fs)
 ascend_under n [] fs h k g = g
 ascend_under n (e ∷ es) fs h k g = (all_join (λ f. path_cmp (n ∷ e.0) f.0 ≡ Less) (under n es) fs (under_less n e.0 es h.0) (all_less n e.0 fs k), ascend_under n es fs h.1 k g)
 
-ascend_listed : (t : Tree NodeValue) → IsOrdered t → Ascend (listed t)
+pub ascend_listed : (t : Tree NodeValue) → IsOrdered t → Ascend (listed t)
 ascend_listed empty h = tt
 ascend_listed (leaf n x rest) h = (all_less n [] (listed rest) (first_listed n rest h.0), ascend_listed rest h.1)
 ascend_listed (folder n b rest) h = (

@@ -1,4 +1,4 @@
--- What meets the premises of the laws: a tree of one file, told and listed, a digest under which nothing is told, and one line.
+-- What meets the premises of the laws: a tree of one file, told and listed, a digest under which nothing is told, and lines apart.
 use Rattle.std.proofs.Common.{◌≡◌, ◌≢◌, ℕ, suc, List, [], ◌∷◌, refl, ap, sym, ◌∙◌, inl, inr, Bool}
 use Rattle.std.specs.Prelude.{◌⊎◌, None, Some}
 use Rattle.std.specs.Str.{is_utf8, chars}
@@ -13,7 +13,7 @@ use Rattle.tree.specs.FlatTree.{IsListOf, IsFoldOfList, listed}
 use Rattle.tree.specs.Folded.{IsFoldOf}
 use Rattle.tree.specs.Form.{form, top, root, directory_of, no_children, IsBlobOf}
 use Rattle.tree.specs.Difference.{Finds, FindsFirst, unread}
-use Rattle.tree.specs.Graft.{HaveApartTargets}
+use Rattle.tree.specs.Graft.{IsApart, HaveApartTargets}
 use Rattle.tree.specs.Unfolded.{IsUnfolded}
 use Rattle.tree.proofs.DirectoryBytes.{directory_bytes_injective}
 use Rattle.tree.proofs.MergeExample.{no_bytes}
@@ -113,7 +113,16 @@ one_unfolded x = record {
 pub one_folded : {A : Type 0} (x : Bool) (f : Folded A) → IsFoldOf (form (one_file x)) f → IsFoldOfList (listed (form (one_file x))) f
 one_folded x f fold = record { tree = form (one_file x); list = one_list x; fold = fold }
 
--- ---- lines
+-- ---- lines whose targets don't overlap
 
-pub apart_line : {X : Type 0} (x : X) → HaveApartTargets ((a ∷ [], x) ∷ [])
-apart_line x = ((λ e. cc), tt, tt)
+pub ab : Name
+ab = 97 ∷ 98 ∷ []
+
+a_apart : IsApart (a ∷ []) (ab ∷ [])
+unfolding a ab
+a_apart (inl same) = cc
+a_apart (inr (inl (n, rest, under))) = cc
+a_apart (inr (inr (n, rest, under))) = cc
+
+pub apart_lines : {X : Type 0} (x y : X) → HaveApartTargets ((a ∷ [], x) ∷ (ab ∷ [], y) ∷ [])
+apart_lines x y = ((λ e. cc), (a_apart, tt), ((λ e. cc), tt, tt))

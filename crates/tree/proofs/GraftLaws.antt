@@ -3,9 +3,9 @@ use Rattle.std.proofs.Common.{◌≡◌, ◌≢◌, List, [], ◌∷◌, ◌++�
 use Rattle.std.specs.Prelude.{Option, Some, None, option_map}
 use Rattle.std.specs.List.{AllByRecursion}
 use Rattle.std.specs.Ordering.{eq_by_cmp}
+use Rattle.tree.proofs.Apart.{Apart, HaveApart}
 use Rattle.tree.specs.Tree.{Name, name_cmp, Tree, empty, leaf, folder, Entry, single, whole, entry_of, below_entry, tree_at, IsOrdered}
 use Rattle.tree.specs.Graft.{put, graft, expand, with_entry}
-use Rattle.tree.specs.Visiting.{Apart, HaveApart}
 use Rattle.tree.proofs.TreeLemmas.{entry-put, entry-put_other, put_entry, one_or_two, ordered-graft}
 
 -- nothing stands at the path, above it or below it

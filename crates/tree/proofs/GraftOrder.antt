@@ -1,9 +1,9 @@
 -- A graft doesn't depend on the order of its lines, and one of lines in the order of paths goes name by name.
 use Rattle.std.proofs.Common.{◌≡◌, List, [], ◌∷◌, refl, ap, sym, ◌∙◌, subst, inl, inr}
 use Rattle.std.specs.Prelude.{◌⊎◌, Option, Some, None}
+use Rattle.tree.proofs.Apart.{Apart}
 use Rattle.tree.specs.Tree.{Name, Tree, empty, Entry, single, whole, entry_of, IsOrdered}
 use Rattle.tree.specs.Graft.{put}
-use Rattle.tree.specs.Visiting.{Apart}
 use Rattle.tree.proofs.TreeLemmas.{one_or_two, entry-put, entry-put_other, put_entry, ordered-put}
 use Rattle.tree.proofs.GraftLaws.{IsInOrder, in_order}
 use Rattle.tree.proofs.SameTree.{same_tree}

@@ -3,6 +3,10 @@ use Rattle.std.proofs.Common.{◌≡◌, ℕ, zero, suc, ◌+◌, ◌≤◌, Lis
 use Rattle.std.specs.Prelude.{◌⊎◌, Option, Some, None, Contains, Result, Ok, Err}
 use Rattle.std.specs.Result.{IsErrAnd}
 use Rattle.blob_source.specs.Source.{Telling, Grows}
+use Rattle.blob_source.specs.Told.{Fault}
+use Rattle.tree.specs.declared.error.TreeError.{TreeError}
+use Rattle.tree.specs.declared.error.TreeError.TheVariants.{Absent, BlobMissing, BlobWrong, BlobMalformed, TooDeep, Conflict, Fetch, Memory}
+use Rattle.tree.specs.TreeError.{Explains, IsCutShort}
 use Rattle.tree.specs.Memo.{Asked, blob, result, Known, IsKnownOf, one_if_none, count_unknown, Learns, KnowsNothing, WasRefused, IsWithout}
 use Rattle.tree.proofs.Descent.{under_still}
 
@@ -67,6 +71,7 @@ learns_none {known = known} {t = t} h = record {
   others = λ a not other. refl;
   once = λ list covers. omega arith;
   learned = λ no list covers. omega arith;
+  last = λ list covers. omega arith;
 }
 
 -- some calls, and some after them
@@ -85,6 +90,10 @@ learns_then to on passed h k = record {
       let early = h.learned passed list (λ a at. covers a (to a at)) in
       let late = k.learned none list (λ a at. covers a (on a at)) in
       omega (arith, early, late);
+  last = λ list covers.
+      let early = h.learned passed list (λ a at. covers a (to a at)) in
+      let late = k.last list (λ a at. covers a (on a at)) in
+      omega (arith, early, late);
 }
 
 -- the same, said of more
@@ -96,6 +105,7 @@ learns_more to by h = record {
   others = λ a not other. h.others a (λ at. not (to a at)) other;
   once = λ list covers. h.once list (λ a at. covers a (to a at));
   learned = λ none list covers. h.learned (by none) list (λ a at. covers a (to a at));
+  last = λ list covers. h.last list (λ a at. covers a (to a at));
 }
 
 -- refused in the end
@@ -111,6 +121,33 @@ refused_exit (Err e) P exit = tt
 pub without_exit : {U E : Type 0} (r : Result (Option U) E) (P : E → Type 0) → IsErrAnd r P → IsWithout r
 without_exit (Ok x) P exit = elim exit [ ]
 without_exit (Err e) P exit = tt
+
+-- a Directory that can't be read cuts a look-up short
+pub cut_by : {A : Type 0} (T : Type 0) (F : Fault → Type 0) (e : TreeError A) → Explains F e → IsCutShort {T = T} (Err e)
+cut_by T F (Absent path) h = h
+cut_by T F (BlobMissing f) h = tt
+cut_by T F (BlobWrong f) h = tt
+cut_by T F (BlobMalformed f) h = tt
+cut_by T F (TooDeep path) h = tt
+cut_by T F (Conflict path) h = tt
+cut_by T F Fetch h = tt
+cut_by T F Memory h = tt
+
+-- so does want of memory
+pub cut_by_memory : {A T : Type 0} (r : Result T (TreeError A)) → IsErrAnd r (λ e. e ≡ Memory) → IsCutShort r
+cut_by_memory (Ok x) exit = exit
+cut_by_memory {A} {T} (Err e) exit = subst (λ (x : TreeError A). IsCutShort {T = T} (Err x)) (sym exit) tt
+
+-- the same error of another call
+pub cut_still : {A : Type 0} (T U : Type 0) (e : TreeError A) → IsCutShort {T = T} (Err e) → IsCutShort {T = U} (Err e)
+cut_still T U (Absent path) h = h
+cut_still T U (BlobMissing f) h = tt
+cut_still T U (BlobWrong f) h = tt
+cut_still T U (BlobMalformed f) h = tt
+cut_still T U (TooDeep path) h = tt
+cut_still T U (Conflict path) h = tt
+cut_still T U Fetch h = tt
+cut_still T U Memory h = tt
 
 -- ---- nothing is known yet
 

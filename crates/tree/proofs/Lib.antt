@@ -30,6 +30,7 @@ pub mod ChildOrder
 pub mod FirstFaults
 pub mod UnfoldSteps
 pub mod ByPath
+pub mod FoundEntries
 pub mod ValidTrees
 pub mod OwnDirectories
 pub mod FirstNames

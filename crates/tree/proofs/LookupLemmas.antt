@@ -3,15 +3,14 @@ use Rattle.std.proofs.Common.{◌≡◌, ℕ, List, [], ◌∷◌, refl, ap, sym
 use Rattle.std.specs.Prelude.{◌⊎◌, Option, Some, None, option_map}
 use Rattle.std.specs.Ordering.{eq_by_cmp}
 use Rattle.blob_digest.specs.Digest.{DigestValue, NoClash}
-use Rattle.messages.specs.declared.node.Node.TheVariants.{Dir}
 use Rattle.messages.specs.DirectoryRules.{DirectoryValue}
 use Rattle.messages.specs.Directory.{directory_bytes}
 use Rattle.messages.specs.Node.{child}
-use Rattle.tree.specs.Tree.{Name, name_cmp, Tree, empty, leaf, folder, Entry, single, whole, entry_of, below_entry, Leaf, file, link}
+use Rattle.tree.specs.Tree.{Name, name_cmp, Tree, empty, leaf, folder, Entry, single, whole, entry_of, below_entry, tree_at, IsOrdered, Leaf, file, link}
 use Rattle.tree.specs.Form.{NodeValue, form, directory_of, top, root, entry_node, IsContent, IsBlobBelow, IsBlobOf}
 use Rattle.blob_source.specs.Source.{Blobs, IsUnder}
 use Rattle.blob_source.specs.Told.{Fault, TellsDirectory, FailsDirectory}
-use Rattle.tree.specs.Lookup.{Looked, nothing, LooksFrom, Looks, IsValue, AgreesWith, TellsOfTrees}
+use Rattle.tree.specs.Lookup.{Looked, nothing, LooksFrom, Looks, IsValue, AgreesWith}
 use Rattle.tree.proofs.OrderLemmas.{IsOrderedAt, entry_ordered}
 use Rattle.tree.proofs.Children.{child-directory_of}
 use Rattle.tree.proofs.DirectoryBytes.{directory_bytes_injective}
@@ -77,10 +76,7 @@ pub told_reads : (B : Blobs) (S : List ℕ → Type 0) → ((b : List ℕ) → I
 told_reads B S values apart t m own told = told_root B t S m values own apart told
 
 -- a look-up from a tree's root tells what the tree has
-pub looks_tell : (B : Blobs) (d : DigestValue) (p : List Name) (r : Looked) → Looks B d p r → TellsOfTrees B d p r
-looks_tell B d p r h = record {
-  of_tree = λ t ordered is apart.
-      let S : List ℕ → Type 0 = λ b. IsValue B b ⊎ IsBlobOf t b in
-      looks_from (TellsDirectory B) (FailsDirectory B) S (told_reads B S (λ b q. inl q) apart) p (Some (whole t)) r ordered (λ b q. inr q)
-      (subst (λ e. LooksFrom (TellsDirectory B) (FailsDirectory B) p (Some (Dir e)) r) (sym is) h);
-}
+pub looks_tell : (B : Blobs) (p : List Name) (r : Looked) (t : Tree Leaf) → IsOrdered t → NoClash (λ b. IsValue B b ⊎ IsBlobOf t b) → Looks B (root (form t)) p r → AgreesWith (option_map entry_node (tree_at t p)) r
+looks_tell B p r t ordered apart h =
+    let S : List ℕ → Type 0 = λ b. IsValue B b ⊎ IsBlobOf t b in
+    looks_from (TellsDirectory B) (FailsDirectory B) S (told_reads B S (λ b q. inl q) apart) p (Some (whole t)) r ordered (λ b q. inr q) h

@@ -93,6 +93,7 @@ module _ {d : DigestValue} {old new : Known} {before after : Telling} (known : I
     others = λ a not other. too.others a (λ is. not (is, λ empty. other (is ∙ ap blob empty)));
     once = λ list covers. let most = by_once list (λ other. covers (blob d) (refl, other)) (same_or_other d empty_digest) asked in omega (arith, most);
     learned = λ none list covers. by_once list (λ other. covers (blob d) (refl, other)) (same_or_other d empty_digest) asked;
+    last = λ list covers. let most = by_once list (λ other. covers (blob d) (refl, other)) (same_or_other d empty_digest) asked in omega (arith, most);
   }
     where
       still : IsKnownOf old after
@@ -142,6 +143,9 @@ module _ {old new : Known} {before after : Telling} (known : IsKnownOf old befor
         results = λ e x is. still.results e x (sym (same (result e)) ∙ is);
       }
 
+  one_lost : (list : List Asked) → after.calls + count_unknown new list ≤ before.calls + count_unknown old list + 1
+  one_lost list = let most = asks.most_calls in let rest = fewer old new (λ a b is. same a ∙ is) list in omega (arith, most, rest)
+
   pub learns_no_blob : {d : DigestValue} {refused : Type 0} → (d ≡ empty_digest → after ≡ before) → (old (blob d) ≡ None) ⊎ (after ≡ before) → refused → Learns (LooksAtBlob d) refused old new before after
   learns_no_blob {d} unasked asked is = record {
     known = same_known;
@@ -149,6 +153,7 @@ module _ {old new : Known} {before after : Telling} (known : IsKnownOf old befor
     others = λ a not other. same a;
     once = λ list covers. by list (λ other. covers (blob d) (refl, other)) (same_or_other d empty_digest) asked;
     learned = λ none list covers. absurd (none is);
+    last = λ list covers. one_lost list;
   }
     where
       by : (list : List Asked) → (d ≢ empty_digest → Contains list (blob d)) → (d ≡ empty_digest) ⊎ (d ≢ empty_digest) → (old (blob d) ≡ None) ⊎ (after ≡ before) → after.calls ≤ before.calls + count_unknown old list
@@ -163,6 +168,7 @@ module _ {old new : Known} {before after : Telling} (known : IsKnownOf old befor
     others = λ a not other. same a;
     once = λ list covers. let one = one_unknown old (result d) list none (covers (result d) refl) in let most = asks.most_calls in omega (arith, one, most);
     learned = λ not list covers. absurd (not is);
+    last = λ list covers. one_lost list;
   }
 
 -- ---- a result
@@ -181,6 +187,7 @@ learns_result {d} {old} {new} {before} {after} {b} known asks none held too = re
       let one = one_fewer old new kept (result d) b list none too.held (covers (result d) refl) in
       let most = asks.most_calls in
       omega (arith, one, most);
+  last = λ list covers. let most = asks.most_calls in let rest = fewer old new kept list in omega (arith, most, rest);
 }
   where
     still : IsKnownOf old after

@@ -8,8 +8,7 @@ use Rattle.blob_source.specs.Source.{Blobs}
 use Rattle.tree.specs.Tree.{Name, name_cmp, Tree, empty, Entry, single, whole, entry_of, IsBelowAll, IsOrdered, IsOrderedEntry}
 use Rattle.tree.specs.Form.{NodeValue}
 use Rattle.tree.specs.Graft.{put, graft, with_entry, IsApart, HaveApartTargets}
-use Rattle.tree.proofs.Apart.{apart_from}
-use Rattle.tree.specs.Visiting.{Apart}
+use Rattle.tree.proofs.Apart.{Apart, apart_from}
 use Rattle.tree.specs.Memo.{Asked}
 use Rattle.tree.specs.Stage.{Stage, ◌and_then◌}
 use Rattle.tree.specs.Merging.{NodeWithin, MergeLines, MergeFault, nodes_in, under_name, lines_at, first_names, is_repeated, counted, line_opened, opened, CanMeetAt, CanMeet, lone, entry_merged, each_name, merged_in}

@@ -19,7 +19,6 @@ use Rattle.tree.specs.Tree.{Name, name_cmp, Tree, Entry, single, whole, IsBelowA
 use Rattle.tree.specs.Form.{NodeValue, node_value}
 use Rattle.tree.specs.Folded.{IsNode, AreValid}
 use Rattle.tree.specs.Graft.{with_entry}
-use Rattle.tree.specs.Lines.{IsGraftLine}
 use Rattle.tree.specs.Stage.{Stage, ◌and_then◌}
 use Rattle.tree.specs.Merging.{WithinValue, in_source, in_tree, NodeWithin, MergeLines, MergeFault, under_name, lines_at, first_names, is_repeated, counted, IsHeldIn, AreHeld, ReadsWithin, child_lines, node_opened, line_opened, opened, met, node_here, lone, stands_or, entry_merged, each_name, merged_in, merge_lines}
 use Rattle.tree.specs.MergeParts.{IsValidLine, AreValidLines}
@@ -152,9 +151,9 @@ module _ (B : Blobs) where
 
 -- ---- the lines that are given
 
-pub lines_more : {A : Type 0} (ls : List (List Name × Node A × Within A)) (i : ℕ) (l : List Name × Node A × Within A) → i < length ls → l ≡ get_or ls i l → AreValidLines (merge_lines (take i ls)) → IsGraftLine (l.0, node_value l.1) → AreValidLines (merge_lines (take (i + 1) ls))
+pub lines_more : {A : Type 0} (ls : List (List Name × Node A × Within A)) (i : ℕ) (l : List Name × Node A × Within A) → i < length ls → l ≡ get_or ls i l → AreValidLines (merge_lines (take i ls)) → AllByRecursion IsName l.0 × IsNode (node_value l.1) → AreValidLines (merge_lines (take (i + 1) ls))
 lines_more {A} [] i l lt is h k = absurd (omega (arith, lt))
-lines_more {A} (y ∷ ys) zero l lt is h k = (subst (λ (r : List Name × Node A × Within A). IsGraftLine (r.0, node_value r.1)) is k, tt)
+lines_more {A} (y ∷ ys) zero l lt is h k = (subst (λ (r : List Name × Node A × Within A). AllByRecursion IsName r.0 × IsNode (node_value r.1)) is k, tt)
 lines_more {A} (y ∷ ys) (suc i) l lt is h k = subst (λ j. AreValidLines (merge_lines (take j (y ∷ ys)))) more (h.0, lines_more ys i l (omega (arith, lt)) is h.1 k)
   where
     more : suc (i + 1) ≡ suc i + 1

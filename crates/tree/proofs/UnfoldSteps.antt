@@ -85,9 +85,17 @@ tells_still B C empty g h = tt
 tells_still B C (leaf n x rest) g h = tells_still B C rest g h
 tells_still B C (folder n below rest) g h = ((told_still g h.0.0, tells_still B C below g h.0.1), tells_still B C rest g h.1)
 
+-- a tree that was told stays told
+pub unfolded_still : {B C : Blobs} {d : DigestValue} {es : FlatValue} → Grows B C → IsUnfolded B d es → IsUnfolded C d es
+unfolded_still {B} {C} g h = record {
+  tree = h.tree;
+  list = h.list;
+  told = record { root = h.told.root; top = told_still g h.told.top; below = tells_still B C h.tree g h.told.below };
+}
+
 -- ---- a child of the tree's Directory
 
-below_in : (k : Name) (t : Tree NodeValue) (n : Name) (x : NodeValue) (u : Tree NodeValue) → IsBelowAll k (beside t (leaf n x u)) → name_cmp k n ≡ Less
+pub below_in : (k : Name) (t : Tree NodeValue) (n : Name) (x : NodeValue) (u : Tree NodeValue) → IsBelowAll k (beside t (leaf n x u)) → name_cmp k n ≡ Less
 below_in k empty n x u h = h.0
 below_in k (leaf m y rest) n x u h = below_in k rest n x u h.1
 below_in k (folder m c rest) n x u h = below_in k rest n x u h.1
@@ -123,7 +131,7 @@ below_front k empty u h = tt
 below_front k (leaf n x rest) u h = (h.0, below_front k rest u h.1)
 below_front k (folder n below rest) u h = (h.0, below_front k rest u h.1)
 
-ordered_front : {L : Type 0} (t u : Tree L) → IsOrdered (beside t u) → IsOrdered t
+pub ordered_front : {L : Type 0} (t u : Tree L) → IsOrdered (beside t u) → IsOrdered t
 ordered_front empty u h = tt
 ordered_front (leaf n x rest) u h = (below_front n rest u h.0, ordered_front rest u h.1)
 ordered_front (folder n below rest) u h = (below_front n rest u h.0, h.1, ordered_front rest u h.2)

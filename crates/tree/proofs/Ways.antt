@@ -72,7 +72,7 @@ others_on_way {mid = mid} {new = new} d e p i x lt is way only grows unasked =
 -- ---- unfolding
 
 -- a node that was found is found still
-found_still : {B C : Blobs} → Grows B C → (p : List Name) (o : Option NodeValue) (x : NodeValue) → LooksFrom (TellsDirectory B) (FailsDirectory B) p o (found x) → LooksFrom (TellsDirectory C) (FailsDirectory C) p o (found x)
+pub found_still : {B C : Blobs} → Grows B C → (p : List Name) (o : Option NodeValue) (x : NodeValue) → LooksFrom (TellsDirectory B) (FailsDirectory B) p o (found x) → LooksFrom (TellsDirectory C) (FailsDirectory C) p o (found x)
 found_still grows p None x h = h
 found_still grows [] (Some y) x h = h
 found_still grows (n ∷ p) (Some (File d e)) x h = h

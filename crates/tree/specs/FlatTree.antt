@@ -4,6 +4,7 @@ use Rattle.std.specs.Prelude.{◌≡◌, ◌≢◌, ◌⊎◌, ℕ, ◌<◌, ◌
 use Rattle.std.specs.Prelude.{Option, Some, None, if◌then◌else◌}
 use Rattle.std.specs.List.{AllByRecursion}
 use Rattle.std.specs.Ordering.{eq_by_cmp}
+use Rattle.std.specs.declared.cmp.Ordering.TheVariants.{Less}
 use Rattle.std.specs.declared.vec.Vec.{Vec}
 use Rattle.messages.specs.declared.node.Node.TheVariants as nodes
 use Rattle.messages.specs.Path.{IsPath}
@@ -29,6 +30,11 @@ listed (folder n below rest) = (n ∷ [], a_directory) ∷ (under n (listed belo
 abbrev pub standing_in : {L : Type 0} → List (List Name × Standing L) → List Name → Standing L
 standing_in [] p = nothing
 standing_in (e ∷ entries) p = if eq_by_cmp path_cmp p e.0 then e.1 else standing_in entries p
+
+-- each path comes before those of all later entries
+abbrev pub Ascend : {X : Type 0} → List (List Name × X) → Type 0
+Ascend [] = Unit {0}
+Ascend (e ∷ entries) = AllByRecursion (λ f. path_cmp e.0 f.0 ≡ Less) entries × Ascend entries
 
 abbrev pub FlatValue : Type 0
 FlatValue = List (List Name × Standing NodeValue)

@@ -6,7 +6,6 @@ pub mod TreeError
 pub mod Memo
 pub mod Stage
 pub mod Folded
-pub mod Lines
 pub mod Visiting
 pub mod FlatTree
 pub mod Unfolded

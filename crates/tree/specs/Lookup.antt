@@ -1,12 +1,12 @@
 -- Looking up a path by digests, Directory by Directory.
-use Rattle.std.specs.Prelude.{◌≡◌, ◌⊎◌, ℕ, List, [], ◌∷◌, Option, Some, None, option_map}
-use Rattle.blob_digest.specs.Digest.{DigestValue, NoClash}
+use Rattle.std.specs.Prelude.{◌≡◌, ◌⊎◌, ℕ, List, [], ◌∷◌, Option, Some, None}
+use Rattle.blob_digest.specs.Digest.{DigestValue}
 use Rattle.messages.specs.declared.node.Node.{Node}
 use Rattle.messages.specs.declared.node.Node.TheVariants.{File, Link, Dir}
 use Rattle.messages.specs.DirectoryRules.{DirectoryValue}
 use Rattle.messages.specs.Node.{child}
-use Rattle.tree.specs.Tree.{Name, Tree, Leaf, tree_at, IsOrdered}
-use Rattle.tree.specs.Form.{NodeValue, node_value, entry_node, form, root, IsBlobOf}
+use Rattle.tree.specs.Tree.{Name}
+use Rattle.tree.specs.Form.{NodeValue, node_value}
 use Rattle.blob_source.specs.Source.{Blobs}
 use Rattle.blob_source.specs.Told.{Fault, TellsDirectory, FailsDirectory}
 
@@ -45,13 +45,6 @@ abbrev pub AgreesWith : Option NodeValue → Looked → Type 0
 AgreesWith o (fault f) = Unit {0}
 AgreesWith o nothing = o ≡ None
 AgreesWith o (found x) = o ≡ Some x
-
--- Of every tree with this digest, a look-up tells what stands at the path, if no two blobs of the
--- source and the tree share a digest.
-pub record TellsOfTrees (B : Blobs) (d : DigestValue) (p : List Name) (r : Looked) : Type 0 where
-  pub of_tree : (t : Tree Leaf) → IsOrdered t → root (form t) ≡ d
-      → NoClash (λ b. IsValue B b ⊎ IsBlobOf t b)
-      → AgreesWith (option_map entry_node (tree_at t p)) r
 
 -- the names of a path, and none where there is no path
 abbrev pub names_in : Option (List Name) → List Name

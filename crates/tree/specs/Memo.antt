@@ -77,8 +77,8 @@ Covers Looks list = (a : Asked) → Looks a → Contains list a
 
 -- Calls that look at these alone. What was known stays known, and what is known is what the source
 -- told. Nothing else is known then that wasn't; but the empty blob, which is always there, may be.
--- Of a list with all that they look at, the source is asked at most once for each that isn't known;
--- and, unless they are refused, what it was asked for is known then.
+-- Of a list with all that they look at, the source is asked at most once for each that isn't known.
+-- What it was asked for is known then; where they are refused, all of it but the last.
 pub record Learns (Looks : Asked → Type 0) (refused : Type 0) (old new : Known)
     (before after : Telling) : Type 0 where
   pub known : IsKnownOf new after
@@ -88,6 +88,8 @@ pub record Learns (Looks : Asked → Type 0) (refused : Type 0) (old new : Known
       → after.calls ≤ before.calls + count_unknown old list
   pub learned : (refused → ⊥) → (list : List Asked) → Covers Looks list
       → after.calls + count_unknown new list ≤ before.calls + count_unknown old list
+  pub last : (list : List Asked) → Covers Looks list
+      → after.calls + count_unknown new list ≤ before.calls + count_unknown old list + 1
 
 -- a call was refused
 abbrev pub WasRefused : {T E : Type 0} → Result T E → Type 0

@@ -11,7 +11,8 @@ use Rattle.tree.specs.declared.visiting.Visited.{Visited}
 use Rattle.blob_source.specs.Source.{Blobs}
 use Rattle.tree.specs.Tree.{Name, name_cmp, Tree, Entry, whole}
 use Rattle.tree.specs.Form.{NodeValue, node_value}
-use Rattle.tree.specs.Lines.{IsGraftLine}
+use Rattle.messages.specs.Name.{IsName}
+use Rattle.tree.specs.Folded.{IsNode}
 use Rattle.tree.specs.Stage.{Stage}
 use Rattle.tree.specs.Merging.{WithinValue, in_source, NodeWithin, MergeLines, MergeFault}
 use Rattle.tree.specs.Merging.{within_value, same_node, gives_node, is_repeated, met, merged_in}
@@ -62,7 +63,7 @@ IsVisitOfMerged check v = (t : Tree NodeValue) × check.passes t × IsVisitOf t 
 
 -- a line whose names and node keep their rules
 abbrev pub IsValidLine : List Name × NodeWithin → Type 0
-IsValidLine l = IsGraftLine (l.0, l.1.node)
+IsValidLine l = AllByRecursion IsName l.0 × IsNode l.1.node
 
 abbrev pub AreValidLines : MergeLines → Type 0
 AreValidLines ls = AllByRecursion IsValidLine ls

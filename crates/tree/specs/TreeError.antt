@@ -1,5 +1,5 @@
 -- What an error of a call on trees says.
-use Rattle.std.specs.Prelude.{◌≡◌, List}
+use Rattle.std.specs.Prelude.{◌≡◌, List, Result, Ok, Err}
 use Rattle.blob_digest.specs.Digest.{DigestValue}
 use Rattle.blob_source.specs.declared.source.FetchError.{FetchError}
 use Rattle.blob_source.specs.declared.source.FetchError.TheVariants as fetching
@@ -57,15 +57,11 @@ ExplainsLookup B d p (Conflict path) = ⊥
 ExplainsLookup B d p Fetch = Unit {0}
 ExplainsLookup B d p Memory = Unit {0}
 
-abbrev pub IsAbsent : {A : Type 0} → TreeError A → Type 0
-IsAbsent (Absent path) = Unit {0}
-IsAbsent (BlobMissing e) = ⊥
-IsAbsent (BlobWrong e) = ⊥
-IsAbsent (BlobMalformed e) = ⊥
-IsAbsent (TooDeep path) = ⊥
-IsAbsent (Conflict path) = ⊥
-IsAbsent Fetch = ⊥
-IsAbsent Memory = ⊥
+-- a look-up was cut short: it was refused, and not since nothing stands at the path
+abbrev pub IsCutShort : {A T : Type 0} → Result T (TreeError A) → Type 0
+IsCutShort (Ok x) = ⊥
+IsCutShort (Err (Absent path)) = ⊥
+IsCutShort (Err _) = Unit {0}
 
 -- Why nothing was added at a path: it is taken, unless memory ran out.
 abbrev pub IsOverlapAt : {A : Type 0} → AddError A → List Name → Type 0 → Type 0

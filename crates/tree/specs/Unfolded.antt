@@ -1,5 +1,6 @@
 -- The tree that a source tells under a digest, Directory by Directory, and why there is none.
-use Rattle.std.specs.Prelude.{◌≡◌, ◌≢◌, ℕ, ◌+◌, List, [], ◌∷◌, ◌++◌, length}
+use Rattle.std.specs.Prelude.{◌≡◌, ◌≢◌, ℕ, ◌+◌, ◌≤◌, List, [], ◌∷◌, ◌++◌, length}
+use Rattle.std.specs.List.{AllByRecursion}
 use Rattle.std.specs.declared.cmp.Ordering.TheVariants.{Less}
 use Rattle.blob_digest.specs.Digest.{DigestValue}
 use Rattle.messages.specs.declared.node.Node.TheVariants.{Dir}
@@ -11,10 +12,10 @@ use Rattle.tree.specs.declared.error.TreeError.TheVariants.{Fetch, Memory}
 use Rattle.tree.specs.Tree.{Name, path_cmp, Tree, empty, leaf, folder}
 use Rattle.tree.specs.Tree.{Standing, nothing, a_leaf, a_directory}
 use Rattle.tree.specs.Form.{NodeValue, no_children, directory_of, root}
-use Rattle.blob_source.specs.Source.{Blobs}
+use Rattle.blob_source.specs.Source.{Blobs, Telling}
 use Rattle.blob_source.specs.Told.{Fault, missing, wrong, malformed, TellsDirectory, FailsDirectory}
 use Rattle.tree.specs.Lookup.{found, Looks}
-use Rattle.tree.specs.FlatTree.{FlatValue, IsListOf}
+use Rattle.tree.specs.FlatTree.{Ascend, FlatValue, IsListOf}
 
 -- the Directory of each directory below the top is told
 abbrev pub TellsBelow : Blobs → Tree NodeValue → Type 0
@@ -44,6 +45,25 @@ directories_at a_directory = 1
 abbrev pub directories_in : FlatValue → ℕ
 directories_in [] = 0
 directories_in (e ∷ entries) = directories_at e.1 + directories_in entries
+
+-- ---- how often the source is asked
+
+-- what a look-up finds at a path
+abbrev pub FindsStanding : Blobs → DigestValue → List Name → Standing NodeValue → Type 0
+FindsStanding B d p nothing = ⊥
+FindsStanding B d p (a_leaf x) = Looks B d p (found x)
+FindsStanding B d p a_directory = (e : DigestValue) × Looks B d p (found (Dir e))
+
+-- What look-ups find at some paths of the tree, maybe at its root's. No path stands twice.
+pub record AreFound (B : Blobs) (d : DigestValue) (places : FlatValue) : Type 0 where
+  pub ascend : Ascend places
+  pub stand : AllByRecursion (λ e. FindsStanding B d e.0 e.1) places
+
+-- At most one call for each directory of the tree, as far as it is told.
+pub record AsksDirectories (B : Blobs) (d : DigestValue) (old new : Telling) : Type 0 where
+  pub places : FlatValue
+  pub found_there : AreFound B d places
+  pub few : new.calls ≤ old.calls + directories_in places
 
 -- ---- why there is none
 

@@ -1,39 +1,20 @@
 -- What the private functions that make a graft's Directories speak of: lines in the order of their
 -- targets' names, and the children of a directory that is being made.
-use Rattle.std.specs.Prelude.{◌≡◌, ◌≢◌, ℕ, ◌+◌, List, [], ◌∷◌, ◌++◌, map, length, nat_eq}
+use Rattle.std.specs.Prelude.{◌≡◌, ℕ, List, [], ◌∷◌, ◌++◌, map, nat_eq}
 use Rattle.std.specs.Prelude.{if◌then◌else◌}
-use Rattle.std.specs.List.{AllByRecursion}
 use Rattle.std.specs.Cmp.Lexicographic.{pointwise}
-use Rattle.std.specs.declared.cmp.Ordering.TheVariants.{Less}
 use Rattle.std.specs.declared.vec.Vec.{Vec}
 use Rattle.messages.specs.DirectoryRules.{DirectoryValue}
 use Rattle.tree.specs.declared.visiting.Line.{Line}
 use Rattle.tree.specs.declared.visiting.Children.{Children}
 use Rattle.tree.specs.declared.visiting.Visited.{Visited}
-use Rattle.tree.specs.Tree.{Name, path_cmp, Tree}
+use Rattle.tree.specs.Tree.{Name, Tree}
 use Rattle.tree.specs.Form.{NodeValue, root}
 use Rattle.tree.specs.Folded.{visited}
 use Rattle.tree.specs.FlatTree.{FlatValue, entry_value}
 use Rattle.tree.specs.declared.flat_tree.FlatEntry.{FlatEntry}
 
 -- ---- lines
-
--- each target comes before those of all later lines
-abbrev pub Ascend : {X : Type 0} → List (List Name × X) → Type 0
-Ascend [] = Unit {0}
-Ascend (l ∷ ls) = AllByRecursion (λ k. path_cmp l.0 k.0 ≡ Less) ls × Ascend ls
-
--- paths apart, name by name: neither equals the other or lies under it
-abbrev pub Apart : List Name → List Name → Type 0
-Apart [] q = ⊥
-Apart (n ∷ p) [] = ⊥
-Apart (n ∷ p) (m ∷ q) = n ≡ m → Apart p q
-
--- no target is empty, equals another or lies under it
-abbrev pub HaveApart : {X : Type 0} → List (List Name × X) → Type 0
-HaveApart [] = Unit {0}
-HaveApart (l ∷ ls) =
-    (l.0 ≢ []) × AllByRecursion (λ k. Apart l.0 k.0 × Apart k.0 l.0) ls × HaveApart ls
 
 abbrev pub first_under : {X : Type 0} → Name → List Name → X → List (List Name × X)
     → List (List Name × X)
@@ -44,11 +25,6 @@ first_under n (m ∷ p) x rest = if pointwise nat_eq m n then (p, x) ∷ rest el
 abbrev pub led : {X : Type 0} → Name → List (List Name × X) → List (List Name × X)
 led n [] = []
 led n (l ∷ ls) = first_under n l.0 l.1 (led n ls)
-
--- how many names the targets have
-abbrev pub count_of_names : {X : Type 0} → List (List Name × X) → ℕ
-count_of_names [] = 0
-count_of_names (l ∷ ls) = length l.0 + count_of_names ls
 
 -- the lines, with what stands at them
 abbrev pub lines_seen : {A T : Type 0} → List (Line A T) → List (List Name × T)

@@ -5,7 +5,6 @@ ghost use Rattle.messages.specs.Path.{IsPath};
 ghost use Rattle.tree.specs.Tree.{nothing, a_directory};
 ghost use Rattle.tree.specs.FlatTree.{standing_in, IsFlatTree, IsTaken, IsAdded, IsFirstMissing};
 ghost use Rattle.tree.specs.FlatTree.{entry_value, found_value, flat_value, path_values};
-ghost use Rattle.messages.specs.Path.{IsPath};
 ghost use Rattle.tree.specs.TreeError.{IsOverlapAt};
 
 use crate::error::{AddError, TreeError};

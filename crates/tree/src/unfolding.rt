@@ -1,5 +1,5 @@
 ghost use Rattle.std.specs.Prelude.{◌≡◌, ◌+◌, ◌≤◌, [], ◌∷◌, ◌++◌, IfOk, IfErr, IsErrOf, OnOk};
-ghost use Rattle.std.specs.Prelude.{option_map};
+ghost use Rattle.std.specs.Prelude.{option_copied};
 ghost use Rattle.std.specs.List.{AllByRecursion};
 ghost use Rattle.messages.specs.DirectoryRules.{directory_with};
 ghost use Rattle.messages.specs.DirectoryRules.{file_names, directory_names, symlink_names};
@@ -10,7 +10,8 @@ ghost use Rattle.tree.specs.FlatTree.{IsFlatTree, flat_value};
 ghost use Rattle.tree.specs.Lookup.{names_in};
 ghost use Rattle.tree.specs.LooksAt.{UnfoldLooksAt};
 ghost use Rattle.tree.specs.Memo.{AsksNoOther};
-ghost use Rattle.tree.specs.Unfolded.{IsUnfolded, ExplainsUnfold, directories_in};
+ghost use Rattle.tree.specs.Unfolded.{AsksDirectories, ExplainsUnfold, IsUnfolded};
+ghost use Rattle.tree.specs.Unfolded.{directories_in};
 ghost use Rattle.tree.specs.Unfolding.{child_values, made, AreChildren, ExplainsChild, Appends};
 
 use crate::error::TreeError;
@@ -114,8 +115,8 @@ pub(crate) fn child_path<A: Allocator + Copy>(
     name: &Name<A>,
 ) -> Result<Path<A>, TreeError<A>>
     ensures path { IfOk result (λ p.
-        p ≡ names_in (option_map (λ x. x.now) above.entry) ++ name.now ∷ []) }
-    ensures refused { IfErr result (λ e. ExplainsChild (option_map (λ x. x.now) above.entry) e) }
+        p ≡ names_in (option_copied above.entry) ++ name.now ∷ []) }
+    ensures refused { IfErr result (λ e. ExplainsChild (option_copied above.entry) e) }
 {
     let Some(above) = above else {
         return Ok(Path::of_name(alloc, name)?);
@@ -143,6 +144,8 @@ fn unfold_below<A: Allocator + Copy, S: BlobSource<A>>(
         (IsErrOf result TreeError.Fetch) }
     ensures only { AsksNoOther (UnfoldLooksAt (S.tells source.new).blobs digest.now)
         (S.tells source.old).blobs (S.tells source.new).blobs }
+    ensures once { AsksDirectories (S.tells source.new).blobs digest.now
+        (S.tells source.old) (S.tells source.new) }
     ensures few { OnOk result
         ((S.tells source.new).calls + directories_in (flat_value entries.old.items)
         ≤ (S.tells source.old).calls + 1 + directories_in (flat_value entries.new.items)) }
@@ -192,7 +195,10 @@ pub fn unfold<A: Allocator + Copy, S: BlobSource<A>>(
     // Nothing is asked for but the Directories of the tree.
     ensures only { AsksNoOther (UnfoldLooksAt (S.tells source.new).blobs root.now)
         (S.tells source.old).blobs (S.tells source.new).blobs }
-    // At most one call for the root and for each directory in it.
+    // At most one call for each path at which one of them stands, as far as they are told.
+    ensures once { AsksDirectories (S.tells source.new).blobs root.now
+        (S.tells source.old) (S.tells source.new) }
+    // Where all are, that is the root's and one for each directory in the tree.
     ensures few { IfOk result (λ tree.
         (S.tells source.new).calls ≤ (S.tells source.old).calls + 1 + directories_in tree) }
 {

@@ -26,14 +26,14 @@ use Rattle.tree.specs.declared.folding.Folded.{Folded}
 use Rattle.tree.specs.Difference.{FindsFirst, made_by}
 use Rattle.tree.specs.LooksAt.{Compares}
 use Rattle.tree.specs.Memo.{Asked}
-use Rattle.verifier.specs.LooksAt.{InputLooksAt}
+use Rattle.verifier.specs.LooksAt.{DifferenceLooksAt}
 use Rattle.blob_source.specs.Source.{Blobs, Grows}
 use Rattle.verifier.specs.declared.verdict.Cause.{Cause}
 use Rattle.verifier.specs.declared.fault.Fault as faults_type
 use Rattle.verifier.specs.Together.{Earlier, Resolves}
 use Rattle.verifier.specs.Answers.{IsDifference}
 use Rattle.verifier.specs.Stage.{ExplainsFault, Answers}
-use Rattle.verifier.specs.StepChecks.{IsRefusedOutput, OutputFault, grafted, result_held}
+use Rattle.verifier.specs.StepChecks.{IsRefusedOutput, OutputFault, same_input, result_held}
 use Rattle.verifier.proofs.Explained.{explains_map}
 use Rattle.verifier.proofs.Lines.{origin_still}
 
@@ -92,7 +92,7 @@ module _ {A : Type 0} where
 
 -- the comparison with the recorded input looks at what the check of it does
 pub input_looked : {A' : Type 0} (B : Blobs) (act : ActionValue) (t : Tree NodeValue) (f : Folded A') (input : DigestValue) → IsFoldOf t f → input ≡ act.input → f.root ≢ input
-    → (a : Asked) → Compares (made_by f) B 64 f.root input a → InputLooksAt B act t a
+    → (a : Asked) → Compares (made_by f) B 64 f.root input a → DifferenceLooksAt B act t a
 input_looked B act t f input fold is other a h = (
   (λ same. other (fold.root ∙ same ∙ sym is)),
   subst (λ own. Compares own B 64 (root t) act.input a) fold.directories (subst (λ g. Compares (made_by f) B 64 g act.input a) fold.root (subst (λ r. Compares (made_by f) B 64 f.root r a) is h)),
@@ -101,8 +101,8 @@ input_looked B act t f input fold is other a h = (
 module _ {A : Type 0} where
   -- why the graft isn't the recorded input
   pub input_explained : {A' : Type 0} (B : Blobs) (a : ActionValue) (t : Tree NodeValue) (f : Folded A') (input : DigestValue) (fault : faults_type.Fault A) → IsFoldOf t f → input ≡ a.input → f.root ≢ input
-      → ExplainsFault (IsDifference (made_by f) B f.root input) fault → ExplainsFault (grafted {A = A} B a t).fails fault
-  input_explained B a t f input fault fold is other h = explains_map (IsDifference (made_by f) B f.root input) (grafted {A = A} B a t).fails fault
+      → ExplainsFault (IsDifference (made_by f) B f.root input) fault → ExplainsFault (same_input {A = A} B a t).fails fault
+  input_explained B a t f input fault fold is other h = explains_map (IsDifference (made_by f) B f.root input) (same_input {A = A} B a t).fails fault
       (λ cause k. (
         (λ same. other (fold.root ∙ same ∙ sym is)),
         k.0,

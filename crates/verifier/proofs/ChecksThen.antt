@@ -12,14 +12,14 @@ use Rattle.plan.specs.Values.{LineValue, StepValue}
 use Rattle.blob_source.specs.Called.{Called}
 use Rattle.tree.specs.Tree.{Tree}
 use Rattle.tree.specs.Form.{NodeValue, root}
-use Rattle.blob_source.specs.Source.{Blobs, Telling, Grows}
+use Rattle.blob_source.specs.Source.{Telling, Grows}
+use Rattle.blob_source.proofs.Asking.{ok_no_error}
 use Rattle.blob_source.proofs.Calling.{called_none, called_ok, called_exit}
 use Rattle.tree.specs.Memo.{Asked, Known, IsKnownOf, WasRefused, Learns, LooksAtBlob}
 use Rattle.tree.proofs.Descent.{told_still}
 use Rattle.tree.proofs.Learning.{learns_none, learns_then, learns_more, learns_refused, refused_exit}
 use Rattle.tree.proofs.Ways.{compares_still}
-use Rattle.tree.specs.Folded.{first_visits, IsFoldOfPassed}
-use Rattle.tree.specs.declared.folding.Folded.{Folded}
+use Rattle.tree.specs.Folded.{first_visits}
 use Rattle.tree.specs.MergeLooks.{looks}
 use Rattle.tree.specs.Stage.{Stage, ◌and_then◌}
 use Rattle.tree.proofs.StageLaws.{looks_here, looks_next}
@@ -31,9 +31,9 @@ use Rattle.verifier.specs.Answers.{IsStopped}
 use Rattle.verifier.specs.Checks.{Checks}
 use Rattle.verifier.specs.declared.verifying.Checked.{Checked}
 use Rattle.verifier.specs.Stage.{ExplainsFault, Answers}
-use Rattle.verifier.specs.StepChecks.{message, together, grafted, result_held, read, step_check}
-use Rattle.verifier.specs.Together.{Earlier, put_together, TogetherLooksAt}
-use Rattle.verifier.specs.LooksAt.{InputLooksAt, ResultLooksAt, StepLooksAt, StepsLookAt}
+use Rattle.verifier.specs.StepChecks.{message, together, same_input, input_check, result_held, read, result_check, step_check}
+use Rattle.verifier.specs.Together.{Earlier, TogetherLooksAt}
+use Rattle.verifier.specs.LooksAt.{LooksAtNothing, DifferenceLooksAt, InputLooksAt, OutcomeLooksAt, ResultLooksAt, StepLooksAt, StepsLookAt}
 use Rattle.verifier.specs.Verdict.{located, steps_check}
 use Rattle.verifier.proofs.Looking.{together_still, together_looks_still, outputs_look_still}
 use Rattle.verifier.proofs.Stages.{fails_here, then_answers}
@@ -60,8 +60,8 @@ module _ {A : Type 0} where
   pub stable_together : (d : DigestValue) (os : List OutcomeValue) (ls : List LineValue) → IsStable (λ t. together {A = A} t.blobs d os ls)
   stable_together d os ls = record { still = λ old new g k v h. together_still old.blobs new.blobs d (slice_get os) ls v g h }
 
-  pub stable_grafted : (a : ActionValue) (made : Tree NodeValue) → IsStable (λ t. grafted {A = A} t.blobs a made)
-  stable_grafted a made = record { still = λ old new g k v h. h }
+  pub stable_same_input : (a : ActionValue) (made : Tree NodeValue) → IsStable (λ t. same_input {A = A} t.blobs a made)
+  stable_same_input a made = record { still = λ old new g k v h. h }
 
   pub stable_held : {d : DigestValue} → IsStable (λ t. result_held {A = A} t.results d)
   stable_held {d} = record { still = λ old new g k v h. (h.0, k d h.0 h.1, h.2) }
@@ -69,17 +69,20 @@ module _ {A : Type 0} where
   stable_read : (m : CommandValue) (r : ActionResultValue) → IsStable (λ t. read {A = A} t.blobs m r)
   stable_read m r = record { still = λ old new g k v h. (recorded_still old.blobs new.blobs r v g h.0, h.1) }
 
+  pub stable_input : (d : DigestValue) (os : List OutcomeValue) (ls : List LineValue) (a : ActionValue) → IsStable (λ t. input_check {A = A} t.blobs d os ls a)
+  stable_input d os ls a = stable_then (stable_together d os ls) (λ made. stable_same_input a made)
+
+  stable_result : (m : CommandValue) (d : DigestValue) → IsStable (λ t. result_check {A = A} t m d)
+  stable_result m d = stable_then stable_held (λ r. stable_then stable_without (λ _. stable_read m r))
+
   pub stable_step : (d : DigestValue) (os : List OutcomeValue) (s : StepValue) (recorded : DigestValue) → IsStable (λ t. step_check {A = A} t d os s recorded)
   stable_step d os s recorded =
       stable_then stable_message (λ a.
       stable_then stable_without (λ _.
       stable_then stable_message (λ m.
       stable_then stable_without (λ _.
-      stable_then (stable_together d os s.lines) (λ made.
-      stable_then (stable_grafted a made) (λ _.
-      stable_then stable_held (λ r.
-      stable_then stable_without (λ _.
-      stable_read m r))))))))
+      stable_then (stable_input d os s.lines a) (λ _.
+      stable_result m recorded)))))
 
   pub stable_steps : (d : DigestValue) (os : List OutcomeValue) (ss : List StepValue) (ds : List DigestValue) → IsStable (λ t. steps_check {A = A} t d os ss ds)
   stable_steps d os [] ds = stable_without
@@ -106,24 +109,27 @@ steady_looks {first = first} {here = here} {next = next} stable steady rest = re
 pub steady_together : (d : DigestValue) (os : Earlier) (ls : List LineValue) → IsSteady (λ t. TogetherLooksAt t.blobs d os ls)
 steady_together d os ls = record { still = λ old new g k a h. together_looks_still old.blobs new.blobs d os ls a g h }
 
-pub steady_input : (act : ActionValue) (made : Tree NodeValue) → IsSteady (λ t. InputLooksAt t.blobs act made)
-steady_input act made = record { still = λ old new g k a h. (h.0, compares_still (first_visits made) g a 64 (root made) act.input h.1) }
+pub steady_difference : (act : ActionValue) (made : Tree NodeValue) → IsSteady (λ t. DifferenceLooksAt t.blobs act made)
+steady_difference act made = record { still = λ old new g k a h. (h.0, compares_still (first_visits made) g a 64 (root made) act.input h.1) }
 
-pub steady_result : (m : CommandValue) (r : ActionResultValue) → IsSteady (λ t. ResultLooksAt t.blobs m r)
-steady_result m r = record { still = λ old new g k a h. (h.0, h.1, outputs_look_still old.blobs new.blobs m h.0 a g h.2) }
+steady_outcome : (m : CommandValue) (r : ActionResultValue) → IsSteady (λ t. OutcomeLooksAt t.blobs m r)
+steady_outcome m r = record { still = λ old new g k a h. (h.0, h.1, outputs_look_still old.blobs new.blobs m h.0 a g h.2) }
 
 module _ (A : Type 0) where
+  pub steady_input : (d : DigestValue) (os : List OutcomeValue) (ls : List LineValue) (act : ActionValue) → IsSteady (λ t. InputLooksAt A t.blobs d os ls act)
+  steady_input d os ls act = steady_looks (stable_together {A = A} d os ls) (steady_together d (slice_get os) ls) (λ made. steady_difference act made)
+
+  steady_result : (m : CommandValue) (d : DigestValue) → IsSteady (λ t. ResultLooksAt A t m d)
+  steady_result m d = steady_looks (stable_held {A = A}) steady_without (λ r. steady_looks stable_without steady_without (λ _. steady_outcome m r))
+
   pub steady_step : (d : DigestValue) (os : List OutcomeValue) (s : StepValue) (recorded : DigestValue) → IsSteady (λ t. StepLooksAt A t d os s recorded)
   steady_step d os s recorded =
       steady_looks (stable_message {A = A}) steady_without (λ a.
       steady_looks stable_without steady_without (λ _.
       steady_looks (stable_message {A = A}) steady_without (λ m.
       steady_looks stable_without steady_without (λ _.
-      steady_looks (stable_together {A = A} d os s.lines) (steady_together d (slice_get os) s.lines) (λ made.
-      steady_looks (stable_grafted {A = A} a made) (steady_input a made) (λ _.
-      steady_looks (stable_held {A = A}) steady_without (λ r.
-      steady_looks stable_without steady_without (λ _.
-      steady_result m r))))))))
+      steady_looks (stable_input {A = A} d os s.lines a) (steady_input d os s.lines a) (λ _.
+      steady_result m recorded)))))
 
   pub steady_steps : (d : DigestValue) (os : List OutcomeValue) (ss : List StepValue) (ds : List DigestValue) → IsSteady (λ t. StepsLookAt A t d os ss ds)
   steady_steps d os [] ds = steady_without
@@ -134,15 +140,14 @@ module _ (A : Type 0) where
 pub looked_blob : {d e : DigestValue} {refused : Type 0} {k0 k1 : Known} {t0 t1 : Telling} → d ≡ e → Learns (LooksAtBlob d) refused k0 k1 t0 t1 → Learns (LooksAtBlob e) refused k0 k1 t0 t1
 looked_blob same h = learns_more (λ a k. subst (λ x. LooksAtBlob x a) same k) (λ n. n) h
 
-pub looked_lines : (d : DigestValue) (os : Earlier) {ls ls' : List LineValue} {refused : Type 0} {k0 k1 : Known} {t0 t1 : Telling} → ls ≡ ls' → Learns (TogetherLooksAt t1.blobs d os ls) refused k0 k1 t0 t1 → Learns (TogetherLooksAt t1.blobs d os ls') refused k0 k1 t0 t1
-looked_lines d os {t1 = t1} same h = learns_more (λ a k. subst (λ x. TogetherLooksAt t1.blobs d os x a) same k) (λ n. n) h
-
-pub input_made : {A : Type 0} (B : Blobs) (d : DigestValue) (os : Earlier) {ls ls' : List LineValue} {f : Folded A} → ls ≡ ls' → IsFoldOfPassed (put_together B d os ls) f → IsFoldOfPassed (put_together B d os ls') f
-input_made B d os {f = f} same h = subst (λ x. IsFoldOfPassed (put_together B d os x) f) same h
-
 pub stopped_exit : {A E : Type 0} (r : Result (Checked A) E) (P : E → Type 0) → IsErrAnd r P → IsStopped r
 stopped_exit (Ok x) P exit = elim exit [ ]
 stopped_exit (Err e) P exit = tt
+
+-- what the check of the input did, said of the same lines by another name
+pub input_checked : {A : Type 0} (d : DigestValue) (os : List OutcomeValue) (a : ActionValue) {ls ls' : List LineValue} {k0 k1 : Known} {t0 t1 : Telling} {r : Result (Unit {0}) (Fault A)} → ls ≡ ls'
+    → Checks (λ t. input_check t.blobs d os ls a) (λ t. InputLooksAt A t.blobs d os ls a) k0 k1 t0 t1 r → Checks (λ t. input_check t.blobs d os ls' a) (λ t. InputLooksAt A t.blobs d os ls' a) k0 k1 t0 t1 r
+input_checked {A} d os a {k0 = k0} {k1 = k1} {t0 = t0} {t1 = t1} {r = r} same h = subst (λ ls. Checks (λ t. input_check {A = A} t.blobs d os ls a) (λ t. InputLooksAt A t.blobs d os ls a) k0 k1 t0 t1 r) same h
 
 -- ---- answers
 
@@ -180,3 +185,18 @@ module _ {A V W : Type 0} where
     called = called_exit exit k;
     learned = learns_refused (λ a at. looks_here (first new) (here new) (further new) a at) (refused_exit r (λ e. e ≡ f) exit) l;
   }
+
+module _ {A V U W : Type 0} where
+  -- a check of the source passed, and after it one that asks no source
+  pub checks_then_here : {first : Telling → Stage (Cause A) V} (check : V → Stage (Cause A) U) (next : Telling → V → U → Stage (Cause A) W) {here : Telling → Asked → Type 0} (further : Telling → V → U → Asked → Type 0) {k0 k1 k2 : Known}
+      {old mid new : Telling} {v : V} {u : U} {r : Result W (Fault A)} → IsStable first → IsSteady here → Checks first here k0 k1 old mid (Ok v) → (check v).passes u → Checks (λ t. next t v u) (λ t. further t v u) k1 k2 mid new r
+      → Checks (λ t. first t and_then λ v. check v and_then next t v) (λ t. looks (first t) (here t) (λ v. looks (check v) LooksAtNothing (further t v))) k0 k2 old new r
+  checks_then_here check next further stable steady h passes k =
+      checks_then _ _ stable steady h (checks_then _ _ stable_without steady_without (checks_none _ _ _ h.learned.known passes ok_no_error) k)
+
+  -- after it one failed that asks no source
+  pub checks_here_exit : {T : Type 0} {first : Telling → Stage (Cause A) V} (check : V → Stage (Cause A) U) (next : Telling → V → U → Stage (Cause A) W) {here : Telling → Asked → Type 0} (further : Telling → V → U → Asked → Type 0) {k0 k1 : Known}
+      {old mid : Telling} {v : V} {f : Fault A} {r : Result W (Fault A)} → IsStable first → IsSteady here → Checks first here k0 k1 old mid (Ok v) → IsErrAnd r (λ e. e ≡ f) → ExplainsFault (check v).fails f → (IsErrOf {T = T} (Err f) faults.Fetch → ⊥)
+      → Checks (λ t. first t and_then λ v. check v and_then next t v) (λ t. looks (first t) (here t) (λ v. looks (check v) LooksAtNothing (further t v))) k0 k1 old mid r
+  checks_here_exit check next further stable steady h exit fails none =
+      checks_then _ _ stable steady h (checks_exit _ _ _ _ exit fails (called_none none) (learns_none {refused = Unit {0}} h.learned.known))

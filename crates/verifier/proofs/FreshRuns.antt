@@ -39,7 +39,7 @@ use Rattle.tree.proofs.SameRoot.{same_root}
 use Rattle.tree.proofs.TreeDigests.{IsDigest-digest_of, only_empty}
 use Rattle.verifier.specs.Together.{LooksUpOrigin, StandsAtOrigin, Resolves}
 use Rattle.verifier.specs.AsRecorded.{IsPlanAsRecorded}
-use Rattle.verifier.specs.Build.{Meaning, ActionMeaning, action_digest, Outcome, output_at, StepFits, MeaningFits, Event, start, finish, lose, State, opening, outcome_of, job_of, origin_at, origins, graft_of, step_action, action_of, started, finished, lost, happens, IsTable, Obeys, IsRun, HasFinishedAll}
+use Rattle.verifier.specs.Build.{Meaning, ActionMeaning, action_digest, Outcome, output_at, StepFits, MeaningFits, Event, start, finish, lose, State, opening, outcome_of, job_of, origin_at, origins, merge_of, step_action, action_of, started, finished, lost, happens, IsTable, Obeys, IsRun, HasFinishedAll}
 use Rattle.verifier.specs.Headline.{IsDirectoryInTree, IsBlobOfEntry, IsBlobOfAction, IsBlobOfOutcome, IsBlobOfEvent, IsBlobOfEvents, IsBlobOfChosen, HasFinished, IsNotStuck, IsAsChosen}
 use Rattle.verifier.specs.Recorded.{Agrees, IsRecordedAs, RecordsAt}
 use Rattle.verifier.proofs.HeldOrigins.{source_held, outcome_held}
@@ -257,7 +257,7 @@ module _ (S : List ℕ → Type 0) (apart : NoClash S) where
 
       -- what lines whose steps have finished put together is there, with the digest that was found
       grafts : (s : State) → Keeps s → (ls : List LineValue) → ArePaths ls → (xs : MergeLines) → Resolves B src (slice_get h.outcomes) ls xs → (made : Tree NodeValue) → (merged B xs).passes made → HaveFinished s ls
-          → (g : Tree Leaf) × (graft_of t s ls ≡ Some g) × (root (form g) ≡ root made) × IsOrdered g
+          → (g : Tree Leaf) × (merge_of t s ls ≡ Some g) × (root (form g) ≡ root made) × IsOrdered g
       grafts s keeps ls paths xs r made merges done = told_graft S t s apart B within.values (lines_tell s keeps ls paths xs r done) made merges
 
       -- where a graft is there, the steps that its lines read have finished
@@ -279,7 +279,7 @@ module _ (S : List ℕ → Type 0) (apart : NoClash S) where
           by (Some e) None at those is rest = absurd cc
           by (Some e) (Some others) at those is rest = (origin_finished s l.origin e at, rest others those)
 
-      graft_finished : (s : State) (ls : List LineValue) (g : Tree Leaf) → graft_of t s ls ≡ Some g → HaveFinished s ls
+      graft_finished : (s : State) (ls : List LineValue) (g : Tree Leaf) → merge_of t s ls ≡ Some g → HaveFinished s ls
       graft_finished s ls g is = by (origins t s ls) refl is
         where
           by : (q : Option (List (List Name × Entry Leaf))) → origins t s ls ≡ q → option_and_then merge q ≡ Some g → HaveFinished s ls
@@ -290,31 +290,31 @@ module _ (S : List ℕ → Type 0) (apart : NoClash S) where
 
       -- the action of a step, by its frame and its command
       action_made : (s : State) (i : ℕ) (step : StepValue) (at : slice_get plan.steps i ≡ Some step)
-          → action_of plan meaning t s i ≡ option_map {U = ActionMeaning} (λ input. record { frame = (fits.steps i step at).0; command = (fits.steps i step at).1; input = input }) (graft_of t s step.lines)
+          → action_of plan meaning t s i ≡ option_map {U = ActionMeaning} (λ input. record { frame = (fits.steps i step at).0; command = (fits.steps i step at).1; input = input }) (merge_of t s step.lines)
       action_made s i step at =
           let f = fits.steps i step at in
           ap (option_and_then (step_action meaning t s i)) at
-          ∙ ap (λ q. option_and_then {U = ActionMeaning} (λ (frame : FrameValue). option_and_then {U = ActionMeaning} (λ (command : CommandValue). option_map {U = ActionMeaning} (λ input. record { frame = frame; command = command; input = input }) (graft_of t s step.lines)) (slice_get meaning.commands i)) q) f.2
-          ∙ ap (λ q. option_and_then {U = ActionMeaning} (λ (command : CommandValue). option_map {U = ActionMeaning} (λ input. record { frame = f.0; command = command; input = input }) (graft_of t s step.lines)) q) f.3
+          ∙ ap (λ q. option_and_then {U = ActionMeaning} (λ (frame : FrameValue). option_and_then {U = ActionMeaning} (λ (command : CommandValue). option_map {U = ActionMeaning} (λ input. record { frame = frame; command = command; input = input }) (merge_of t s step.lines)) (slice_get meaning.commands i)) q) f.2
+          ∙ ap (λ q. option_and_then {U = ActionMeaning} (λ (command : CommandValue). option_map {U = ActionMeaning} (λ input. record { frame = f.0; command = command; input = input }) (merge_of t s step.lines)) q) f.3
 
       -- an action that a step may start with
       pub record IsActionOf (s : State) (i : ℕ) (a : ActionMeaning) : Type 0 where
         pub step : StepValue
         pub at : slice_get plan.steps i ≡ Some step
         pub fit : StepFits step.frame a.frame a.command
-        pub grafted : graft_of t s step.lines ≡ Some a.input
+        pub grafted : merge_of t s step.lines ≡ Some a.input
 
       action_is : (s : State) (i : ℕ) (a : ActionMeaning) → action_of plan meaning t s i ≡ Some a → IsActionOf s i a
       action_is s i a is = by (slice_get plan.steps i) refl
         where
           by : (q : Option StepValue) → slice_get plan.steps i ≡ q → IsActionOf s i a
           by None at = absurd (let none : ◌≡◌ {A = Option ActionMeaning} None (Some a) = sym (ap (option_and_then (step_action meaning t s i)) at) ∙ is in cc)
-          by (Some step) at = made (graft_of t s step.lines) refl (sym (action_made s i step at) ∙ is)
+          by (Some step) at = made (merge_of t s step.lines) refl (sym (action_made s i step at) ∙ is)
             where
               f : (frame : FrameValue) × (command : CommandValue) × (slice_get meaning.frames i ≡ Some frame) × (slice_get meaning.commands i ≡ Some command) × StepFits step.frame frame command
               f = fits.steps i step at
 
-              made : (g : Option (Tree Leaf)) → graft_of t s step.lines ≡ g → option_map {U = ActionMeaning} (λ input. record { frame = f.0; command = f.1; input = input }) g ≡ Some a → IsActionOf s i a
+              made : (g : Option (Tree Leaf)) → merge_of t s step.lines ≡ g → option_map {U = ActionMeaning} (λ input. record { frame = f.0; command = f.1; input = input }) g ≡ Some a → IsActionOf s i a
               made None grafted is = absurd cc
               made (Some g) grafted is =
                   let whole_action : ◌≡◌ {A = ActionMeaning} (record { frame = f.0; command = f.1; input = g }) a = cc in
@@ -345,7 +345,7 @@ module _ (S : List ℕ → Type 0) (apart : NoClash S) where
           let command = command_bytes_injective a.command A.command p.fit.command_valid valid.command commands in
           -- and the graft of the lines is its input
           let g = grafts s keeps p.step.lines (step_paths [] plan.steps rules.steps i p.step p.at) r.nodes r.resolved r.tree r.put_together (graft_finished s p.step.lines a.input p.grafted) in
-          let same : g.0 ≡ a.input = one_answer (graft_of t s p.step.lines) g.0 a.input g.1 p.grafted in
+          let same : g.0 ≡ a.input = one_answer (merge_of t s p.step.lines) g.0 a.input g.1 p.grafted in
           let roots : root (form a.input) ≡ root (form A.input) = ap (λ u. root (form u)) (sym same) ∙ g.2 ∙ r.input ∙ told_input in
           let input = same_root S apart a.input A.input (subst IsOrdered same g.3) valid.input (λ b q. blobs b (inr (inr q))) (λ b q. picked b (inr (inr q))) roots in
           λ i. record { frame = frame i; command = command i; input = input i }
@@ -400,7 +400,7 @@ module _ (S : List ℕ → Type 0) (apart : NoClash S) where
 
       -- A complete run ends in a tree with the claim as its digest.
       pub end_tree : (end : State) → Keeps end → HasFinishedAll plan end
-          → (g : Tree Leaf) × (graft_of t end plan.root_lines ≡ Some g) × (root (form g) ≡ claim) × IsOrdered g
+          → (g : Tree Leaf) × (merge_of t end plan.root_lines ≡ Some g) × (root (form g) ≡ claim) × IsOrdered g
       end_tree end keeps all =
           let paths = paths_of (length plan.steps) plan.root_lines rules.root_lines.each in
           let g = grafts end keeps plan.root_lines paths h.root.nodes h.root.resolved h.root.tree h.root.put_together (finished_all end all plan.root_lines h.root.nodes h.root.resolved) in

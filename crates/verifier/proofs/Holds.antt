@@ -9,7 +9,7 @@ use Rattle.tree.specs.Form.{form, root}
 use Rattle.blob_source.specs.Source.{Blobs, Telling}
 use Rattle.verifier.specs.declared.verdict.Verdict.{Verdict}
 use Rattle.verifier.specs.AsRecorded.{IsPlanAsRecorded}
-use Rattle.verifier.specs.Build.{HasFinishedAll, graft_of}
+use Rattle.verifier.specs.Build.{HasFinishedAll, merge_of}
 use Rattle.verifier.specs.Headline.{IsConcerned, PlanRun, RunsFrom, EveryRunEndsIn, EveryRunIsAsChosen, NoRunIsStuck}
 use Rattle.verifier.specs.Verdict.{IsVerdict, IsYes}
 use Rattle.verifier.proofs.FreshRuns.{Within, runs_keep, end_tree, nothing_is_stuck, runs_as_chosen}
@@ -27,7 +27,7 @@ module _ (B C : Blobs) (sources : DigestValue) (plan : PlanValue) (ds : List Dig
 
   -- the tree is in order, so that it may be the sources of another plan
   pub recorded_tree : (t : Tree Leaf) (r : PlanRun) → IsOrdered t → root (form t) ≡ sources → RunsFrom B C plan ds t r → HasFinishedAll plan r.now
-      → (g : Tree Leaf) × (graft_of t r.now plan.root_lines ≡ Some g) × (root (form g) ≡ claim) × IsOrdered g
+      → (g : Tree Leaf) × (merge_of t r.now plan.root_lines ≡ Some g) × (root (form g) ≡ claim) × IsOrdered g
   recorded_tree t r ordered is k all =
       let S : List ℕ → Type 0 = IsConcerned B plan r.meaning t r.chosen r.events in
       let keeps = runs_keep S k.apart B C t r.chosen (concerned t r) sources plan ds claim r.meaning r.table ordered is k.fits k.table k.agrees valid h r.now r.events (λ b q. inr (inr (inr q))) k.happened in

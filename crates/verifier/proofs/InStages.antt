@@ -5,7 +5,7 @@ use Rattle.blob_digest.specs.Digest.{DigestValue}
 use Rattle.tree.specs.Tree.{Tree, Leaf, IsOrdered}
 use Rattle.tree.specs.Form.{form, root}
 use Rattle.verifier.specs.AsRecorded.{IsPlanAsRecorded}
-use Rattle.verifier.specs.Build.{HasFinishedAll, graft_of}
+use Rattle.verifier.specs.Build.{HasFinishedAll, merge_of}
 use Rattle.verifier.specs.BuildStages.{BuildStage, IsYesFrom, AreYes, last_claim, RunsStage, EndsIn, RunInTurn}
 use Rattle.verifier.specs.Headline.{PlanRun, IsNotStuck}
 use Rattle.verifier.proofs.Holds.{recorded_tree, recorded_unstuck}
@@ -22,7 +22,7 @@ module _ (A : Type 0) where
     pub same : root (form t) ≡ digest
 
   ended : (sources : DigestValue) (s : BuildStage) → IsYesFrom A sources s → (t : Tree Leaf) → IsStart sources t → (r : PlanRun) → RunsStage t s r → HasFinishedAll s.plan r.now
-      → (g : Tree Leaf) × (graft_of t r.now s.plan.root_lines ≡ Some g) × (root (form g) ≡ s.claim) × IsOrdered g
+      → (g : Tree Leaf) × (merge_of t r.now s.plan.root_lines ≡ Some g) × (root (form g) ≡ s.claim) × IsOrdered g
   ended sources s y t at r runs all =
       recorded_tree s.tells.blobs s.tells.results sources s.plan s.recorded s.claim y.planned (as_recorded sources s y) t r at.ordered at.same runs all
 

@@ -18,7 +18,7 @@ use Rattle.tree.specs.Merging.{NodeWithin, MergeLines, conflict, IsHeldIn, AreHe
 use Rattle.tree.proofs.MergeTold.{merges_tell}
 use Rattle.tree.proofs.MergeTotal.{tells_merge}
 use Rattle.tree.proofs.OrderLemmas.{IsOrderedAt}
-use Rattle.verifier.specs.Build.{State, origin_at, origins, graft_of}
+use Rattle.verifier.specs.Build.{State, origin_at, origins, merge_of}
 use Rattle.verifier.proofs.HeldOrigins.{IsValidTree}
 use Rattle.verifier.proofs.OutputLookups.{HoldsOutput, mapped_from}
 use Rattle.verifier.proofs.Targets.{some_names}
@@ -85,12 +85,12 @@ module _ (S : List ℕ → Type 0) where
           inside b (inr (inl u)) = x.trees b u
           inside b (inr (inr y)) = x.blobs b y
 
-      pub told_graft : (made : Tree NodeValue) → (merged B xs).passes made → (g : Tree Leaf) × (graft_of t s ls ≡ Some g) × (root (form g) ≡ root made) × IsOrdered g
+      pub told_graft : (made : Tree NodeValue) → (merged B xs).passes made → (g : Tree Leaf) × (merge_of t s ls ≡ Some g) × (root (form g) ≡ root made) × IsOrdered g
       told_graft made merges =
           let g = (merges_tell B xs).trees x.entries x.held x.stand of_lines made merges in
           (g.0, ap (option_and_then merge) x.are ∙ (tells_merge x.entries).complete x.mergeable g.0 g.1, g.2, g.1.ordered)
 
-      pub no_graft_told : (p : List Name) → (merged B xs).fails (conflict p) → graft_of t s ls ≡ None
+      pub no_graft_told : (p : List Name) → (merged B xs).fails (conflict p) → merge_of t s ls ≡ None
       no_graft_told p fails = ap (option_and_then merge) x.are ∙ by (merge x.entries) refl
         where
           by : (q : Option (Tree Leaf)) → merge x.entries ≡ q → q ≡ None

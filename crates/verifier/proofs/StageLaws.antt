@@ -4,7 +4,7 @@ use Rattle.verifier.specs.declared.verdict.Cause.{Cause}
 use Rattle.verifier.specs.declared.verdict.Place.{Place}
 use Rattle.tree.specs.Stage.{Stage}
 use Rattle.tree.proofs.StageLaws.{IsOnce, IsTotal}
-use Rattle.verifier.specs.Stage.{with_faults_named}
+use Rattle.verifier.specs.Together.{with_faults_named}
 use Rattle.verifier.specs.Verdict.{located}
 
 -- one answer

@@ -25,7 +25,7 @@ use Rattle.tree.proofs.StageLaws.{IsOnce, once_then, once_demands}
 use Rattle.verifier.specs.declared.verdict.Cause.{Cause}
 use Rattle.verifier.specs.AsRecorded.{IsAsRecorded}
 use Rattle.verifier.specs.Faults.{cause_of_fault, cause_of_lines}
-use Rattle.verifier.specs.StepChecks.{difference_cause, OutputFault, message, together, grafted, result_held, read, step_check}
+use Rattle.verifier.specs.StepChecks.{difference_cause, OutputFault, message, together, same_input, input_check, result_held, read, result_check, step_check}
 use Rattle.verifier.specs.Verdict.{root_check}
 use Rattle.verifier.proofs.StepsOnce.{IsSpelledOnce, told_once, output_fault_is_one, fault_or_all, bytes_are, none_some}
 use Rattle.verifier.specs.Together.{Earlier, of_merge, resolved, put_together}
@@ -59,8 +59,8 @@ module _ {A : Type 0} where
   once_together : (B : Blobs) (sources : DigestValue) (outcomes : List OutcomeValue) (lines : List LineValue) → AreValid outcomes → IsOnce (together {A = A} B sources outcomes lines)
   once_together B sources outcomes lines valid = once_named cause_of_lines _ (once_put_together B sources (slice_get outcomes) lines (valid_there outcomes valid))
 
-  once_grafted : (B : Blobs) (a : ActionValue) (t : Tree NodeValue) → IsOnce (grafted {A = A} B a t)
-  once_grafted B a t = record {
+  once_same_input : (B : Blobs) (a : ActionValue) (t : Tree NodeValue) → IsOnce (same_input {A = A} B a t)
+  once_same_input B a t = record {
     value = λ v w p q. refl;
     why = λ c e p q. p.3 ∙ ap difference_cause (finds_first_once (first_visits t) B (root t) a.input p.1 q.1 p.2 q.2) ∙ sym q.3;
     either = λ v c p q. q.0 p;
@@ -90,6 +90,12 @@ module _ {A : Type 0} where
     either = λ o c p q. fault_or_all B m q.0 o.outputs c q.2 (subst (λ xs. StandForAll B xs o.outputs) (outputs_once r p.0.recorded q.0 p.0.ordered q.1) p.0.outputs) p.1;
   }
 
+  once_input : (B : Blobs) (sources : DigestValue) (outcomes : List OutcomeValue) (lines : List LineValue) (a : ActionValue) → AreValid outcomes → IsOnce (input_check {A = A} B sources outcomes lines a)
+  once_input B sources outcomes lines a valid = once_then _ _ (once_together B sources outcomes lines valid) (λ made _. once_same_input B a made)
+
+  once_result : (t : Telling) (m : CommandValue) (d : DigestValue) → IsOnce (result_check {A = A} t m d)
+  once_result t m d = once_then _ _ (once_held t.results d) (λ r _. once_then _ _ (once_demands _ _) (λ _ _. once_read t.blobs m r))
+
   -- ---- and all of them
 
   pub once_step : (t : Telling) (sources : DigestValue) (outcomes : List OutcomeValue) (s : StepValue) (d : DigestValue) → AreValid outcomes → IsOnce (step_check {A = A} t sources outcomes s d)
@@ -98,11 +104,8 @@ module _ {A : Type 0} where
       once_then _ _ (once_demands _ _) (λ _ _.
       once_then _ _ (once_message IsCommand command_bytes command_bytes_injective t.blobs a.frame.command) (λ m _.
       once_then _ _ (once_demands _ _) (λ _ _.
-      once_then _ _ (once_together t.blobs sources outcomes s.lines valid) (λ made _.
-      once_then _ _ (once_grafted t.blobs a made) (λ _ _.
-      once_then _ _ (once_held t.results d) (λ r _.
-      once_then _ _ (once_demands _ _) (λ _ _.
-      once_read t.blobs m r))))))))
+      once_then _ _ (once_input t.blobs sources outcomes s.lines a valid) (λ _ _.
+      once_result t m d)))))
 
   pub once_root : (t : Telling) (sources : DigestValue) (outcomes : List OutcomeValue) (lines : List LineValue) (claim : DigestValue) → AreValid outcomes → IsOnce (root_check {A = A} t sources outcomes lines claim)
   once_root t sources outcomes lines claim valid = once_then _ _ (once_together t.blobs sources outcomes lines valid) (λ made _. once_demands _ _)
@@ -112,7 +115,7 @@ module _ {A : Type 0} where
 module _ (A : Type 0) (t : Telling) (sources : DigestValue) (before : List OutcomeValue) (s : StepValue) (d : DigestValue) (o : OutcomeValue) where
   pub recorded_from : (step_check {A = A} t sources before s d).passes o → IsAsRecorded t.blobs t.results sources before s d o
   unfolding ◌and_then◌
-  recorded_from (action, action_told, (_, cached, (command, command_told, (_, frame, (made, (nodes, origins, merges), (_, input, (result, kept, (_, exit_code, (recorded, listed))))))))) = record {
+  recorded_from (action, action_told, (_, cached, (command, command_told, (_, frame, (_, (made, (nodes, origins, merges), input), (result, kept, (_, exit_code, (recorded, listed)))))))) = record {
     action = action;
     command = command;
     nodes = nodes;
@@ -134,4 +137,4 @@ module _ (A : Type 0) (t : Telling) (sources : DigestValue) (before : List Outco
   pub from_recorded : IsAsRecorded t.blobs t.results sources before s d o → (step_check {A = A} t sources before s d).passes o
   unfolding ◌and_then◌
   from_recorded h =
-      (h.action, h.action_told, (tt, h.may_be_cached, (h.command, h.command_told, (tt, h.frame, (h.tree, (h.nodes, h.resolved, h.put_together), (tt, h.input, (h.result, h.held, (tt, h.exit_code, (h.recorded, h.listed)))))))))
+      (h.action, h.action_told, (tt, h.may_be_cached, (h.command, h.command_told, (tt, h.frame, (tt, (h.tree, (h.nodes, h.resolved, h.put_together), h.input), (h.result, h.held, (tt, h.exit_code, (h.recorded, h.listed))))))))

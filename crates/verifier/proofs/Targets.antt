@@ -17,7 +17,7 @@ use Rattle.tree.proofs.MergeTotal.{tells_merge}
 use Rattle.tree.proofs.OrderLemmas.{IsOrderedAt, ordered_at}
 use Rattle.blob_source.specs.Source.{Blobs}
 use Rattle.verifier.specs.Together.{Earlier, Resolves}
-use Rattle.verifier.specs.Build.{Outcome, IsTreeOutcome, State, outcome_of, below_path, output_from, output_at, origin_at, origins, graft_of, AreLinesOf}
+use Rattle.verifier.specs.Build.{Outcome, IsTreeOutcome, State, outcome_of, below_path, output_from, output_at, origin_at, origins, merge_of, AreLinesOf}
 
 -- ---- the lines of a plan
 
@@ -136,7 +136,7 @@ module _ (t : Tree Leaf) (s : State) (ordered : IsOrdered t) (outcomes : AllByRe
   mergeable (l ∷ ls) (e ∷ es) h paths k = ((subst (λ p. p ≢ []) (sym h.0) (some_names l.target paths.0.some), k.0), mergeable ls es h.1 paths.1 k.1)
 
   -- where no target overlaps another, lines put together their graft
-  pub apart_grafted : (ls : List LineValue) → ArePaths ls → NoTargetsOverlap ls → graft_of t s ls ≡ option_map (λ es. expand (graft es)) (origins t s ls)
+  pub apart_grafted : (ls : List LineValue) → ArePaths ls → NoTargetsOverlap ls → merge_of t s ls ≡ option_map (λ es. expand (graft es)) (origins t s ls)
   apart_grafted ls paths free = by (origins t s ls) refl
     where
       by : (q : Option (List (List Name × Entry Leaf))) → origins t s ls ≡ q → option_and_then merge q ≡ option_map (λ es. expand (graft es)) q

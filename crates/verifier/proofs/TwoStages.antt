@@ -10,7 +10,7 @@ use Rattle.tree.specs.Stage.{◌and_then◌}
 use Rattle.verifier.specs.declared.verdict.Cause.TheVariants.{BlobMissing, RootDiffers}
 use Rattle.verifier.specs.declared.verdict.Place.TheVariants.{Root, Step}
 use Rattle.verifier.specs.declared.verdict.Verdict.TheVariants.{Yes, No}
-use Rattle.verifier.specs.Build.{graft_of}
+use Rattle.verifier.specs.Build.{merge_of}
 use Rattle.verifier.specs.BuildStages.{IsYesFrom, AreYes, RunsStage, EndsIn, RunInTurn}
 use Rattle.verifier.specs.Headline.{RunsFrom}
 use Rattle.verifier.specs.TwoSteps as two
@@ -39,7 +39,7 @@ yes A sources = record { planned = plan_valid; verdict = Yes two.claim 2; given 
 pub are_yes : (A : Type 0) → AreYes A two.sources (two.stage ∷ two.stage ∷ [])
 are_yes A = (yes A two.sources, (yes A two.claim, tt))
 
-makes : (t : Tree Leaf) → graft_of t two.end two.plan.root_lines ≡ Some two.built
+makes : (t : Tree Leaf) → merge_of t two.end two.plan.root_lines ≡ Some two.built
 unfolding merge
 makes t = refl
 

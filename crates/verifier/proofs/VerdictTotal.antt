@@ -8,7 +8,7 @@ use Rattle.blob_digest.specs.Digest.{DigestValue}
 use Rattle.blob_digest.specs.DigestValue.{IsDigest}
 use Rattle.action_messages.specs.Action.{ActionValue, IsAction, action_bytes}
 use Rattle.action_messages.specs.ActionResult.{ActionResultValue, IsActionResult}
-use Rattle.action_messages.specs.Command.{IsCommand, command_bytes}
+use Rattle.action_messages.specs.Command.{CommandValue, IsCommand, command_bytes}
 use Rattle.actions.specs.Outcome.{OutputValue, OutcomeValue}
 use Rattle.actions.specs.declared.outcome.Output.TheVariants.{File, Link, Tree}
 use Rattle.actions.specs.OutcomeLookup.{IsFirstChild, NoFault, LooksBelow, LooksIn}
@@ -42,7 +42,7 @@ use Rattle.verifier.specs.declared.verdict.Verdict.{Verdict}
 use Rattle.verifier.specs.declared.verdict.Verdict.TheVariants.{Yes, No}
 use Rattle.verifier.specs.Together.{LooksUpOrigin, Resolves, of_merge}
 use Rattle.verifier.specs.Faults.{cause_of_lines}
-use Rattle.verifier.specs.StepChecks.{difference_cause, together, grafted, step_check}
+use Rattle.verifier.specs.StepChecks.{difference_cause, together, same_input, input_check, result_check, step_check}
 use Rattle.verifier.specs.Verdict.{root_check, steps_check, plan_check, IsVerdict}
 use Rattle.verifier.proofs.HeldOrigins.{IsValidTree, AreWithTrees, resolves_held}
 use Rattle.verifier.proofs.StageLaws.{total_located, total_named}
@@ -133,28 +133,32 @@ module _ (A : Type 0) (t : Telling) (sources : DigestValue) (is : IsDigest sourc
       total_named cause_of_lines _ (total_then _ _ (total_resolved t.blobs sources os valid ls all)
       (λ xs h. total_named of_merge _ (total_merged xs (resolves_held t.blobs sources os (with_trees os valid) ls xs h))))
 
-  total_grafted : (a : ActionValue) (xs : MergeLines) (made : trees.Tree NodeValue) → AreValidLines xs → AreHeld xs → (merged t.blobs xs).passes made → IsTotal (grafted {A = A} t.blobs a made)
+  total_same_input : (a : ActionValue) (xs : MergeLines) (made : trees.Tree NodeValue) → AreValidLines xs → AreHeld xs → (merged t.blobs xs).passes made → IsTotal (same_input {A = A} t.blobs a made)
   unfolding merged
-  total_grafted a xs made valid held merges = record {
+  total_same_input a xs made valid held merges = record {
     ends = λ passes fails.
         let rules = merged_valid t.blobs 64 [] xs valid held made merges in
         let other : root made ≢ a.input = λ e. passes tt e in
         finds_first_total (first_visits made) t.blobs (visits_valid made rules.1 rules.0) (root made) a.input other (λ x h. fails (difference_cause x) (other, x, h, refl));
   }
 
-  total_step : (os : List OutcomeValue) (s : StepValue) (d : DigestValue) → AllByRecursion AreValidOutputs os → AllByRecursion (IsLine (length os)) s.lines → IsTotal (step_check {A = A} t sources os s d)
+  total_input : (os : List OutcomeValue) (ls : List LineValue) (a : ActionValue) → AllByRecursion AreValidOutputs os → AllByRecursion (IsLine (length os)) ls → IsTotal (input_check {A = A} t.blobs sources os ls a)
   unfolding ◌and_then◌
+  total_input os ls a valid all =
+      total_then _ _ (total_together os ls valid all) (λ made h.
+      total_same_input a h.0 made (valid_lines t.blobs sources is os valid ls h.0 all h.1) (resolves_held t.blobs sources os (with_trees os valid) ls h.0 h.1) h.2)
+
+  total_result : (m : CommandValue) (d : DigestValue) → IsTotal (result_check {A = A} t m d)
+  total_result m d = total_then _ _ (total_held t.results d) (λ r kept. total_then _ _ (total_demands _ _) (λ _ _. total_read t.blobs m r kept.2.2.valid))
+
+  total_step : (os : List OutcomeValue) (s : StepValue) (d : DigestValue) → AllByRecursion AreValidOutputs os → AllByRecursion (IsLine (length os)) s.lines → IsTotal (step_check {A = A} t sources os s d)
   total_step os s d valid all =
       total_then _ _ (total_message IsAction action_bytes t.blobs d) (λ a _.
       total_then _ _ (total_demands _ _) (λ _ _.
       total_then _ _ (total_message IsCommand command_bytes t.blobs a.frame.command) (λ m _.
       total_then _ _ (total_demands _ _) (λ _ _.
-      total_then _ _ (total_together os s.lines valid all) (λ made h.
-      let held = resolves_held t.blobs sources os (with_trees os valid) s.lines h.0 h.1 in
-      total_then _ _ (total_grafted a h.0 made (valid_lines t.blobs sources is os valid s.lines h.0 all h.1) held h.2) (λ _ _.
-      total_then _ _ (total_held t.results d) (λ r kept.
-      total_then _ _ (total_demands _ _) (λ _ _.
-      total_read t.blobs m r kept.2.2.valid))))))))
+      total_then _ _ (total_input os s.lines a valid all) (λ _ _.
+      total_result m d)))))
 
   total_root : (os : List OutcomeValue) (ls : List LineValue) (claim : DigestValue) → AllByRecursion AreValidOutputs os → AllByRecursion (IsLine (length os)) ls → IsTotal (root_check {A = A} t sources os ls claim)
   total_root os ls claim valid all = total_then _ _ (total_together os ls valid all) (λ made _. total_demands _ _)

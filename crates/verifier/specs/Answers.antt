@@ -46,7 +46,7 @@ abbrev pub fault_of_fetch : {A : Type 0} → FetchError → Fault A
 fault_of_fetch fetching.Failed = faults.Fetch
 fault_of_fetch fetching.Memory = faults.Memory
 
--- the cause that a graft with these Directories isn't the recorded input
+-- the cause that a tree with these Directories isn't the recorded input
 abbrev pub IsDifference : {A : Type 0} → List (List ℕ) → Blobs → DigestValue → DigestValue
     → Cause A → Type 0
 IsDifference own B g r c = (x : Differing) × FindsFirst own B g r x × (c ≡ difference_cause x)

@@ -119,15 +119,15 @@ origins t s (l ∷ ls) =
     (origin_at t s l.origin)
 
 -- the tree that lines put together, if each origin is there and they merge
-abbrev pub graft_of : Tree Leaf → State → List LineValue → Option (Tree Leaf)
-graft_of t s ls = option_and_then merge (origins t s ls)
+abbrev pub merge_of : Tree Leaf → State → List LineValue → Option (Tree Leaf)
+merge_of t s ls = option_and_then merge (origins t s ls)
 
 -- the action of a step with this number: its frame, its command and what its lines put together
 abbrev pub step_action : Meaning → Tree Leaf → State → ℕ → StepValue → Option ActionMeaning
 step_action meaning t s i step =
     option_and_then (λ frame. option_and_then (λ command.
     option_map (λ input. record { frame = frame; command = command; input = input })
-    (graft_of t s step.lines))
+    (merge_of t s step.lines))
     (slice_get meaning.commands i)) (slice_get meaning.frames i)
 
 abbrev pub action_of : PlanValue → Meaning → Tree Leaf → State → ℕ → Option ActionMeaning

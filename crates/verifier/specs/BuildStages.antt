@@ -7,7 +7,7 @@ use Rattle.plan.specs.Plan.{IsPlan}
 use Rattle.plan.specs.Values.{PlanValue}
 use Rattle.tree.specs.Tree.{Tree, Leaf}
 use Rattle.verifier.specs.declared.verdict.Verdict.{Verdict}
-use Rattle.verifier.specs.Build.{HasFinishedAll, graft_of}
+use Rattle.verifier.specs.Build.{HasFinishedAll, merge_of}
 use Rattle.verifier.specs.Headline.{PlanRun, RunsFrom}
 use Rattle.verifier.specs.Verdict.{IsVerdict, IsYes}
 
@@ -45,7 +45,7 @@ pub record EndsIn (t : Tree Leaf) (stage : BuildStage) (run : PlanRun) (end : Tr
     : Type 0 where
   pub runs : RunsStage t stage run
   pub finished : HasFinishedAll stage.plan run.now
-  pub made : graft_of t run.now stage.plan.root_lines ≡ Some end
+  pub made : merge_of t run.now stage.plan.root_lines ≡ Some end
 
 -- The runs are of the stages in their order, complete, each from the tree in which the one before
 -- ended; the last ends in the last tree.

@@ -16,7 +16,7 @@ use Rattle.tree.specs.Form.{form, root, IsContent, IsBlobOf}
 use Rattle.blob_source.specs.Source.{Blobs}
 use Rattle.tree.specs.Lookup.{IsValue}
 use Rattle.verifier.specs.Build.{Meaning, ActionMeaning, Outcome, Event, start, finish, lose, State}
-use Rattle.verifier.specs.Build.{opening, outcome_of, job_of, happens, action_of, graft_of}
+use Rattle.verifier.specs.Build.{opening, outcome_of, job_of, happens, action_of, merge_of}
 use Rattle.verifier.specs.Build.{MeaningFits, IsTable, IsRun, HasFinishedAll}
 use Rattle.verifier.specs.Recorded.{Agrees}
 
@@ -105,7 +105,7 @@ pub record EveryRunEndsIn (blobs results : Blobs) (sources : DigestValue) (plan 
     (recorded : List DigestValue) (claim : DigestValue) : Type 0 where
   pub of_run : (t : Tree Leaf) (run : PlanRun) → IsOrdered t → root (form t) ≡ sources
       → RunsFrom blobs results plan recorded t run → HasFinishedAll plan run.now
-      → IsSomeAnd (graft_of t run.now plan.root_lines) (λ g. root (form g) ≡ claim)
+      → IsSomeAnd (merge_of t run.now plan.root_lines) (λ g. root (form g) ≡ claim)
 
 -- ---- runs do what was recorded
 

@@ -17,7 +17,7 @@ use Rattle.tree.specs.MergeLooks.{looks}
 use Rattle.tree.specs.LooksAt.{Compares}
 use Rattle.tree.specs.Memo.{Asked, LooksAtBlob, LooksAtResult}
 use Rattle.blob_source.specs.Source.{Blobs, Telling}
-use Rattle.verifier.specs.StepChecks.{message, cached, framed, together, grafted, result_held}
+use Rattle.verifier.specs.StepChecks.{message, cached, framed, together, input_check, result_held}
 use Rattle.verifier.specs.StepChecks.{succeeded, step_check}
 use Rattle.verifier.specs.Together.{TogetherLooksAt}
 use Rattle.verifier.specs.Verdict.{steps_check}
@@ -29,9 +29,16 @@ LooksAtNothing a = ⊥
 -- ---- what each check looks at
 
 -- the comparison with the recorded input, where the tree isn't that
-abbrev pub InputLooksAt : Blobs → ActionValue → Tree NodeValue → Asked → Type 0
-InputLooksAt B action t a =
+abbrev pub DifferenceLooksAt : Blobs → ActionValue → Tree NodeValue → Asked → Type 0
+DifferenceLooksAt B action t a =
     (root t ≢ action.input) × Compares (first_visits t) B 64 (root t) action.input a
+
+-- the lines, and then that comparison
+abbrev pub InputLooksAt : (A : Type 0) → Blobs → DigestValue → List OutcomeValue → List LineValue
+    → ActionValue → Asked → Type 0
+InputLooksAt A B sources outcomes lines action =
+    looks (together {A = A} B sources outcomes lines)
+    (TogetherLooksAt B sources (slice_get outcomes) lines) (DifferenceLooksAt B action)
 
 -- one output after another, as far as the command lists each and it is told
 abbrev pub OutputsLookAt : Blobs → CommandValue → List RecordedValue → Asked → Type 0
@@ -41,9 +48,16 @@ OutputsLookAt B command (x ∷ xs) a =
     × (OutputLooksAt x a
     ⊎ ((y : OutputValue) × StandsFor B x y × OutputsLookAt B command xs a))
 
-abbrev pub ResultLooksAt : Blobs → CommandValue → ActionResultValue → Asked → Type 0
-ResultLooksAt B command result a =
+abbrev pub OutcomeLooksAt : Blobs → CommandValue → ActionResultValue → Asked → Type 0
+OutcomeLooksAt B command result a =
     (xs : List RecordedValue) × AreOutputs result xs × OutputsLookAt B command xs a
+
+-- a result, and then its outputs
+abbrev pub ResultLooksAt : (A : Type 0) → Telling → CommandValue → DigestValue → Asked → Type 0
+ResultLooksAt A tells command d =
+    looks (result_held {A = A} tells.results d) (LooksAtResult d) λ result.
+    looks (succeeded {A = A} result) LooksAtNothing λ _.
+    OutcomeLooksAt tells.blobs command result
 
 -- ---- all of them, in their order
 
@@ -56,12 +70,9 @@ StepLooksAt A tells sources outcomes step d =
     looks (message {A = A} IsCommand command_bytes tells.blobs action.frame.command)
     (LooksAtBlob action.frame.command) λ command.
     looks (framed {A = A} action step.frame) LooksAtNothing λ _.
-    looks (together {A = A} tells.blobs sources outcomes step.lines)
-    (TogetherLooksAt tells.blobs sources (slice_get outcomes) step.lines) λ t.
-    looks (grafted {A = A} tells.blobs action t) (InputLooksAt tells.blobs action t) λ _.
-    looks (result_held {A = A} tells.results d) (LooksAtResult d) λ result.
-    looks (succeeded {A = A} result) LooksAtNothing λ _.
-    ResultLooksAt tells.blobs command result
+    looks (input_check {A = A} tells.blobs sources outcomes step.lines action)
+    (InputLooksAt A tells.blobs sources outcomes step.lines action) λ _.
+    ResultLooksAt A tells command d
 
 -- the checks of the steps that are left
 abbrev pub StepsLookAt : (A : Type 0) → Telling → DigestValue → List OutcomeValue

@@ -27,8 +27,7 @@ use Rattle.verifier.specs.declared.verdict.Cause.TheVariants.{ResultMalformed, E
 use Rattle.verifier.specs.declared.verdict.Cause.TheVariants.{OutputUnlisted}
 use Rattle.verifier.specs.Faults.{cause_of_fault, cause_of_lines}
 use Rattle.verifier.specs.Holding.{HoldsResult}
-use Rattle.verifier.specs.Stage.{with_faults_named}
-use Rattle.verifier.specs.Together.{put_together}
+use Rattle.verifier.specs.Together.{with_faults_named, put_together}
 
 -- ---- what a step must be, one check each
 
@@ -62,15 +61,22 @@ difference_cause (differs path) = InputDiffers path
 difference_cause (unread f) = cause_of_fault f
 
 -- the tree is the recorded input
-abbrev pub grafted : {A : Type 0} → Blobs → ActionValue → Tree NodeValue
+abbrev pub same_input : {A : Type 0} → Blobs → ActionValue → Tree NodeValue
     → Stage (Cause A) (Unit {0})
-grafted B action t = record {
+same_input B action t = record {
   passes = λ _. root t ≡ action.input;
   fails = λ cause.
       (root t ≢ action.input) × (x : Differing)
       × FindsFirst (first_visits t) B (root t) action.input x
       × (cause ≡ difference_cause x);
 }
+
+-- the action's input is what the lines put together
+abbrev pub input_check : {A : Type 0} → Blobs → DigestValue → List OutcomeValue → List LineValue
+    → ActionValue → Stage (Cause A) (Unit {0})
+input_check B sources outcomes lines action =
+    together B sources outcomes lines and_then λ t.
+    same_input B action t
 
 -- a result is held under the action's digest
 abbrev pub result_held : {A : Type 0} → Blobs → DigestValue → Stage (Cause A) ActionResultValue
@@ -114,6 +120,14 @@ read B command result = record {
       × OutputFault B command xs cause;
 }
 
+-- the result that is held ended well, and its outputs are the command's; it passes with its outcome
+abbrev pub result_check : {A : Type 0} → Telling → CommandValue → DigestValue
+    → Stage (Cause A) OutcomeValue
+result_check tells command d =
+    result_held tells.results d and_then λ result.
+    succeeded result and_then λ _.
+    read tells.blobs command result
+
 -- ---- all of them, in their order
 
 -- The check of a step with a recorded digest, where the steps before it came to these outcomes, by
@@ -125,8 +139,5 @@ step_check tells sources outcomes step d =
     cached action and_then λ _.
     message IsCommand command_bytes tells.blobs action.frame.command and_then λ command.
     framed action step.frame and_then λ _.
-    together tells.blobs sources outcomes step.lines and_then λ t.
-    grafted tells.blobs action t and_then λ _.
-    result_held tells.results d and_then λ result.
-    succeeded result and_then λ _.
-    read tells.blobs command result
+    input_check tells.blobs sources outcomes step.lines action and_then λ _.
+    result_check tells command d

@@ -19,7 +19,6 @@ use Rattle.tree.specs.MergeLooks.{looks, MergeLooksAt}
 use Rattle.tree.specs.Stage.{Stage, ◌and_then◌}
 use Rattle.blob_source.specs.Source.{Blobs}
 use Rattle.blob_source.specs.Told.{Fault, missing, wrong, malformed}
-use Rattle.verifier.specs.Stage.{with_faults_named}
 
 -- ---- origins
 
@@ -100,6 +99,13 @@ FirstFault blobs sources earlier (l ∷ ls) why =
     × FirstFault blobs sources earlier ls why)
 
 -- ---- the tree
+
+-- a check whose faults have other names
+abbrev pub with_faults_named : {E F V : Type 0} → (E → F) → Stage E V → Stage F V
+with_faults_named {E} name check = record {
+  passes = check.passes;
+  fails = λ why. (e : E) × check.fails e × (why ≡ name e);
+}
 
 -- each line has its origin
 abbrev pub resolved : Blobs → DigestValue → Earlier → List LineValue → Stage LinesFault MergeLines

@@ -30,7 +30,8 @@ located place check = record {
 }
 
 -- The check of the steps that are left, each with its recorded digest, where those before them came
--- to these outcomes. It passes with the outcomes of all.
+-- to these outcomes. It passes with the outcomes of all. A step without a digest has no check, and
+-- digests behind the last step say nothing; `verify` takes one for each step (`Fits`).
 abbrev pub steps_check : {A : Type 0} → Telling → DigestValue → List OutcomeValue → List StepValue
     → List DigestValue → Stage (Place A × Cause A) (List OutcomeValue)
 steps_check tells sources outcomes [] ds = comes_to outcomes

@@ -26,7 +26,7 @@ ghost use Rattle.verifier.specs.Together.{Earlier, Resolves};
 ghost use Rattle.verifier.specs.StepChecks.{step_check};
 ghost use Rattle.verifier.specs.declared.verdict.Cause.{Cause};
 ghost use Rattle.verifier.specs.Build.{Outcome, IsTreeOutcome, output_at, State, HasFinishedAll};
-ghost use Rattle.verifier.specs.Build.{AreLinesOf, graft_of, origins};
+ghost use Rattle.verifier.specs.Build.{AreLinesOf, merge_of, origins};
 ghost use Rattle.verifier.specs.Headline.{PlanRun, RunsFrom, EveryRunEndsIn, EveryRunIsAsChosen};
 ghost use Rattle.verifier.specs.Headline.{NoRunIsStuck, IsNotStuck};
 ghost use Rattle.verifier.specs.BuildStages.{BuildStage, AreYes, last_claim, RunsStage};
@@ -94,7 +94,7 @@ pub fn version_one_is_grafted()
     ensures trees { (plan : PlanValue) (lines : List LineValue) (t : Tree Leaf) (s : State)
         → IsPlan plan → plan.version ≡ One → AreLinesOf plan lines
         → IsOrdered t → AllByRecursion (λ done. IsTreeOutcome done.1) s.done
-        → graft_of t s lines ≡ option_map (λ es. expand (graft es)) (origins t s lines) }
+        → merge_of t s lines ≡ option_map (λ es. expand (graft es)) (origins t s lines) }
 {}
 
 /// A verdict is yes exactly where each step is as recorded and the root is accepted, and there the
@@ -170,6 +170,8 @@ pub fn a_build_meets_the_premises()
     ensures tree { IsOrdered two.tree × (root (form two.tree) ≡ two.sources) }
     ensures run { RunsFrom two.blobs two.results two.plan two.recorded two.tree two.run }
     ensures complete { HasFinishedAll two.plan two.end }
+    // So are those of `plans_have_verdicts`.
+    ensures counted { IsDigest two.sources × (length two.recorded ≡ length two.plan.steps) }
 {}
 
 /// So can they with a plan of version 2 whose lines meet: by the same steps, where the root has a

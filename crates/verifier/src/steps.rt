@@ -16,12 +16,14 @@ ghost use Rattle.tree.specs.Memo.{IsKnownOf, WasRefused, Learns, known_by};
 ghost use Rattle.tree.specs.Memo.{IsWithout, LooksAtResult};
 ghost use Rattle.tree.specs.LooksAt.{Compares};
 ghost use Rattle.verifier.specs.Checks.{Checks};
-ghost use Rattle.verifier.specs.LooksAt.{InputLooksAt, OutputsLookAt, ResultLooksAt, StepLooksAt};
+ghost use Rattle.verifier.specs.LooksAt.{DifferenceLooksAt, InputLooksAt, OutcomeLooksAt};
+ghost use Rattle.verifier.specs.LooksAt.{OutputsLookAt, ResultLooksAt, StepLooksAt};
 ghost use Rattle.actions.specs.LooksAt.{OutputLooksAt};
 ghost use Rattle.verifier.specs.Stage.{ExplainsFault, Answers};
 ghost use Rattle.verifier.specs.declared.verdict.Cause.TheVariants as causes;
-ghost use Rattle.verifier.specs.StepChecks.{IsRefusedOutput, OutputFault, cached, framed, grafted};
-ghost use Rattle.verifier.specs.StepChecks.{result_held, succeeded, read, step_check};
+ghost use Rattle.verifier.specs.StepChecks.{IsRefusedOutput, OutputFault, cached, framed};
+ghost use Rattle.verifier.specs.StepChecks.{same_input, input_check, result_held, succeeded, read};
+ghost use Rattle.verifier.specs.StepChecks.{result_check, step_check};
 
 use crate::fault::{Fault, fault_of};
 use crate::origins::together;
@@ -30,7 +32,7 @@ use crate::verdict::Cause;
 use actions::{Action, ActionResult, Command, Outcome, Output, RecordedOutput};
 use blob_digest::Digest;
 use messages::{MessageError, Path};
-use plan::Step;
+use plan::{Line, Step};
 use std::alloc::Allocator;
 use tree::{BlobSource, Difference, Folded, Memo, first_difference};
 
@@ -55,11 +57,8 @@ pub(crate) fn check_step<A: Allocator + Copy, S: BlobSource<A>>(
     check_cached(&action)?;
     let command: Command<A> = told(alloc, &action.command_digest(), memo, source)?;
     check_frame(alloc, &action, step)?;
-    let input = together(alloc, sources, outcomes, &step.lines, memo, source)?;
-    check_input(alloc, &action, &input, memo, source)?;
-    let made = held_result(alloc, recorded, memo, source)?;
-    check_exit_code(&made)?;
-    read_outcome(alloc, &command, &made, memo, source)
+    check_input(alloc, sources, outcomes, &step.lines, &action, memo, source)?;
+    check_result(alloc, recorded, &command, memo, source)
 }
 
 /// The action may be cached.
@@ -90,8 +89,29 @@ fn check_frame<A: Allocator + Copy>(
     Ok(())
 }
 
-/// The action's input is the tree of which this is the fold.
+/// The action's input is what the lines put together. The steps before came to these outcomes.
 fn check_input<A: Allocator + Copy, S: BlobSource<A>>(
+    alloc: A,
+    sources: &Digest,
+    outcomes: &[Outcome<A>],
+    lines: &[Line<A>],
+    action: &Action<A>,
+    memo: &mut Memo<A>,
+    source: &mut S,
+) -> Result<(), Fault<A>>
+    requires lines { AllByRecursion (IsLine (length outcomes.now)) lines.now }
+    requires known { IsKnownOf (known_by memo.old) (S.tells source.old) }
+    ensures { Checks
+        (λ tells. input_check tells.blobs sources.now outcomes.now lines.now action.now)
+        (λ tells. InputLooksAt A tells.blobs sources.now outcomes.now lines.now action.now)
+        (known_by memo.old) (known_by memo.new) (S.tells source.old) (S.tells source.new) result }
+{
+    let input = together(alloc, sources, outcomes, lines, memo, source)?;
+    compare_input(alloc, action, &input, memo, source)
+}
+
+/// The action's input is the tree of which this is the fold.
+fn compare_input<A: Allocator + Copy, S: BlobSource<A>>(
     alloc: A,
     action: &Action<A>,
     input: &Folded<A>,
@@ -101,8 +121,8 @@ fn check_input<A: Allocator + Copy, S: BlobSource<A>>(
     requires valid { IsFoldOfValid input.now }
     requires known { IsKnownOf (known_by memo.old) (S.tells source.old) }
     ensures { (t : trees.Tree NodeValue) → IsFoldOf t input.now
-        → Checks (λ tells. grafted tells.blobs action.now t)
-        (λ tells. InputLooksAt tells.blobs action.now t)
+        → Checks (λ tells. same_input tells.blobs action.now t)
+        (λ tells. DifferenceLooksAt tells.blobs action.now t)
         (known_by memo.old) (known_by memo.new) (S.tells source.old) (S.tells source.new) result }
 {
     let recorded = action.input_root_digest();
@@ -112,25 +132,25 @@ fn check_input<A: Allocator + Copy, S: BlobSource<A>>(
     Ok(())
 }
 
-/// Why a graft isn't the recorded input.
+/// Why the tree of which this is the fold isn't the recorded input.
 fn explain_difference<A: Allocator + Copy, S: BlobSource<A>>(
     alloc: A,
-    grafted: &Folded<A>,
+    made: &Folded<A>,
     input: &Digest,
     memo: &mut Memo<A>,
     source: &mut S,
 ) -> Fault<A>
-    requires valid { IsFoldOfValid grafted.now }
+    requires valid { IsFoldOfValid made.now }
     requires known { IsKnownOf (known_by memo.old) (S.tells source.old) }
-    requires other { input.now ≢ grafted.now.root }
-    ensures explained { ExplainsFault (IsDifference (made_by grafted.now)
-        (S.tells source.new).blobs grafted.now.root input.now) result }
+    requires other { input.now ≢ made.now.root }
+    ensures explained { ExplainsFault (IsDifference (made_by made.now)
+        (S.tells source.new).blobs made.now.root input.now) result }
     ensures called { Called (S.tells source.old) (S.tells source.new) (result ≡ Fault.Fetch) }
-    ensures learned { Learns (Compares (made_by grafted.now) (S.tells source.new).blobs 64
-        grafted.now.root input.now) (Unit {0})
+    ensures learned { Learns (Compares (made_by made.now) (S.tells source.new).blobs 64
+        made.now.root input.now) (Unit {0})
         (known_by memo.old) (known_by memo.new) (S.tells source.old) (S.tells source.new) }
 {
-    match first_difference(alloc, grafted, input, memo, source) {
+    match first_difference(alloc, made, input, memo, source) {
         Ok(Some(difference)) => Fault::Cause(cause_of_difference(difference)),
         Ok(None) => unreachable!(),
         Err(error) => fault_of(error),
@@ -145,6 +165,25 @@ fn cause_of_difference<A: Allocator>(difference: Difference<A>) -> Cause<A>
         Difference::Absent(path) => Cause::InputAbsent(path),
         Difference::Differs(path) => Cause::InputDiffers(path),
     }
+}
+
+/// The outcome of the result that the source has for the action with this digest: the process ended
+/// well, and the outputs are the command's.
+fn check_result<A: Allocator + Copy, S: BlobSource<A>>(
+    alloc: A,
+    recorded: &Digest,
+    command: &Command<A>,
+    memo: &mut Memo<A>,
+    source: &mut S,
+) -> Result<Outcome<A>, Fault<A>>
+    requires { IsKnownOf (known_by memo.old) (S.tells source.old) }
+    ensures { Checks (λ tells. result_check tells command.now recorded.now)
+        (λ tells. ResultLooksAt A tells command.now recorded.now)
+        (known_by memo.old) (known_by memo.new) (S.tells source.old) (S.tells source.new) result }
+{
+    let made = held_result(alloc, recorded, memo, source)?;
+    check_exit_code(&made)?;
+    read_outcome(alloc, command, &made, memo, source)
 }
 
 /// The result that the source has for the action with this digest.
@@ -204,7 +243,7 @@ fn read_outcome<A: Allocator + Copy, S: BlobSource<A>>(
     requires { IsKnownOf (known_by memo.old) (S.tells source.old) }
     ensures checked { Answers (read (S.tells source.new).blobs command.now made.now) result }
     ensures called { Called (S.tells source.old) (S.tells source.new) (IsErrOf result Fault.Fetch) }
-    ensures learned { Learns (ResultLooksAt (S.tells source.new).blobs command.now made.now)
+    ensures learned { Learns (OutcomeLooksAt (S.tells source.new).blobs command.now made.now)
         (WasRefused result)
         (known_by memo.old) (known_by memo.new) (S.tells source.old) (S.tells source.new) }
 {

@@ -8,7 +8,7 @@ use std::alloc::Allocator;
 #[derive_where(Debug)]
 pub enum Verdict<A: Allocator> {
     /// Every build of the plan ends in this root, the claimed one, after this many steps; under the
-    /// premises that README states.
+    /// premises of `EveryRunEndsIn`.
     Yes { root: Digest, steps: u64 },
     /// The first fault, and where it stands.
     No(Place<A>, Cause<A>),

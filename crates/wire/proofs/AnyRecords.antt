@@ -225,8 +225,7 @@ record_takes bytes x fits e =
     subst (λ (y : Record × List ℕ). TakesRecord bytes y.0 y.1) (ok_is {E = WireError} _ x b.2) (record {
       text = t.text ++ u.text;
       spelled = record {
-        least = omega (arith, least);
-        most = most;
+        number = (omega (arith, least), most);
         tag = t.text;
         payload = u.text;
         tagged = subst (λ (k : ℕ). IsVarint k t.text) sum t.spelled;
@@ -240,8 +239,8 @@ pub record_again : (r : Record) (text rest : List ℕ) → IsBytes text → IsRe
 unfolding record_by
 record_again r text rest fits s =
     let kind = wire_type_low r.value in
-    let least = s.least in
-    let most = s.most in
+    let least = s.number.0 in
+    let most = s.number.1 in
     let tag = r.number * 8 + wire_type r.value in
     let both : IsBytes (s.tag ++ s.payload) = subst IsBytes s.parts fits in
     let regrouped : text ++ rest ≡ s.tag ++ (s.payload ++ rest) = ap (λ (l : List ℕ). l ++ rest) s.parts ∙ append_assoc s.tag s.payload rest in

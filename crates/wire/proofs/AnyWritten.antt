@@ -40,10 +40,9 @@ wire_type_low (Four bytes) = lit< tt
 record_is : (r : Record) → FitsRecord r → IsRecordText r (record_text r)
 record_is r f =
     let low = wire_type_low r.value in
-    let most = f.most in
+    let most = f.number.1 in
     record {
-      least = f.least;
-      most = most;
+      number = f.number;
       tag = varint (r.number * 8 + wire_type r.value);
       payload = value_text r.value;
       tagged = varint_is (r.number * 8 + wire_type r.value) (omega (arith, low, most));

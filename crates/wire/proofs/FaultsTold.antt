@@ -7,7 +7,7 @@ use Rattle.wire.specs.declared.error.WireError.{WireError}
 use Rattle.wire.specs.declared.error.WireError.TheVariants.{Truncated, VarintTooLong, NotMinimal, BadWireType, BadNumber}
 use Rattle.wire.specs.AnySpelling.{HasAnyVarintFault, HasVarintFaultBy}
 use Rattle.wire.specs.Bytes.{IsBytes}
-use Rattle.wire.specs.Record.{Value, Varint, Eight, Bytes, Four, Record}
+use Rattle.wire.specs.Record.{Value, Varint, Eight, Bytes, Four, Record, IsFieldNumber}
 use Rattle.wire.specs.Steps.{◌>>=◌}
 use Rattle.wire.specs.Varint.{groups_by, varint_by, varint_at, HasVarintFault}
 use Rattle.wire.specs.Reading.{fixed_at, value_by, record_by, IsShort, BeginsWith, HasLengthFault, HasPayloadFault, HasTagFault, HasRecordFaultBy}
@@ -130,16 +130,30 @@ value_told shortest kind bytes e fits (inr (inr (inr (inr h)))) = rw (other_numb
 
 -- ---- a record
 
+number_differs : (k n : ℕ) → eqb k n ≡ false → k ≢ n
+number_differs k n is same = let both : false ≡ true = sym is ∙ (Decides-eqb k n).1 same in cc
+
+positive : (n : ℕ) → n ≢ 0 → 1 ≤ n
+positive zero differ = absurd (differ refl)
+positive (suc n) differ = omega arith
+
+-- what is no field number fails the test
+no_number : (n : ℕ) → ¬ IsFieldNumber n → (eqb n 0 || ltb 536870911 n) ≡ true
+no_number n none = by (eqb n 0) (ltb 536870911 n) refl refl
+  where
+    by : (a b : Bool) → eqb n 0 ≡ a → ltb 536870911 n ≡ b → (a || b) ≡ true
+    by true b is large = refl
+    by false true is large = refl
+    by false false is large = absurd (none (positive n (number_differs n 0 is), ltb-false 536870911 n large))
+
 pub record_told : (shortest : Bool) (bytes : List ℕ) (e : WireError) → IsBytes bytes → HasRecordFaultBy shortest e bytes → record_by shortest bytes ≡ failed e
 unfolding record_by
 record_told shortest bytes e fits (inl h) = rw (told_by shortest bytes e h) refl
-record_told shortest bytes e fits (inr (tag, rest, begins, inl (inl none, bad))) = rw (again_by shortest tag rest bytes fits begins, none, bad) refl
-record_told shortest bytes e fits (inr (tag, rest, begins, inl (inr large, bad))) =
-    let some : eqb (tag / 8) 0 ≡ false = other_number (tag / 8) 0 (λ z. omega (arith, z, large)) in
-    rw (again_by shortest tag rest bytes fits begins, some, lt-ltb 536870911 (tag / 8) large, bad) refl
-record_told shortest bytes e fits (inr (tag, rest, begins, inr (least, most, h))) =
+record_told shortest bytes e fits (inr (tag, rest, begins, inl (none, bad))) = rw (again_by shortest tag rest bytes fits begins, no_number (tag / 8) none, bad) refl
+record_told shortest bytes e fits (inr (tag, rest, begins, inr (number, h))) =
+    let least = number.0 in
     let some : eqb (tag / 8) 0 ≡ false = other_number (tag / 8) 0 (λ z. omega (arith, z, least)) in
-    rw (again_by shortest tag rest bytes fits begins, some, le-ltb 536870911 (tag / 8) most, value_told shortest (tag % 8) rest e (begins_fits shortest tag rest bytes fits begins) h) refl
+    rw (again_by shortest tag rest bytes fits begins, some, le-ltb 536870911 (tag / 8) number.1, value_told shortest (tag % 8) rest e (begins_fits shortest tag rest bytes fits begins) h) refl
 
 -- ---- and the other way round
 
@@ -167,9 +181,6 @@ length_faulty shortest bytes e fits h = by (bind_fault {A = ℕ × List ℕ} {B 
     by (inr g) =
         let t = takes_by shortest bytes g.0 fits g.1 in
         inr (g.0.0, g.0.1, t.begins, fixed_faulty g.0.0 g.0.1 e (done_fault {B = Value × List ℕ} (fixed_at g.0.0 g.0.1) (λ y. (Bytes y.0, y.1)) e g.2))
-
-number_differs : (k n : ℕ) → eqb k n ≡ false → k ≢ n
-number_differs k n is same = let both : false ≡ true = sym is ∙ (Decides-eqb k n).1 same in cc
 
 value_faulty : (shortest : Bool) (kind : ℕ) (bytes : List ℕ) (e : WireError) → IsBytes bytes → value_by shortest kind bytes ≡ failed e → HasPayloadFault shortest e kind bytes
 unfolding value_by
@@ -202,15 +213,11 @@ tag_faulty shortest tag rest e fits h = by (eqb (tag / 8) 0) (ltb 536870911 (tag
   where
     by : (a b : Bool) → eqb (tag / 8) 0 ≡ a → ltb 536870911 (tag / 8) ≡ b
         → cond {A = Result (Record × List ℕ) WireError} (a || b) (failed BadNumber) (value_by shortest (tag % 8) rest >>= λ x. Ok (record { number = tag / 8; value = x.0 }, x.1)) ≡ failed e → HasTagFault shortest e tag rest
-    by true b none large h = inl (inl (eqb-true (tag / 8) 0 none), sym (err_is {A = Record × List ℕ} BadNumber e h))
-    by false true none large h = inl (inr (ltb-true 536870911 (tag / 8) large), sym (err_is {A = Record × List ℕ} BadNumber e h))
+    by true b none large h = inl ((λ number. let least = number.0 in let is = eqb-true (tag / 8) 0 none in absurd (omega (arith, is, least))), sym (err_is {A = Record × List ℕ} BadNumber e h))
+    by false true none large h = inl ((λ number. let most = number.1 in let above = ltb-true 536870911 (tag / 8) large in absurd (omega (arith, above, most))), sym (err_is {A = Record × List ℕ} BadNumber e h))
     by false false none large h =
         let some = number_differs (tag / 8) 0 none in
-        inr (least (tag / 8) some, ltb-false 536870911 (tag / 8) large, value_faulty shortest (tag % 8) rest e fits (done_fault {B = Record × List ℕ} (value_by shortest (tag % 8) rest) (λ x. (record { number = tag / 8; value = x.0 }, x.1)) e h))
-      where
-        least : (n : ℕ) → n ≢ 0 → 1 ≤ n
-        least zero differ = absurd (differ refl)
-        least (suc n) differ = omega arith
+        inr ((positive (tag / 8) some, ltb-false 536870911 (tag / 8) large), value_faulty shortest (tag % 8) rest e fits (done_fault {B = Record × List ℕ} (value_by shortest (tag % 8) rest) (λ x. (record { number = tag / 8; value = x.0 }, x.1)) e h))
 
 pub record_faulty : (shortest : Bool) (bytes : List ℕ) (e : WireError) → IsBytes bytes → record_by shortest bytes ≡ failed e → HasRecordFaultBy shortest e bytes
 unfolding record_by

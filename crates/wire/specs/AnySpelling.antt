@@ -3,7 +3,7 @@
 -- is written is that of `Spells`.
 use Rattle.std.specs.Prelude.{◌≡◌, ◌≢◌, Bool, true, false, ℕ, ◌+◌, ◌*◌, ◌^◌, ◌<◌, ◌≤◌, List, []}
 use Rattle.std.specs.Prelude.{◌∷◌, ◌++◌, length}
-use Rattle.wire.specs.Record.{Value, Varint, Eight, Bytes, Four, Record}
+use Rattle.wire.specs.Record.{Value, Varint, Eight, Bytes, Four, Record, IsFieldNumber}
 use Rattle.wire.specs.Spelling.{wire_type}
 use Rattle.wire.specs.declared.error.WireError.{WireError}
 use Rattle.wire.specs.declared.error.WireError.TheVariants.{NotMinimal}
@@ -48,8 +48,7 @@ IsValueText (Four bytes) text = (length bytes ≡ 4) × (text ≡ bytes)
 
 -- a tag, and then the payload
 pub record IsRecordText (r : Record) (text : List ℕ) : Type 0 where
-  pub least : 1 ≤ r.number
-  pub most : r.number ≤ 536870911
+  pub number : IsFieldNumber r.number
   pub tag : List ℕ
   pub payload : List ℕ
   pub tagged : IsVarint (r.number * 8 + wire_type r.value) tag

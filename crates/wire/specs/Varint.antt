@@ -6,7 +6,6 @@ use Rattle.std.specs.Prelude.{Err, if◌then◌else◌}
 use Rattle.std.specs.List.{AllByRecursion}
 use Rattle.wire.specs.declared.error.WireError.{WireError}
 use Rattle.wire.specs.declared.error.WireError.TheVariants.{Truncated, VarintTooLong, NotMinimal}
-use Rattle.wire.specs.declared.error.WireError.TheVariants.{BadWireType, BadNumber}
 use Rattle.wire.specs.Steps.{◌>>=◌}
 
 -- ---- the spelling
@@ -78,5 +77,4 @@ HasVarintFault VarintTooLong bytes =
     (front : List ℕ) × (b : ℕ) × (length front ≡ 9) × (1 < b) × StandsBehind front b bytes
 HasVarintFault NotMinimal bytes =
     (front : List ℕ) × (1 ≤ length front) × (length front ≤ 9) × StandsBehind front 0 bytes
-HasVarintFault BadWireType bytes = ⊥
-HasVarintFault BadNumber bytes = ⊥
+HasVarintFault e bytes = ⊥

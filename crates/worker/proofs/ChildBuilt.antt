@@ -1,5 +1,5 @@
 -- The build of one step, whose child comes to something: it meets what is asked of a build.
-use Rattle.std.proofs.Common.{◌≡◌, ◌≢◌, ℕ, zero, suc, ◌<◌, ◌^◌, List, [], ◌∷◌, Option, Some, None, refl, ap, arith, inl, lit<}
+use Rattle.std.proofs.Common.{◌≡◌, ◌≢◌, zero, suc, List, [], ◌∷◌, Option, Some, None, refl, ap, arith, inl, lit<}
 use Rattle.std.specs.Prelude.{pos, codes, slice_get, Contains}
 use Rattle.wire.specs.Varint.{groups, varint}
 use Rattle.blob_digest.specs.Digest.{DigestValue, digest_of}
@@ -16,14 +16,13 @@ use Rattle.runs.specs.Calls.{Disagrees, IsFinished, with_finished, with_job}
 use Rattle.runs.specs.Engine.{FinishedValue, JobValue, EngineValue}
 use Rattle.runs.specs.Looking.{together_in}
 use Rattle.verifier.specs.TwoSteps as two
-use Rattle.worker.proofs.TwoStepsBuilt.{ready_for}
-use Rattle.worker.specs.Calls.{Call, started, launched, ran, WasStarted, IsLeastStartable, IsBuiltBy}
+use Rattle.worker.specs.Calls.{started, launched, ran, WasStarted, IsLeastStartable, IsBuiltBy}
 use Rattle.worker.specs.Layout.{IsLayoutOf}
 use Rattle.worker.specs.Outcomes.{Yields, IsYielded}
 use Rattle.worker.specs.Steps.{CameOfChild}
 use Rattle.worker.specs.Stored.{HasNoneFinished}
 use Rattle.worker.specs.Values.{StartValue}
-use Rattle.worker.proofs.TwoStepsBuilt.{fold_of, none_few, nothing_merges, unfinished}
+use Rattle.worker.proofs.TwoStepsBuilt.{fold_of, none_few, nothing_merges, ready_for, started_first, unfinished}
 
 -- ---- the step `gen` of the build of two steps, of which anything may come: it makes nothing
 
@@ -72,30 +71,7 @@ unfolding ◌and_then◌
 nothing_together = ([], refl, nothing_merges blobs)
 
 is_started : {A : Type 0} (alloc : A) → WasStarted A blobs 0 0 first runs
-is_started alloc = let f = fold_of alloc empty none_few (lit< tt) in record {
-  told = blobs;
-  still = λ d b at right. at;
-  job = record { id = 0; step = 0; action = with_input two.gen.0.frame (root empty); digest = action_digest; command = two.gen.0.command; input = f.0 };
-  number = refl;
-  is = record {
-    prepared = record {
-      planned = record { name = codes "gen"; frame = two.gen_frame_digest; lines = [] };
-      at = refl;
-      tree = empty;
-      together = nothing_together;
-      number = refl;
-      of_step = refl;
-      frame = refl;
-      input = refl;
-      command = refl;
-      digest = refl;
-      folded = f.1;
-    };
-    least = record { free = refl; lower = λ k lt. absurd (omega (arith, lt)) };
-    few = omega arith;
-    after = refl;
-  };
-}
+is_started alloc = started_first blobs first 0 _ two.gen.0.frame two.gen.0.command empty (fold_of alloc empty none_few (lit< tt)) (root empty) action_digest refl refl refl nothing_together refl refl refl
 
 no_bytes : directory_bytes no_children ≡ []
 unfolding directory_bytes groups varint
@@ -186,7 +162,7 @@ built alloc = record {
       ),
     );
   };
-  puts = record { put = []; are = refl; each = tt; others = λ d b at. inl at };
+  puts = record { put = []; are = refl; once = inl refl; each = tt; others = λ d b at. inl at };
 }
 
 none_finished : HasNoneFinished first

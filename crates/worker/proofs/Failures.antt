@@ -99,7 +99,7 @@ module _ {a b : ℕ} where
 
 -- an engine that doesn't take an outcome asks no store
 pub finish_no_fetch : {A : Type 0} (e : EngineValue) (w : ℕ) (v : OutcomeValue) (why : RunsError A) → IsFinishFault e w v why → IsFetch (refusals.Engine why) → ⊥
-finish_no_fetch e w v (runs.Source why) (j, at, c, of_step, fault) f = fault
+finish_no_fetch e w v (runs.Source why) (j, at, c, of_step, fault) f = fault.1
 finish_no_fetch e w v runs.NotReady h f = f
 finish_no_fetch e w v runs.NoSuchJob h f = f
 finish_no_fetch e w v (runs.ExitCode n) h f = f

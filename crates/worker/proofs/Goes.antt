@@ -17,9 +17,9 @@ use Rattle.worker.specs.Values.{EndValue, made, StartValue, Starts, StartsOne, S
 use Rattle.worker.specs.Stored.{IsKept}
 use Rattle.worker.specs.Storing.{HasAt, IsKeptBut}
 use Rattle.worker.specs.Outcomes.{Yields, YieldsNoMore, IsYielded}
-use Rattle.worker.specs.Calls.{running, Call, started, launched, ran, taken, lost, CameTo, HasChild, children_of, IsResultFor, HasChildsResult, WasStarted, FinishedByChild, IsLost, Does, IsLeastStartable, IsNext, Leads, IsLed, PutsOf, TakesRecorded, IsBuiltWith}
-use Rattle.worker.specs.Going.{HasNoneToTake, IsJobOf, AreJobsOf, IsOwnJob, IsGoing, HasChildFor, IsBegun, IsLaunched, kept_job, EndedWell, GoesOnBy, IsNextTurn, jobs_with, one_if, taken_in}
-use Rattle.worker.specs.Watching.{taken_count, turns_in, without_number, jobs_after}
+use Rattle.worker.specs.Calls.{running, Call, started, launched, ran, taken, lost, CameTo, HasChild, children_of, IsResultFor, HasChildsResult, WasStarted, FinishedByChild, IsLost, Does, IsLeastStartable, IsNext, Leads, IsLed, ArePutFor, PutsOf, TakesRecorded, IsBuiltWith}
+use Rattle.worker.specs.Going.{HasNoneToTake, IsJobOf, AreJobsOf, IsOwnJob, IsGoing, HasChildFor, IsBegun, IsLaunched, kept_job, EndedWell, GoesOnBy, IsTurn, AreOneTurn, jobs_with, one_if, taken_in}
+use Rattle.worker.specs.Watching.{taken_count, without_number, jobs_after}
 use Rattle.std.specs.List.{AllByRecursion}
 use Rattle.worker.proofs.Keeping.{kept_none, right_trans}
 use Rattle.worker.proofs.Telling.{SameSteps, layout_still, recorded_still, held_kept, end_still, yielded_still, owed_still, owed_ends}
@@ -34,8 +34,25 @@ pub record Moves (t u : Telling) (more : List Call) : Type 0 where
   pub blobs : KeepsRight t.blobs u.blobs
   pub puts : PutsOf more t u
 
+put_for_none : (cs : List Call) → ArePutFor cs []
+put_for_none [] = refl
+put_for_none (started i id ∷ cs) = put_for_none cs
+put_for_none (launched id d x ∷ cs) = put_for_none cs
+put_for_none (ran id d v ∷ cs) = inl (put_for_none cs)
+put_for_none (taken id d v ∷ cs) = put_for_none cs
+put_for_none (lost id ∷ cs) = put_for_none cs
+
+put_for_both : (cs more : List Call) (ds es : List DigestValue) → ArePutFor cs ds → ArePutFor more es → ArePutFor (cs ++ more) (ds ++ es)
+put_for_both [] more ds es h k = rw h k
+put_for_both (started i id ∷ cs) more ds es h k = put_for_both cs more ds es h k
+put_for_both (launched id d x ∷ cs) more ds es h k = put_for_both cs more ds es h k
+put_for_both (ran id d v ∷ cs) more ds es (inl h) k = inl (put_for_both cs more ds es h k)
+put_for_both (ran id d v ∷ cs) more ds es (inr (rest, is, h)) k = inr (rest ++ es, ap (λ xs. xs ++ es) is, put_for_both cs more rest es h k)
+put_for_both (taken id d v ∷ cs) more ds es h k = put_for_both cs more ds es h k
+put_for_both (lost id ∷ cs) more ds es h k = put_for_both cs more ds es h k
+
 pub puts_none : (t u : Telling) (more : List Call) → IsKept t u → PutsOf more t u
-puts_none t u more k = record { put = []; are = k.puts ∙ sym (append-nil t.puts); each = tt; others = λ e b at. inl (k.results e b at) }
+puts_none t u more k = record { put = []; are = k.puts ∙ sym (append-nil t.puts); once = put_for_none more; each = tt; others = λ e b at. inl (k.results e b at) }
 
 pub moves_kept : (t u : Telling) (more : List Call) → IsKept t u → Moves t u more
 moves_kept t u more k = record { blobs = k.blobs; puts = puts_none t u more k }
@@ -51,8 +68,8 @@ moves_ran t u id d v k = record { blobs = k.blobs; puts = of k.puts }
     by e b (inr h) = inr (subst (HasChildsResult (ran id d v ∷ []) u.results) (sym h.0) (has h.1))
 
     of : (u.puts ≡ t.puts) ⊎ ((u.puts ≡ t.puts ++ d ∷ []) × HasAt (IsResultFor v) u.results d) → PutsOf (ran id d v ∷ []) t u
-    of (inl same) = record { put = []; are = same ∙ sym (append-nil t.puts); each = tt; others = λ e b at. by e b (k.results e b at) }
-    of (inr h) = record { put = d ∷ []; are = h.0; each = (has h.1, tt); others = λ e b at. by e b (k.results e b at) }
+    of (inl same) = record { put = []; are = same ∙ sym (append-nil t.puts); once = inl refl; each = tt; others = λ e b at. by e b (k.results e b at) }
+    of (inr h) = record { put = d ∷ []; are = h.0; once = inr ([], refl, refl); each = (has h.1, tt); others = λ e b at. by e b (k.results e b at) }
 
 came_more : (d : DigestValue) (v : OutcomeValue) (cs more : List Call) → CameTo cs d v → CameTo (cs ++ more) d v
 came_more d v [] more h = absurd h
@@ -130,6 +147,7 @@ all_join Is (x ∷ xs) ys h k = (h.0, all_join Is xs ys h.1 k)
 pub puts_moved : (s t u : Telling) (cs more : List Call) → PutsOf cs s t → PutsOf more t u → PutsOf (cs ++ more) s u
 puts_moved s t u cs more p m = record {
   put = p.put ++ m.put;
+  once = put_for_both cs more p.put m.put p.once m.once;
   are = m.are ∙ ap (λ ds. ds ++ m.put) p.are ∙ append_assoc s.puts p.put m.put;
   each = all_join (HasChildsResult (cs ++ more) u.results) p.put m.put (all_moved t u cs more m p.put p.each) (all_behind cs more u.results m.put m.each);
   others = λ d b at. by d b (p.others d b at);
@@ -251,7 +269,7 @@ module _ (A J : Type 0) (y : Yields) (may : J → EndValue → Type 0) (from : S
 
   -- by one turn
   abbrev pub OneTurn : Starts → Telling → EngineValue → List (Child J) → List Call → ℕ → Type 0
-  OneTurn to t now cs calls n = (on : On to t now cs calls n) × (turns_in on.more ≡ 1)
+  OneTurn to t now cs calls n = (on : On to t now cs calls n) × AreOneTurn on.more
 
   -- it went on from the first calls by some more
   pub record Went (to : Starts) (t : Telling) (now : EngineValue) (cs : List (Child J)) (calls more : List Call) : Type 0 where
@@ -316,11 +334,11 @@ module _ (A J : Type 0) (y : Yields) (may : J → EndValue → Type 0) (from : S
             });
           }
 
-      pub going_ran : IsNextTurn most now (c ∷ cs) turns.Finish → (e : EndedWell may t u c now new) → Went b u new cs g.led.built.led.calls (ran c.id c.action e.produced.outcome ∷ [])
+      pub going_ran : IsTurn most now (c ∷ cs) turns.Finish → (e : EndedWell may t u c now new) → Went b u new cs g.led.built.led.calls (ran c.id c.action e.produced.outcome ∷ [])
       going_ran next e = gone (ran c.id c.action e.produced.outcome ∷ []) (moves_ran t u c.id c.action e.produced.outcome e.kept)
           (none_starts a b quiet) (λ d x child. absurd child) (λ js. refl)
           (ap (λ (e : EngineValue). e.jobs) e.finished.after) (ap (λ (e : EngineValue). e.commands) e.finished.after, ap (λ (e : EngineValue). e.frames) e.finished.after)
-          (λ few. (new, ran_child e, (few, λ less. next (let count = jobs_count (IsOwnJob y may t.blobs now) (c ∷ cs) now.jobs g.jobs in omega (arith, count, less))), refl))
+          (λ few. (new, ran_child e, (few, λ less. next.1 (let count = jobs_count (IsOwnJob y may t.blobs now) (c ∷ cs) now.jobs g.jobs in omega (arith, count, less))), refl))
 
       pub going_lost : IsLost c.id now new → IsKept t u → Went b u new cs g.led.built.led.calls (lost c.id ∷ [])
       going_lost (j, at, after) k = gone (lost c.id ∷ []) (moves_kept t u (lost c.id ∷ []) k)
@@ -415,7 +433,7 @@ module _ (A J : Type 0) (y : Yields) (may : J → EndValue → Type 0) (from : S
                     (going_started t u now begun.mid cs i begun.id k g room w next c id
                     (own_still within (λ e b at right. at) (refl, refl) c (job_of w) own.own)
                     (record { layout = own.own.owed.layout; command = own.own.owed.command }) own.own.owed.laid own.own.owed.of_step own.started own.none) refl,
-                refl,
+                ((refl, tt), refl),
               )))
           by (inr (v, f, held, same, quiet)) =
               let of_job : f.job ≡ begun.job = one_answer (job_in begun.id begun.mid) f.job begun.job f.is begun.is in
@@ -434,7 +452,7 @@ module _ (A J : Type 0) (y : Yields) (may : J → EndValue → Type 0) (from : S
                       reads = held.held.reads;
                       recorded = held.held.recorded;
                     }) tt) (sym (one_in (finished_at begun.mid new begun.id i v (job_of w) within_mid f (job_is w) refl))),
-                refl,
+                ((refl, tt), refl),
               )
 
       pub none_kept : new ≡ now → 0 ≡ taken_in true i now new

@@ -18,9 +18,8 @@ use Rattle.action_messages.proofs.Pairs.{ByPairs, pairs_permuted, all_permuted}
 use Rattle.blob_source.specs.Source.{Blobs}
 use Rattle.tree.specs.Tree.{Name, path_cmp, Standing, nothing, a_leaf, a_directory, stands_at}
 use Rattle.tree.specs.Form.{NodeValue}
-use Rattle.tree.specs.FlatTree.{standing_in, FlatValue, IsFlatTree}
+use Rattle.tree.specs.FlatTree.{Ascend, standing_in, FlatValue, IsFlatTree}
 use Rattle.tree.specs.Unfolded.{IsUnfolded}
-use Rattle.tree.specs.Visiting.{Ascend}
 use Rattle.tree.proofs.ByPath.{flat_ascends}
 use Rattle.tree.proofs.FlatTrees.{list_maps}
 use Rattle.tree.proofs.SortedInsert.{path_same}

@@ -16,8 +16,8 @@ use Rattle.worker.specs.declared.error.BuildError.{BuildError}
 use Rattle.worker.specs.declared.child.Child.{Child}
 use Rattle.worker.specs.declared.turns.Turn.{Turn}
 use Rattle.worker.specs.declared.turns.Turn.TheVariants as turns
-use Rattle.worker.specs.Calls.{Call, started, launched, ran, taken, lost, IsLost, Does, IsLeastStartable, Leads, PutsOf}
-use Rattle.worker.specs.Going.{IsJobIn, kept_job, IsGoing, IsBegun, IsTurn, IsNextTurn, EndedWell, HasEndedFirst, GoesOnBy, taken_in}
+use Rattle.worker.specs.Calls.{Call, started, launched, ran, taken, lost, IsLost, Does, AreTurns, AreTurnsUntil, Leads, PutsOf}
+use Rattle.worker.specs.Going.{IsJobIn, kept_job, IsGoing, IsBegun, IsTurn, EndedWell, HasEndedFirst, GoesOnBy, AreOneTurn, taken_in}
 use Rattle.worker.specs.Counted.{TellsRunFailure}
 use Rattle.worker.specs.Layout.{IsLayoutOf}
 use Rattle.worker.specs.Outcomes.{Yields, YieldsFor, YieldsNoMore, MayComeTo}
@@ -25,7 +25,6 @@ use Rattle.worker.specs.Stored.{IsKept}
 use Rattle.worker.specs.Stopped.{ComesTo, HasBegun, StopsStep, IsRefusedBuild, IsStoreFault}
 use Rattle.worker.specs.Stopping.{StopsChild, StopsCollecting, StopsEnd, StopsSettling, StopsBeginning}
 use Rattle.worker.specs.Values.{LayoutValue, EndValue, made, bad_at, failed, IsAbsolute, Starts, StartsNone}
-use Rattle.worker.specs.Watching.{turns_in}
 use Rattle.worker.proofs.Goes.{Ends, Went, on_by, few_jobs, going_kept, led_kept, going_ran, going_lost, led_started, going_back, going_begun, moves_ran, none_kept, none_lost, none_starts, puts_none}
 use Rattle.worker.proofs.Lefts.{finished_there}
 use Rattle.worker.proofs.Started.{after, job_of, job_is}
@@ -93,23 +92,39 @@ stops_within z y t e i (refusals.Run children.Memory) within h = h
 stops_within z y t e i refusals.Fetch within h = h
 stops_within z y t e i refusals.Memory within h = h
 
+-- ---- turns, one after another
+
+pub turns_then : (cs ds : List Call) → AreTurns cs → AreTurns ds → AreTurns (cs ++ ds)
+turns_then [] ds h k = k
+turns_then (started i id ∷ []) ds h k = absurd h
+turns_then (started i id ∷ started j w ∷ cs) ds h k = absurd h
+turns_then (started i id ∷ launched w d s ∷ cs) ds h k = (h.0, turns_then cs ds h.1 k)
+turns_then (started i id ∷ ran w d v ∷ cs) ds h k = absurd h
+turns_then (started i id ∷ taken w d v ∷ cs) ds h k = (h.0, turns_then cs ds h.1 k)
+turns_then (started i id ∷ lost w ∷ cs) ds h k = absurd h
+turns_then (launched w d s ∷ cs) ds h k = absurd h
+turns_then (ran id d v ∷ cs) ds h k = turns_then cs ds h k
+turns_then (taken w d v ∷ cs) ds h k = absurd h
+turns_then (lost id ∷ cs) ds h k = absurd h
+
 -- ---- a turn that is taken or refused
 
 module _ (A J : Type 0) (y : Yields) (may : J → EndValue → Type 0) (from a b : Starts) (s t u : Telling) (most : ℕ) (first now new : EngineValue) (cs ds : List (Child J)) (g : IsGoing A y may from a s t most first now cs) where
   -- a build went on, or the refusal stands
   abbrev Goes : {T : Type 0} → List (Child J) → Result T (BuildError A) → List Call → ℕ → Type 0
   Goes xs r calls n = (on : GoesOnBy A y may from b s u most first new xs calls n) × IfErr r (λ e. IsRefusedBuild A y u most on.going.led.built.led.calls first new e.step e.refusal)
-      × PutsOf on.more t u × OnOk r (turns_in on.more ≡ 1)
+      × PutsOf on.more t u × OnOk r (AreOneTurn on.more)
 
-  begun_refused : (z : Yields) (i : ℕ) (e : BuildError A) → YieldsNoMore z y → IsKept t u → StartsNone a b → (turn : IsTurn most now cs (turns.Start i)) → IsLeastStartable now i → (e.step ≡ i) × StopsBeginning A z u i now new e.refusal
+  begun_refused : (z : Yields) (i : ℕ) (e : BuildError A) → YieldsNoMore z y → IsKept t u → StartsNone a b → (turn : IsTurn most now cs (turns.Start i)) → AreTurns g.led.built.led.calls → (e.step ≡ i) × StopsBeginning A z u i now new e.refusal
       → Goes {T = Unit {0}} cs (Err e) g.led.built.led.calls (taken_in true i now new)
-  begun_refused z i e within k quiet turn next (step, inl (same, stops)) =
+  begun_refused z i e within k quiet turn so_far (step, inl (same, stops)) =
       let calls = g.led.built.led.calls in
       let w : Went A J y may from s most first b u new cs calls [] = subst (λ (e : EngineValue). Went A J y may from s most first b u e cs calls []) (sym same) (going_kept A J y may from s most first a b t u now cs k quiet g) in (
-        on_by A J y may from s most first b u new cs calls [] (taken_in true i now new) w (none_kept A J y may from s most first a b t u now new i cs k g turn.0 turn.2.waiting.unfinished same),
+        on_by A J y may from s most first b u new cs calls [] (taken_in true i now new) w (none_kept A J y may from s most first a b t u now new i cs k g turn.0 turn.2.startable.waiting.unfinished same),
         record {
           at = now;
           led = led_kept A J y may from s most first a b t u now cs k g;
+          turns = inl (turns_then calls [] so_far tt);
           rest = record { ids = []; calls = w.are ∙ sym (append-nil (calls ++ [])); leads = same };
           planned = subst (λ n. n < length now.plan.steps) (sym step) turn.1;
           stops = subst (λ n. StopsStep y u now n e.refusal) (sym step) (stops_within z y u now i e.refusal within stops);
@@ -117,14 +132,15 @@ module _ (A J : Type 0) (y : Yields) (may : J → EndValue → Type 0) (from a b
         puts_none t u [] k,
         tt,
       )
-  begun_refused z i e within k quiet turn next (step, inr (id, mid, is, gone, stops)) =
+  begun_refused z i e within k quiet turn so_far (step, inr (id, mid, is, gone, stops)) =
       let calls = g.led.built.led.calls in
       let gone_job : IsLost id mid new = (job_of is, job_is is, gone) in
-      let w = going_back A J y may from s most first a b t u now mid cs i id k g turn.0 is next new (lost id) (none_starts a b quiet) (λ d x child. absurd child) (λ js. refl) (ap (λ (e : EngineValue). e.jobs) gone) (ap (λ (e : EngineValue). e.commands) gone, ap (λ (e : EngineValue). e.frames) gone) gone_job tt in (
-        on_by A J y may from s most first b u new cs calls (started i id ∷ lost id ∷ []) (taken_in true i now new) w (none_lost A J y may from s most first a b t u now new i cs k g turn.0 turn.2.waiting.unfinished id mid is gone),
+      let w = going_back A J y may from s most first a b t u now mid cs i id k g turn.0 is turn.2 new (lost id) (none_starts a b quiet) (λ d x child. absurd child) (λ js. refl) (ap (λ (e : EngineValue). e.jobs) gone) (ap (λ (e : EngineValue). e.commands) gone, ap (λ (e : EngineValue). e.frames) gone) gone_job tt in (
+        on_by A J y may from s most first b u new cs calls (started i id ∷ lost id ∷ []) (taken_in true i now new) w (none_lost A J y may from s most first a b t u now new i cs k g turn.0 turn.2.startable.waiting.unfinished id mid is gone),
         record {
           at = mid;
-          led = led_started A J y may from s most first a b t u now mid cs i id k g turn.0 is next;
+          led = led_started A J y may from s most first a b t u now mid cs i id k g turn.0 is turn.2;
+          turns = subst (λ n. AreTurnsUntil n (calls ++ started i id ∷ [])) (sym step) (inr (calls, id, so_far, refl));
           rest = record { ids = id ∷ []; calls = w.are ∙ sym (append_assoc calls (started i id ∷ []) (lost id ∷ [])); leads = (new, gone_job, (few_jobs A J y may from s most first b u new cs w.going, tt), refl) };
           planned = subst (λ n. n < length mid.plan.steps) (sym step) (subst (λ (e : EngineValue). i < length e.plan.steps) (sym (after is)) turn.1);
           stops = subst (λ n. StopsStep y u mid n e.refusal) (sym step) (stops_within z y u mid i e.refusal within stops);
@@ -133,15 +149,15 @@ module _ (A J : Type 0) (y : Yields) (may : J → EndValue → Type 0) (from a b
         tt,
       )
 
-  pub start_goes : {T : Type 0} (r : Result T (BuildError A)) (z : Yields) (i : ℕ) → YieldsNoMore z y → IsKept t u → OnErr r (StartsNone a b) → IsTurn most now cs (turns.Start i) → IsNextTurn most now cs (turns.Start i) → IsEngine now → OnOk r (IsBegun A z may a b t u i now new cs ds)
+  pub start_goes : {T : Type 0} (r : Result T (BuildError A)) (z : Yields) (i : ℕ) → YieldsNoMore z y → IsKept t u → OnErr r (StartsNone a b) → IsTurn most now cs (turns.Start i) → AreTurns g.led.built.led.calls → IsEngine now → OnOk r (IsBegun A z may a b t u i now new cs ds)
       → IfErr r (λ e. (e.step ≡ i) × StopsBeginning A z u i now new e.refusal) → OnErr r (ds ≡ cs) → Goes ds r g.led.built.led.calls (taken_in true i now new)
-  start_goes (Ok x) z i within k quiet turn next valid begun stop same =
+  start_goes (Ok x) z i within k quiet turn so_far valid begun stop same =
       let count = valid.count in
       let lt = turn.1 in
-      let on = going_begun A J y may from s most first a b t u now new i cs k g turn.0 turn.2.waiting.unfinished (record { startable = turn.2; least = next }) z within ds (omega (arith, count, lt)) begun in
+      let on = going_begun A J y may from s most first a b t u now new i cs k g turn.0 turn.2.startable.waiting.unfinished turn.2 z within ds (omega (arith, count, lt)) begun in
       (on.0, tt, puts_none t u on.0.more k, on.1)
-  start_goes (Err e) z i within k quiet turn next valid begun stop same =
-      subst (λ xs. Goes {T = Unit {0}} xs (Err e) g.led.built.led.calls (taken_in true i now new)) (sym same) (begun_refused z i e within k quiet turn (record { startable = turn.2; least = next }) stop)
+  start_goes (Err e) z i within k quiet turn so_far valid begun stop same =
+      subst (λ xs. Goes {T = Unit {0}} xs (Err e) g.led.built.led.calls (taken_in true i now new)) (sym same) (begun_refused z i e within k quiet turn so_far stop)
 
   -- the first child is waited for
   module _ (c : Child J) (quiet : StartsNone a b) (f : IsGoing A y may from a s t most first now (c ∷ ds)) where
@@ -165,21 +181,22 @@ module _ (A J : Type 0) (y : Yields) (may : J → EndValue → Type 0) (from a b
     end_stops k refusals.Fetch h = runs_still
     end_stops k refusals.Memory h = runs_still
 
-    ended_well : IsNextTurn most now (c ∷ ds) turns.Finish → EndedWell may t u c now new → (on : GoesOnBy A y may from b s u most first new ds f.led.built.led.calls 0) × PutsOf on.more t u × (turns_in on.more ≡ 1)
+    ended_well : IsTurn most now (c ∷ ds) turns.Finish → EndedWell may t u c now new → (on : GoesOnBy A y may from b s u most first new ds f.led.built.led.calls 0) × PutsOf on.more t u × AreOneTurn on.more
     ended_well next e = (
       on_by A J y may from s most first b u new ds f.led.built.led.calls (ran c.id c.action e.produced.outcome ∷ []) 0 (going_ran A J y may from s most first a b t u now new c ds quiet f next e) refl,
       (moves_ran t u c.id c.action e.produced.outcome e.kept).puts,
-      refl,
+      (tt, refl),
     )
 
-    end_refused : IsNextTurn most now (c ∷ ds) turns.Finish → IsEngine now → (e : BuildError A) → (e.step ≡ c.step) × StopsSettling may t u c now new e.refusal → Goes {T = Unit {0}} ds (Err e) f.led.built.led.calls 0
-    end_refused next valid e (step, inl (gone, k, stop)) =
+    end_refused : IsTurn most now (c ∷ ds) turns.Finish → AreTurns f.led.built.led.calls → IsEngine now → (e : BuildError A) → (e.step ≡ c.step) × StopsSettling may t u c now new e.refusal → Goes {T = Unit {0}} ds (Err e) f.led.built.led.calls 0
+    end_refused next so_far valid e (step, inl (gone, k, stop)) =
         let calls = f.led.built.led.calls in
         let w = going_lost A J y may from s most first a b t u now new c ds quiet f gone k in (
           on_by A J y may from s most first b u new ds calls (lost c.id ∷ []) 0 w refl,
           record {
             at = now;
             led = led_kept A J y may from s most first a b t u now (c ∷ ds) k f;
+            turns = inl (turns_then calls [] so_far tt);
             rest = record { ids = c.id ∷ []; calls = w.are ∙ sym (append_assoc calls [] (lost c.id ∷ [])); leads = (new, gone, (few_jobs A J y may from s most first b u new ds w.going, tt), refl) };
             planned = subst (λ n. n < length now.plan.steps) (sym step) (step_planned valid);
             stops = subst (λ n. StopsStep y u now n e.refusal) (sym step) (end_stops k e.refusal stop);
@@ -187,12 +204,13 @@ module _ (A J : Type 0) (y : Yields) (may : J → EndValue → Type 0) (from a b
           puts_none t u (lost c.id ∷ []) k,
           tt,
         )
-    end_refused next valid e (step, inr (well, store)) =
+    end_refused next so_far valid e (step, inr (well, store)) =
         let on = ended_well next well in (
           on.0,
           record {
             at = new;
             led = on.0.going.led.built.led;
+            turns = inl (subst AreTurns (sym on.0.are) (turns_then f.led.built.led.calls on.0.more so_far on.2.0));
             rest = loses_none;
             planned = subst (λ n. n < length new.plan.steps) (sym step) (subst (λ (p : PlanValue). c.step < length p.steps) (sym (ap (λ (e : EngineValue). e.plan) well.finished.after)) (step_planned valid));
             stops = subst (λ n. StopsStep y u new n e.refusal) (sym step)
@@ -202,12 +220,12 @@ module _ (A J : Type 0) (y : Yields) (may : J → EndValue → Type 0) (from a b
           tt,
         )
 
-  pub finish_goes : {T : Type 0} (r : Result T (BuildError A)) → IsNextTurn most now cs turns.Finish → IsEngine now → StartsNone a b → OnOk r (HasEndedFirst (EndedWell may t u) now new cs ds)
+  pub finish_goes : {T : Type 0} (r : Result T (BuildError A)) → IsTurn most now cs turns.Finish → AreTurns g.led.built.led.calls → IsEngine now → StartsNone a b → OnOk r (HasEndedFirst (EndedWell may t u) now new cs ds)
       → IfErr r (λ e. HasEndedFirst (λ c old new. (e.step ≡ c.step) × StopsSettling may t u c old new e.refusal) now new cs ds) → Goes ds r g.led.built.led.calls 0
-  finish_goes {T} (Ok x) next valid quiet well stop =
-      subst (λ xs. (f : IsGoing A y may from a s t most first now xs) → Goes {T = T} ds (Ok x) f.led.built.led.calls 0) (sym well.is) (λ f. let on = ended_well well.child quiet f (subst (λ xs. IsNextTurn most now xs turns.Finish) well.is next) well.end in (on.0, tt, on.1, on.2)) g
-  finish_goes {T} (Err e) next valid quiet well stop =
-      subst (λ xs. (f : IsGoing A y may from a s t most first now xs) → Goes {T = T} ds (Err e) f.led.built.led.calls 0) (sym stop.is) (λ f. end_refused stop.child quiet f (subst (λ xs. IsNextTurn most now xs turns.Finish) stop.is next) valid e stop.end) g
+  finish_goes {T} (Ok x) next so_far valid quiet well stop =
+      subst (λ xs. (f : IsGoing A y may from a s t most first now xs) → Goes {T = T} ds (Ok x) f.led.built.led.calls 0) (sym well.is) (λ f. let on = ended_well well.child quiet f (subst (λ xs. IsTurn most now xs turns.Finish) well.is next) well.end in (on.0, tt, on.1, on.2)) g
+  finish_goes {T} (Err e) next so_far valid quiet well stop =
+      subst (λ xs. (f : IsGoing A y may from a s t most first now xs) → AreTurns f.led.built.led.calls → Goes {T = T} ds (Err e) f.led.built.led.calls 0) (sym stop.is) (λ f before. end_refused stop.child quiet f (subst (λ xs. IsTurn most now xs turns.Finish) stop.is next) before valid e stop.end) g so_far
 
 -- fewer children are left after a refusal than may run
 pub start_room : {J T E : Type 0} (r : Result T E) (now : EngineValue) (cs ds : List (Child J)) (turn : Turn) (i : ℕ) → turn ≡ turns.Start i → OnErr r (ds ≡ cs) → OnErr r ((most : ℕ) → IsTurn most now cs turn → length cs ≤ most → length ds < most)
@@ -247,6 +265,7 @@ module _ (A : Type 0) (z y : Yields) (t : Telling) (within : YieldsNoMore z y) w
   refused_within {most} {i} {calls} {old} {new} {r} h = record {
     at = h.at;
     led = record { calls = h.led.calls; leads = leads_within most h.led.calls old h.at h.led.leads };
+    turns = h.turns;
     rest = record { ids = h.rest.ids; calls = h.rest.calls; leads = leads_within most (map lost h.rest.ids) h.at new h.rest.leads };
     planned = h.planned;
     stops = stops_within z y t h.at i r within h.stops;

@@ -23,7 +23,7 @@ use Rattle.runs.specs.Results.{result_of}
 use Rattle.runs.specs.Served.{Keeps, HoldsTrees, IsKeptOf}
 use Rattle.runs.proofs.Places.{set_other}
 use Rattle.verifier.proofs.FreshRuns.{one_answer}
-use Rattle.worker.specs.Storing.{HasAt, IsKeptBut, HasResultOf, IsResultOfStep, IsForForm, StoresStep, StoresSteps, IsHeldWhole}
+use Rattle.worker.specs.Storing.{HasAt, IsKeptBut, HasResultOf, IsResultOfStep, IsForForm, StoresStep, StoresSteps, IsHeldWhole, tree_blobs}
 use Rattle.worker.specs.Calls.{IsResultFor}
 use Rattle.worker.specs.Outcomes.{HasTree, HasTrees}
 use Rattle.worker.specs.Stored.{IsKept, IsToldOrTree, IsStored}
@@ -200,6 +200,20 @@ trees_taken {A} B C es i e lt is keeps held one =
     let taken : take (i + 1) es ≡ take i es ++ e ∷ [] = take_more es i e lt ∙ ap (λ y. take i es ++ y ∷ []) (sym is) in
     let values : outputs_in (take (i + 1) es) ≡ outputs_in (take i es) ++ value e ∷ [] = ap outputs_in taken ∙ map-append value (take i es) (e ∷ []) in
     subst (AllByRecursion (HasTree C)) (sym values) (trees_more C (outputs_in (take i es)) (value e) (trees_still B C (outputs_in (take i es)) keeps held) one)
+
+-- the blobs of their Trees are those of the first ones, and its own
+tree_blobs_join : (es fs : List (List Name × OutputValue)) → tree_blobs (es ++ fs) ≡ tree_blobs es + tree_blobs fs
+tree_blobs_join [] fs = omega arith
+tree_blobs_join ((p, outputs.File d x) ∷ es) fs = tree_blobs_join es fs
+tree_blobs_join ((p, outputs.Link t) ∷ es) fs = tree_blobs_join es fs
+tree_blobs_join ((p, outputs.Tree t) ∷ es) fs = let rest = tree_blobs_join es fs in omega (arith, rest)
+
+pub tree_blobs_more : {A : Type 0} (es : List (List Name × Output A)) (i : ℕ) (e : List Name × Output A) → i < length es → e ≡ get_or es i e
+    → tree_blobs (outputs_in (take (i + 1) es)) ≡ tree_blobs (outputs_in (take i es)) + tree_blobs ((e.0, output_value e.1) ∷ [])
+tree_blobs_more {A} es i e lt is =
+    let value : List Name × Output A → List Name × OutputValue = λ x. (x.0, output_value x.1) in
+    let taken : take (i + 1) es ≡ take i es ++ e ∷ [] = take_more es i e lt ∙ ap (λ y. take i es ++ y ∷ []) (sym is) in
+    ap tree_blobs (ap outputs_in taken ∙ map-append value (take i es) (e ∷ [])) ∙ tree_blobs_join (outputs_in (take i es)) (value e ∷ [])
 
 pub no_tree : {A : Type 0} (B : Blobs) (p : List Name) (o : Output A) → ((t : TreeValue) → o ≡ outputs.Tree t → ⊥) → HasTree B (p, output_value o)
 no_tree B p (outputs.File d x) not = tt

@@ -14,8 +14,7 @@ use Rattle.actions.specs.Outcome.{OutputValue, OutcomeValue}
 use Rattle.actions.specs.Recorded.{StandsFor, StandForAll, IsRecorded}
 use Rattle.tree.specs.Tree.{Name, Tree, empty, leaf, folder, Standing, nothing, a_leaf, a_directory, stands_at}
 use Rattle.tree.specs.Form.{NodeValue}
-use Rattle.tree.specs.FlatTree.{FlatValue}
-use Rattle.tree.specs.Unfolded.{TellsBelow, TellsTree, IsUnfolded}
+use Rattle.tree.specs.Unfolded.{TellsBelow, TellsTree}
 use Rattle.runs.specs.Engine.{JobValue, EngineValue}
 use Rattle.worker.specs.Values.{LayoutValue, EndValue, made}
 use Rattle.worker.specs.Stored.{IsKept}
@@ -42,9 +41,6 @@ module _ {B C : Blobs} (keeps : KeepsRight B C) where
 
   tells_still : {d : DigestValue} {t : Tree NodeValue} → TellsTree B d t → TellsTree C d t
   tells_still {d} {t} h = record { root = h.root; top = told_still h.top; below = below_still t h.below }
-
-  pub unfolded_still : {d : DigestValue} {es : FlatValue} → IsUnfolded B d es → IsUnfolded C d es
-  unfolded_still h = record { tree = h.tree; list = h.list; told = tells_still h.told }
 
   file_still : (b : List ℕ) (s : Standing NodeValue) → IsFileWith B b s → IsFileWith C b s
   file_still b nothing h = h

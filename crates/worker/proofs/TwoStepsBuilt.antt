@@ -11,7 +11,9 @@ use Rattle.blob_digest.specs.Digest.{DigestValue, digest_of}
 use Rattle.blob_source.specs.Source.{Blobs}
 use Rattle.messages.specs.declared.node.Node.TheVariants as nodes
 use Rattle.messages.specs.Directory.{directory_bytes}
-use Rattle.action_messages.specs.Action.{with_input}
+use Rattle.action_messages.specs.Action.{action_bytes, with_input}
+use Rattle.action_messages.specs.Command.{CommandValue}
+use Rattle.action_messages.specs.Frame.{FrameValue}
 use Rattle.actions.specs.declared.outcome.Output.TheVariants as outputs
 use Rattle.actions.specs.Outcome.{OutcomeValue}
 use Rattle.plan.specs.Values.{output, StepValue}
@@ -27,8 +29,8 @@ use Rattle.verifier.specs.Together.{AreThere}
 use Rattle.verifier.specs.TwoSteps as two
 use Rattle.verifier.proofs.TwoSteps.{sources_named, input_named, gen_action_named, use_action_named}
 use Rattle.verifier.proofs.TwoStepsRecorded.{gen_result_held, use_result_held, gen_recorded, use_recorded}
-use Rattle.runs.specs.Calls.{IsOther, Disagrees, IsLeastIn, with_finished, with_job}
-use Rattle.runs.specs.Engine.{FinishedValue, JobValue, EngineValue}
+use Rattle.runs.specs.Calls.{IsOther, Disagrees, with_finished, with_job}
+use Rattle.runs.specs.Engine.{FinishedValue, JobValue, EngineValue, at_number}
 use Rattle.runs.specs.Calls.{IsReady}
 use Rattle.runs.specs.Looking.{outcomes_in, together_in}
 use Rattle.runs.specs.TwoSteps as example
@@ -141,61 +143,31 @@ use_together = (
   data_merges,
 )
 
-least : (js : List (Option JobValue)) → IsLeastIn (None ∷ js) 0
-least js = record { free = refl; lower = λ k lt. absurd (omega (arith, lt)) }
+-- a step is started as the first job
+pub started_first : {A : Type 0} (B : Blobs) (e : EngineValue) (i : ℕ) (s : StepValue) (frame : FrameValue) (command : CommandValue) (t : Tree NodeValue) → (f : Folded A) × IsFoldOf t f → (input digest : DigestValue)
+    → slice_get e.plan.steps i ≡ Some s → slice_get e.frames i ≡ Some frame → slice_get e.commands i ≡ Some command → (together_in B e s.lines).passes t
+    → input ≡ root t → digest ≡ digest_of (action_bytes (with_input frame input)) → at_number e.jobs 0 ≡ None → WasStarted A B i 0 e (with_job 0 (record { step = i; action = digest; input = input }) e)
+started_first B e i s frame command t f input digest at is_frame is_command together is_input is_digest free = record {
+  told = B;
+  still = λ d b at right. at;
+  job = record { id = 0; step = i; action = with_input frame input; digest = digest; command = command; input = f.0 };
+  number = refl;
+  is = record {
+    prepared = record { planned = s; at = at; tree = t; together = together; number = refl; of_step = refl; frame = is_frame; input = is_input; command = is_command; digest = is_digest; folded = f.1 };
+    least = record { free = free; lower = λ k lt. absurd (omega (arith, lt)) };
+    few = omega arith;
+    after = refl;
+  };
+}
 
 module _ {A : Type 0} (alloc : A) where
   gen_started : WasStarted A two.blobs 0 0 worked.first gen_runs
-  gen_started = let f = fold_of alloc empty none_few (lit< tt) in record {
-    told = two.blobs;
-    still = λ d b at right. at;
-    job = record { id = 0; step = 0; action = with_input two.gen.0.frame two.sources; digest = two.gen_action_digest; command = two.gen.0.command; input = f.0 };
-    number = refl;
-    is = record {
-      prepared = record {
-        planned = record { name = codes "gen"; frame = two.gen_frame_digest; lines = [] };
-        at = refl;
-        tree = empty;
-        together = gen_together;
-        number = refl;
-        of_step = refl;
-        frame = refl;
-        input = sym sources_named;
-        command = refl;
-        digest = sym gen_action_named;
-        folded = f.1;
-      };
-      least = record { free = refl; lower = λ k lt. absurd (omega (arith, lt)) };
-      few = omega arith;
-      after = refl;
-    };
-  }
+  gen_started = started_first two.blobs worked.first 0 _ two.gen.0.frame two.gen.0.command empty (fold_of alloc empty none_few (lit< tt)) two.sources two.gen_action_digest
+      refl refl refl gen_together (sym sources_named) (sym gen_action_named) refl
 
   use_started : WasStarted A two.blobs 1 0 gen_done use_runs
-  use_started = let f = fold_of alloc data_form data_few (lit< tt) in record {
-    told = two.blobs;
-    still = λ d b at right. at;
-    job = record { id = 0; step = 1; action = with_input two.uses.0.frame two.input_digest; digest = two.use_action_digest; command = two.uses.0.command; input = f.0 };
-    number = refl;
-    is = record {
-      prepared = record {
-        planned = record { name = codes "use"; frame = two.use_frame_digest; lines = record { target = codes "data" ∷ codes "x" ∷ []; origin = output 0 (codes "out" ∷ codes "a" ∷ []) } ∷ [] };
-        at = refl;
-        tree = data_form;
-        together = use_together;
-        number = refl;
-        of_step = refl;
-        frame = refl;
-        input = sym input_named;
-        command = refl;
-        digest = sym use_action_named;
-        folded = f.1;
-      };
-      least = least [];
-      few = omega arith;
-      after = refl;
-    };
-  }
+  use_started = started_first two.blobs gen_done 1 _ two.uses.0.frame two.uses.0.command data_form (fold_of alloc data_form data_few (lit< tt)) two.input_digest two.use_action_digest
+      refl refl refl use_together (sym input_named) (sym use_action_named) refl
 
 -- ---- the store's results are taken
 
@@ -291,7 +263,7 @@ built alloc y = record {
     calls = worked.calls;
     leads = (gen_runs, gen_started alloc, (omega arith, gen_next), (gen_done, gen_taken _, (omega arith, tt), (use_runs, use_started alloc, (omega arith, use_next), (worked.last, use_taken, (omega arith, tt), refl))));
   };
-  puts = record { put = []; are = refl; each = tt; others = λ d b at. inl at };
+  puts = record { put = []; are = refl; once = refl; each = tt; others = λ d b at. inl at };
 }
 
 pub is_built : {A : Type 0} (alloc : A) (y : Yields) → (b : IsBuiltBy A y two.telling two.telling 1 worked.first worked.last) × (b.led.calls ≡ worked.calls)

@@ -1,8 +1,9 @@
 -- Why a store has no result that a build takes.
-use Rattle.std.proofs.Common.{◌≡◌, ℕ, List, Option, Some, None, refl, subst}
+use Rattle.std.proofs.Common.{◌≡◌, ◌+◌, ◌≤◌, ℕ, List, length, Option, Some, None, arith, refl, sym, ap, subst, ◌∙◌}
 use Rattle.std.specs.Prelude.{Result, Ok, Err, IfOk}
 use Rattle.blob_digest.specs.Digest.{DigestValue}
-use Rattle.blob_source.specs.Source.{Telling}
+use Rattle.std.specs.declared.vec.Vec.{Vec}
+use Rattle.blob_source.specs.Source.{Asks, CountsCall, Telling, bytes_of}
 use Rattle.blob_source.specs.Told.{Fault, missing, wrong, malformed}
 use Rattle.messages.specs.declared.error.MessageError.{MessageError}
 use Rattle.messages.specs.declared.error.MessageError.TheVariants as messages
@@ -20,6 +21,8 @@ use Rattle.tree.specs.declared.error.TreeError.TheVariants as tree
 use Rattle.verifier.proofs.FreshRuns.{one_answer}
 use Rattle.worker.specs.Outcomes.{CanBeTaken, IsHeld}
 use Rattle.worker.specs.Going.{HasNoneToTake}
+use Rattle.worker.specs.Storing.{AsksResultOnce}
+use Rattle.worker.proofs.PutOnce.{call_counts}
 
 -- bytes that aren't read as a result
 pub unread : (e : MessageError) (r : ActionResultValue) → (e ≡ messages.Memory → ⊥) → FailsUnlessMemory e (Ok r) → ⊥
@@ -62,3 +65,18 @@ module _ (t : Telling) (d : DigestValue) (c : CommandValue) where
 
       pub none_fits : (o : OutcomeValue) → IsRecorded t.blobs r o → (CanBeTaken c o → ⊥) → HasNoneToTake t d c
       none_fits o recorded not v h fits = not (subst (CanBeTaken c) (recorded_once t.blobs r v o (recorded_there v h) recorded) fits)
+
+-- ---- how often the store is asked
+
+module _ {old mid : Telling} (d : DigestValue) (counts : CountsCall old mid) where
+  pub asked_once : AsksResultOnce d old mid
+  asked_once most each = let one = call_counts counts in omega (arith, one)
+
+  -- what was found is a result whose Trees are asked for
+  pub asked_trees : {A : Type 0} (new : Telling) (r : ActionResultValue) {found : Option (Vec ℕ A)} {v : Vec ℕ A} {read : List ℕ} → Asks (length r.directories) mid new
+      → bytes_of found ≡ mid.results d → found ≡ Some v → read ≡ v.items → Reads r read → AsksResultOnce d old new
+  asked_trees new r {v} asks told is same reads most each =
+      let one = call_counts counts in
+      let trees = asks.most_calls in
+      let few = each v.items r (asks.some.results d v.items (sym told ∙ ap bytes_of is)) (subst (Reads r) same reads) in
+      omega (arith, one, trees, few)

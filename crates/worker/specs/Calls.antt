@@ -143,6 +143,22 @@ IsNext most (started i id) e = IsLeastStartable e i
 IsNext most (ran id d v) e = running e.jobs < most → HasNoneStartable e
 IsNext most c e = Unit {0}
 
+-- ---- turns
+
+-- In each turn a step is started and its child is, or a step is started and what the store has for
+-- it is taken, or a child's job finishes.
+abbrev pub AreTurns : List Call → Type 0
+AreTurns [] = Unit {0}
+AreTurns (started i id ∷ launched w d s ∷ cs) = (w ≡ id) × AreTurns cs
+AreTurns (started i id ∷ taken w d v ∷ cs) = (w ≡ id) × AreTurns cs
+AreTurns (ran id d v ∷ cs) = AreTurns cs
+AreTurns cs = ⊥
+
+-- whole turns, after which this step may have been started
+abbrev pub AreTurnsUntil : ℕ → List Call → Type 0
+AreTurnsUntil i cs = AreTurns cs
+    ⊎ ((turns : List Call) × (id : ℕ) × AreTurns turns × (cs ≡ turns ++ started i id ∷ []))
+
 -- ---- what calls come to
 
 -- The calls, each as it comes next, lead from one engine to the other, and at most this many jobs
@@ -151,7 +167,8 @@ abbrev pub Leads : (A : Type 0) → Yields → Telling → ℕ → List Call →
     → Type 0
 Leads A yields t most [] old new = new ≡ old
 Leads A yields t most (c ∷ cs) old new =
-    (mid : EngineValue) × Does A yields t cs c old mid × ((running mid.jobs ≤ most) × IsNext most c old)
+    (mid : EngineValue) × Does A yields t cs c old mid
+    × ((running mid.jobs ≤ most) × IsNext most c old)
     × Leads A yields t most cs mid new
 
 -- Some calls lead from the one engine to the other.
@@ -160,12 +177,21 @@ pub record IsLed (A : Type 0) (yields : Yields) (t : Telling) (most : ℕ)
   pub calls : List Call
   pub leads : Leads A yields t most calls old new
 
+-- the digests are of actions whose children came to something, at most one for each of these, in
+-- this order
+abbrev pub ArePutFor : List Call → List DigestValue → Type 0
+ArePutFor [] ds = ds ≡ []
+ArePutFor (ran id d v ∷ cs) ds =
+    ArePutFor cs ds ⊎ ((rest : List DigestValue) × (ds ≡ d ∷ rest) × ArePutFor cs rest)
+ArePutFor (c ∷ cs) ds = ArePutFor cs ds
+
 -- What was put, and what stays: under each digest that was put stands the result of what a child of
 -- that action came to among the calls, and what stood under a digest gives way to such a result
 -- alone.
 pub record PutsOf (calls : List Call) (old new : Telling) : Type 0 where
   pub put : List DigestValue
   pub are : new.puts ≡ old.puts ++ put
+  pub once : ArePutFor calls put
   pub each : AllByRecursion (HasChildsResult calls new.results) put
   pub others : (d : DigestValue) (b : List ℕ) → old.results d ≡ Some b
       → (new.results d ≡ Some b) ⊎ HasChildsResult calls new.results d

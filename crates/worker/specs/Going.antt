@@ -10,19 +10,24 @@ use Rattle.blob_source.specs.Source.{Blobs, Telling}
 use Rattle.blob_source.specs.Sink.{HasRight}
 use Rattle.runs.specs.Engine.{FinishedValue, JobValue, EngineValue, at_number, finished_in, job_in}
 use Rattle.runs.specs.Calls.{IsFinished, jobs_of}
+use Rattle.runs.specs.LooksAt.{StartNeeds}
+use Rattle.std.specs.BTreeSet.{BTreeSet}
+use Rattle.tree.specs.Memo.{Asked, Covers, count_unknown, known_by}
 use Rattle.runs.specs.declared.starting.Job.{Job}
 use Rattle.worker.specs.declared.child.Child.{Child}
 use Rattle.worker.specs.declared.turns.Turn.{Turn}
 use Rattle.worker.specs.declared.turns.Turn.TheVariants as turns
 use Rattle.worker.specs.Layout.{IsLayoutOf}
 use Rattle.worker.specs.Values.{LayoutValue, ProducedValue, EndValue, made, Starts, StartsOne}
-use Rattle.worker.specs.Values.{StartsNone}
-use Rattle.worker.specs.Storing.{IsKeptBut, HasResultOf, IsHeldWhole}
+use Rattle.worker.specs.Values.{StartsNone, items_of}
+use Rattle.worker.specs.Storing.{IsKeptBut, HasFewTrees, HasResultOf, IsHeldWhole, not_put}
+use Rattle.worker.specs.Storing.{tree_blobs}
+use Rattle.worker.specs.declared.remembering.Remembered.{Remembered}
 use Rattle.worker.specs.Outcomes.{Yields, YieldsFor, HasAllRight, HasOwnAction, HasTrees, IsHeld}
 use Rattle.worker.specs.Outcomes.{CanBeTaken}
 use Rattle.worker.specs.Calls.{running, Call, WasStarted, IsBuiltWith, IsResultFor}
-use Rattle.worker.specs.Calls.{IsStartable}
-use Rattle.worker.specs.Watching.{taken_count, jobs_after}
+use Rattle.worker.specs.Calls.{IsLeastStartable, HasNoneStartable, AreTurns}
+use Rattle.worker.specs.Watching.{taken_count, turns_in, jobs_after}
 
 -- the job is the child's
 pub record IsJobOf {J : Type 0} (c : Child J) (j : JobValue) : Type 0 where
@@ -114,6 +119,41 @@ pub record IsBegun (A : Type 0) {J : Type 0} (yields : Yields) (may : J → EndV
   pub is : job_in id mid ≡ Some job
   pub goes : IsLaunched yields may from to s t id job mid new before after
 
+-- ---- how often the store is called
+
+-- for what is laid out of an input: its top, each folder and each file
+abbrev pub IsForLayout : Blobs → DigestValue → ℕ → Type 0
+IsForLayout B input n = (l : LayoutValue) × IsLayoutOf B input l
+    × (n ≡ 1 + length l.folders + length l.files)
+
+-- for the Trees of what a job finished with, and their Directories
+abbrev pub IsForTrees : ℕ → EngineValue → EngineValue → ℕ → Type 0
+IsForTrees id old new n =
+    (v : OutcomeValue) × IsFinished id v old new × (n ≡ tree_blobs v.outputs)
+
+-- As a job goes on the store is called at most once for its action, for each Directory of its input
+-- that wasn't put, for the action's result and for each Tree of that; and for what is laid out for
+-- its child, or for the Trees that are taken.
+pub record CallsForJob {A : Type 0} (job : Job A) (put : BTreeSet DigestValue) (t : Telling)
+    (old new : EngineValue) (from to : ℕ) : Type 0 where
+  pub rest : ℕ
+  pub for_rest : IsForLayout t.blobs job.action.input rest ⊎ IsForTrees job.id old new rest
+  pub once : (most : ℕ) → HasFewTrees t job.digest most
+      → to ≤ from + 2 + not_put put (items_of job.input.directories.items) + most + rest
+
+-- As a step is started the store is asked at most once for each Directory of the sources that its
+-- lines need and that isn't known, and what it was asked for is known then; and it is called as the
+-- job goes on.
+pub record CallsForStart {A : Type 0} {J : Type 0} {yields : Yields} {may : J → EndValue → Type 0}
+    {from to : Starts} {s t : Telling} {i : ℕ} {old new : EngineValue}
+    {before after : List (Child J)} (was now : Remembered A)
+    (b : IsBegun A yields may from to s t i old new before after) : Type 0 where
+  pub calls : ℕ
+  pub asked : (list : List Asked) → Covers (StartNeeds b.started.told old i) list
+      → calls + count_unknown (known_by now.memo) list
+      ≤ s.calls + count_unknown (known_by was.memo) list
+  pub goes : CallsForJob b.started.job was.put t b.mid new calls t.calls
+
 -- A child's job finished with what the child came to, whose blobs and Trees are in the store, where
 -- a result may have been put.
 pub record EndedWell {J : Type 0} (may : J → EndValue → Type 0) (s t : Telling) (c : Child J)
@@ -139,12 +179,13 @@ HasResultOfFirst t e (c ∷ cs) = HasResultOf t e c.step c.action
 
 -- ---- the turns
 
--- a turn that can be taken: a step may be started, while fewer children than the most run, or there
--- is one to wait for
+-- The turn that comes next: the least step that may be started, while fewer children than the most
+-- run. The first child is waited for only where no step may be started, or as many run.
 abbrev pub IsTurn : {J : Type 0} → ℕ → EngineValue → List (Child J) → Turn → Type 0
 IsTurn most e children (turns.Start i) =
-    (length children < most) × (i < length e.plan.steps) × IsStartable e i
-IsTurn most e children turns.Finish = 0 < length children
+    (length children < most) × (i < length e.plan.steps) × IsLeastStartable e i
+IsTurn most e children turns.Finish =
+    (0 < length children) × (length children < most → HasNoneStartable e)
 
 -- the step of a turn: the one that is started, or that of the child that is waited for
 abbrev pub step_of : {J : Type 0} → Turn → List (Child J) → ℕ
@@ -155,13 +196,6 @@ step_of turns.Finish (c ∷ cs) = c.step
 abbrev pub is_start : Turn → Bool
 is_start (turns.Start i) = true
 is_start turns.Finish = false
-
--- The turn that comes next: the least step that may be started. The first child is waited for only
--- where no step may be started, or no more children may run.
-abbrev pub IsNextTurn : {J : Type 0} → ℕ → EngineValue → List (Child J) → Turn → Type 0
-IsNextTurn most e children (turns.Start i) = (k : ℕ) → k < i → IsStartable e k → ⊥
-IsNextTurn most e children turns.Finish =
-    length children < most → (k : ℕ) → k < length e.plan.steps → IsStartable e k → ⊥
 
 -- whether a step has neither finished nor a job, as a number
 abbrev pub weight : Option FinishedValue → ℕ → ℕ
@@ -188,6 +222,10 @@ one_if (Some f) = 1
 abbrev pub taken_in : Bool → ℕ → EngineValue → EngineValue → ℕ
 taken_in true i old new = one_if (finished_in i new) - one_if (finished_in i old)
 taken_in false i old new = 0
+
+-- calls of one turn
+abbrev pub AreOneTurn : List Call → Type 0
+AreOneTurn cs = AreTurns cs × (turns_in cs ≡ 1)
 
 -- A build went on from these calls by more, and by these this many steps were taken from the store.
 pub record GoesOnBy (A : Type 0) {J : Type 0} (yields : Yields) (may : J → EndValue → Type 0)

@@ -1,6 +1,6 @@
--- Why a build ends at a step.
+-- How a build ends, and why at a step.
 use Rattle.std.specs.Prelude.{◌≡◌, ◌⊎◌, ◌<◌, ◌++◌, ℕ, List, length, map, Some, slice_get}
-use Rattle.std.specs.Prelude.{IsSome, string_bytes}
+use Rattle.std.specs.Prelude.{IsSome, Option, Result, IfErr, OnOk, string_bytes}
 use Rattle.action_messages.specs.Command.{CommandValue}
 use Rattle.actions.specs.Outcome.{OutcomeValue}
 use Rattle.blob_source.specs.Source.{Telling}
@@ -9,10 +9,13 @@ use Rattle.runs.specs.Calls.{IsFinishFault, IsStartFault}
 use Rattle.worker.specs.declared.error.Refusal.{Refusal}
 use Rattle.worker.specs.declared.error.Refusal.TheVariants as refusals
 use Rattle.worker.specs.declared.runner.RunError.TheVariants as children
-use Rattle.worker.specs.Calls.{Call, lost, Leads, IsLed, IsStartable}
+use Rattle.worker.specs.declared.error.BuildError.{BuildError}
+use Rattle.worker.specs.declared.watching.Progress.{Progress}
+use Rattle.worker.specs.Calls.{Call, lost, Leads, IsLed, IsStartable, AreTurns, AreTurnsUntil}
 use Rattle.worker.specs.Outcomes.{Yields, MayComeTo, IsYielded, CanBeTakenFor}
 use Rattle.worker.specs.Refusals.{IsLayoutFault}
 use Rattle.worker.specs.Values.{IsAbsolute, bad_at, failed}
+use Rattle.worker.specs.Watching.{IsProgress, IsUpToDate, IsWatched}
 
 -- what a job finishes with: what the runner yields for it, or what is taken from the store for it
 abbrev pub ComesTo : Yields → Telling → EngineValue → JobValue → OutcomeValue → Type 0
@@ -54,15 +57,29 @@ pub record LosesRest (A : Type 0) (yields : Yields) (t : Telling) (most : ℕ)
   pub calls : all ≡ first ++ map lost ids
   pub leads : Leads A yields t most (map lost ids) old new
 
--- The first of the calls led to an engine of which a step of its plan is refused, and after them
--- jobs alone were lost.
+-- The first of the calls led in turns to an engine of which a step of its plan is refused, and
+-- after them jobs alone were lost.
 pub record IsRefusedBuild (A : Type 0) (yields : Yields) (t : Telling) (most : ℕ)
     (calls : List Call) (old new : EngineValue) (i : ℕ) (r : Refusal A) : Type 0 where
   pub at : EngineValue
   pub led : IsLed A yields t most old at
+  pub turns : AreTurnsUntil i led.calls
   pub rest : LosesRest A yields t most led.calls calls at new
   pub planned : i < length at.plan.steps
   pub stops : StopsStep yields t at i r
+
+-- A build ends with this answer after these calls.
+pub record EndsBuild {T : Type 0} (A : Type 0) (yields : Yields) (t : Telling) (most : ℕ)
+    (old new : EngineValue) (calls : List Call) (before after : Option (List Progress))
+    (result : Result T (BuildError A)) : Type 0 where
+  -- the calls are turns
+  pub turns : OnOk result (AreTurns calls)
+  -- or the refusal of a step stands
+  pub refused : IfErr result
+      (λ e. IsRefusedBuild A yields t most calls old new e.step e.refusal)
+  -- the watcher was told the numbers after each of the first turns, and in the end after all
+  pub watched : IsWatched (IsProgress A yields t most old calls) before after
+  pub up_to_date : OnOk result (IsUpToDate A yields t most old new calls before after)
 
 -- the store failed, or memory ran out
 abbrev pub IsStoreFault : {A : Type 0} → Refusal A → Type 0

@@ -1,12 +1,14 @@
 -- What a store has while a build goes on: words of private functions.
-use Rattle.std.specs.Prelude.{◌≡◌, ◌⊎◌, ◌+◌, ℕ, List, [], ◌∷◌, ◌++◌, true, Some, None}
+use Rattle.std.specs.Prelude.{suc, ◌≡◌, ◌⊎◌, ◌+◌, ◌≤◌, ℕ, List, [], ◌∷◌, ◌++◌, length, true, Some}
+use Rattle.std.specs.Prelude.{None}
 use Rattle.std.specs.Prelude.{if◌then◌else◌}
 use Rattle.std.specs.List.{AllByRecursion}
 use Rattle.std.specs.BTreeSet.{BTreeSet, contains}
 use Rattle.blob_digest.specs.Digest.{DigestValue, digest_cmp, digest_of}
 use Rattle.action_messages.specs.ActionResult.{ActionResultValue}
 use Rattle.action_messages.specs.Reads.{Reads}
-use Rattle.actions.specs.Outcome.{OutcomeValue}
+use Rattle.actions.specs.declared.outcome.Output.TheVariants as outputs
+use Rattle.actions.specs.Outcome.{OutputValue, OutcomeValue}
 use Rattle.actions.specs.Recorded.{IsRecorded}
 use Rattle.blob_source.specs.Source.{Blobs, Telling, IsBlobUnder}
 use Rattle.blob_source.specs.Sink.{HasRight, KeepsRight}
@@ -16,7 +18,8 @@ use Rattle.runs.specs.Engine.{FinishedValue, EngineValue, finished_in}
 use Rattle.runs.specs.Results.{result_of}
 use Rattle.runs.specs.Served.{IsKeptOf}
 use Rattle.worker.specs.declared.remembering.Remembered.{Remembered}
-use Rattle.worker.specs.Outcomes.{HasTrees, IsHeld}
+use Rattle.tree.specs.Tree.{Name}
+use Rattle.worker.specs.Outcomes.{HasTrees, IsHeld, directories_of}
 
 -- bytes of which this is so stand under a digest
 abbrev pub HasAt : (List ℕ → Type 0) → Blobs → DigestValue → Type 0
@@ -55,6 +58,24 @@ StaysPut old new = (d : DigestValue) → HasPut old d → HasPut new d
 
 abbrev pub HasPutAll : BTreeSet DigestValue → List (List ℕ) → Type 0
 HasPutAll put = AllByRecursion (λ b. HasPut put (digest_of b))
+
+-- the result under a digest, if there is one, names at most so many directories
+abbrev pub HasFewTrees : Telling → DigestValue → ℕ → Type 0
+HasFewTrees t d most = (b : List ℕ) (r : ActionResultValue) → t.results d ≡ Some b → Reads r b
+    → length r.directories ≤ most
+
+-- how often a store is asked for the result under a digest: once, and once for the Tree of each
+-- directory that it names
+abbrev pub AsksResultOnce : DigestValue → Telling → Telling → Type 0
+AsksResultOnce d old new =
+    (most : ℕ) → HasFewTrees new d most → new.calls ≤ old.calls + 1 + most
+
+-- how many blobs the Trees among outputs are: each, and its Directories
+abbrev pub tree_blobs : List (List Name × OutputValue) → ℕ
+tree_blobs [] = 0
+tree_blobs ((p, outputs.File d executable) ∷ es) = tree_blobs es
+tree_blobs ((p, outputs.Link target) ∷ es) = tree_blobs es
+tree_blobs ((p, outputs.Tree t) ∷ es) = suc (length (directories_of t)) + tree_blobs es
 
 -- how many of the blobs weren't put before
 abbrev pub not_put : BTreeSet DigestValue → List (List ℕ) → ℕ

@@ -1,4 +1,5 @@
-ghost use Rattle.std.specs.Prelude.{◌≡◌, ◌+◌, ◌-◌, ◌<◌, Some, IfErr, IfOk, OnOk, OnErr, length};
+ghost use Rattle.std.specs.Prelude.{◌≡◌, ◌+◌, ◌-◌, ◌<◌, ◌≤◌, Some, IfErr, IfOk, OnOk, OnErr};
+ghost use Rattle.std.specs.Prelude.{length};
 ghost use Rattle.worker.specs.Layout.{IsLayoutOf};
 ghost use Rattle.std.specs.Result.{IsErrAnd};
 ghost use Rattle.worker.specs.Counted.{Counts, IsDevice, IsFetch};
@@ -7,7 +8,8 @@ ghost use Rattle.worker.specs.Storing.{HasPutAll, Remembers, StaysPut, StaysReme
 ghost use Rattle.worker.specs.Calls.{IsStartable};
 ghost use Rattle.worker.specs.Outcomes.{YieldsFor, YieldsNoMore};
 ghost use Rattle.worker.specs.Values.{LayoutValue, EndValue, StartsNone, StartsOne, items_of};
-ghost use Rattle.worker.specs.Going.{IsJobIn, kept_job, IsBegun, IsLaunched};
+ghost use Rattle.worker.specs.Going.{CallsForJob, CallsForStart, IsJobIn, kept_job, IsBegun};
+ghost use Rattle.worker.specs.Going.{IsLaunched};
 ghost use Rattle.worker.specs.Stopping.{StopsChild, StopsBeginning};
 ghost use Rattle.worker.specs.Stopped.{StopsStep};
 
@@ -38,7 +40,9 @@ fn start_child<A: Allocator + Copy, S: BlobSink<A>, N: Runner<A>>(
         × ((e : EndValue) → N.may_give child e
         → YieldsFor (N.yields runner.old) l job.now.command e)
         × StartsOne (N.starts runner.old) (N.starts runner.new)
-        (record { layout = l; command = job.now.command })) }
+        (record { layout = l; command = job.now.command })
+        × (S.tells sink.new).calls
+        ≤ (S.tells sink.old).calls + 1 + length l.folders + length l.files) }
     ensures unlisted { OnErr result (StartsNone (N.starts runner.old) (N.starts runner.new)) }
     ensures refused { IfErr result (StopsChild (N.yields runner.old) (S.tells sink.new).blobs
         job.now.action.input job.now.command) }
@@ -70,6 +74,8 @@ fn launch<A: Allocator + Copy, S: BlobSink<A>, N: Runner<A>>(
     ensures put { WerePut put.new (S.tells sink.new).blobs }
     ensures stays { StaysPut put.old put.new }
     ensures listed { OnOk result (HasPutAll put.new (items_of job.now.input.directories.items)) }
+    ensures once { OnOk result (CallsForJob job.now put.old (S.tells sink.new) engine.old
+        engine.new (S.tells sink.old).calls (S.tells sink.new).calls) }
     ensures kept { IsKept (S.tells sink.old) (S.tells sink.new) }
     ensures launched { OnOk result (IsLaunched (N.yields runner.old) N.may_give
         (N.starts runner.old) (N.starts runner.new) (S.tells sink.old) (S.tells sink.new)
@@ -129,6 +135,11 @@ pub(crate) fn begin<A: Allocator + Copy, S: BlobSink<A>, N: Runner<A>>(
         (N.starts runner.old) (N.starts runner.new) (S.tells sink.old) (S.tells sink.new) step
         engine.old engine.new children.old.items children.new.items)
         × HasPutAll remembered.new.put (items_of b.started.job.input.directories.items)) }
+    // What the store was asked for before it isn't asked for again.
+    ensures once { OnOk result ((b : IsBegun A (N.yields runner.old) N.may_give
+        (N.starts runner.old) (N.starts runner.new) (S.tells sink.old) (S.tells sink.new) step
+        engine.old engine.new children.old.items children.new.items)
+        × CallsForStart remembered.old remembered.new b) }
     ensures unlisted { OnErr result (StartsNone (N.starts runner.old) (N.starts runner.new)) }
     ensures stopped { IfErr result (λ e. (e.step ≡ step) × StopsBeginning A (N.yields runner.old)
         (S.tells sink.new) step engine.old engine.new e.refusal) }

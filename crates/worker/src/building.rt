@@ -1,4 +1,4 @@
-ghost use Rattle.std.specs.Prelude.{◌≡◌, ◌+◌, ◌<◌, ◌≤◌, ℕ, [], IfErr, OnOk, OnErr, length};
+ghost use Rattle.std.specs.Prelude.{◌≡◌, ◌+◌, ◌<◌, ◌≤◌, ℕ, [], OnOk, OnErr, length};
 ghost use Rattle.blob_source.specs.Source.{Telling};
 ghost use Rattle.blob_source.specs.Sink.{KeepsRight};
 ghost use Rattle.runs.specs.Engine.{EngineValue};
@@ -8,9 +8,8 @@ ghost use Rattle.worker.specs.Counted.{Counts, IsDevice, IsFetch};
 ghost use Rattle.worker.specs.Storing.{Remembers, StaysRemembered, StoresSteps};
 ghost use Rattle.worker.specs.Calls.{running, IsBuiltWith};
 ghost use Rattle.worker.specs.Going.{AreJobsOf, IsJobOf, IsGoing};
-ghost use Rattle.worker.specs.Stopped.{IsRefusedBuild, LosesRest};
+ghost use Rattle.worker.specs.Stopped.{EndsBuild, LosesRest};
 ghost use Rattle.worker.specs.Stored.{HasNoneFinished, IsStored};
-ghost use Rattle.worker.specs.Watching.{IsProgress, IsUpToDate, IsWatched};
 
 use crate::child::Child;
 use crate::counting::{before_turn, first_progress, progress_after};
@@ -72,12 +71,8 @@ fn take_turns<A: Allocator + Copy, S: BlobSink<A>, N: Runner<A>, W: Watcher>(
     ensures going { (g : IsGoing A (N.yields runner.old) N.may_give (N.starts runner.old)
         (N.starts runner.new) (S.tells sink.old) (S.tells sink.new) jobs engine.old engine.new
         children.new.items)
-        × IfErr result (λ e. IsRefusedBuild A (N.yields runner.old) (S.tells sink.new) jobs
-        g.led.built.led.calls engine.old engine.new e.step e.refusal)
-        × IsWatched (IsProgress A (N.yields runner.old) (S.tells sink.new) jobs engine.old
-        g.led.built.led.calls) (W.told watcher.old) (W.told watcher.new)
-        × OnOk result (IsUpToDate A (N.yields runner.old) (S.tells sink.new) jobs engine.old
-        engine.new g.led.built.led.calls (W.told watcher.old) (W.told watcher.new)) }
+        × EndsBuild A (N.yields runner.old) (S.tells sink.new) jobs engine.old engine.new
+        g.led.built.led.calls (W.told watcher.old) (W.told watcher.new) result }
     ensures done { OnOk result (HaveAllFinished engine.new) }
     ensures ended { OnOk result (children.new.items ≡ []) }
     ensures few { OnErr result (length children.new.items < jobs) }
@@ -121,17 +116,13 @@ pub fn build<A: Allocator + Copy, S: BlobSink<A>, N: Runner<A>, W: Watcher>(
     // Calls lead to the engine, and at most `jobs` jobs run after each. What a job finishes with is
     // from the runner or from the store. The children that were started are of these jobs, and the
     // results that were put are of what they came to; those under other digests stay.
-    // Where it is refused, the first of them led to an engine in which the refusal of that step
-    // stands, and after them jobs alone were lost.
-    // The watcher is told the numbers after each of their first turns, and in the end after all.
+    // The calls are turns. Where it is refused, the first of them led to an engine in which the
+    // refusal of that step stands, and after them jobs alone were lost.
+    // The watcher is told the numbers after each of the first turns, and in the end after all.
     ensures led { (b : IsBuiltWith A (N.yields runner.old) (N.starts runner.old)
         (N.starts runner.new) (S.tells sink.old) (S.tells sink.new) jobs engine.old engine.new)
-        × IfErr result (λ e. IsRefusedBuild A (N.yields runner.old) (S.tells sink.new) jobs
-        b.built.led.calls engine.old engine.new e.step e.refusal)
-        × IsWatched (IsProgress A (N.yields runner.old) (S.tells sink.new) jobs engine.old
-        b.built.led.calls) (W.told watcher.old) (W.told watcher.new)
-        × OnOk result (IsUpToDate A (N.yields runner.old) (S.tells sink.new) jobs engine.old
-        engine.new b.built.led.calls (W.told watcher.old) (W.told watcher.new)) }
+        × EndsBuild A (N.yields runner.old) (S.tells sink.new) jobs engine.old engine.new
+        b.built.led.calls (W.told watcher.old) (W.told watcher.new) result }
     ensures done { OnOk result (HaveAllFinished engine.new) }
     // The store has what each step came to, from the first to the last.
     ensures stored { OnOk result

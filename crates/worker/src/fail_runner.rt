@@ -182,7 +182,8 @@ impl<A: Allocator + Copy, N: Runner<A>> Runner<A> for FailRunner<N> {
         ensures bad { (path : List (List ℕ)) → IsErrOf result (RunError.BadOutput path)
             → may_give_of N.may_give job (bad_at path) }
         ensures same { YieldsNoMore (yields_of N.yields self.new) (yields_of N.yields self.old) }
-        ensures unlisted { StartsNone (N.starts (inner_of self.old)) (N.starts (inner_of self.new)) }
+        ensures unlisted { StartsNone (N.starts (inner_of self.old))
+            (N.starts (inner_of self.new)) }
         ensures closed { N.alive (inner_of self.new) ≡ N.alive (inner_of self.old) - 1 }
         ensures absolute { IsErrOf result RunError.NotAbsolute → ⊥ }
         ensures device { IfErr result (TellsRunFailure (may_give_of N.may_give job)) }

@@ -3,7 +3,7 @@ ghost use Rattle.blob_source.specs.Source.{Telling};
 ghost use Rattle.runs.specs.Calls.{HaveAllFinished};
 ghost use Rattle.runs.specs.Engine.{FinishedValue, EngineValue, finished_in};
 ghost use Rattle.verifier.specs.TwoSteps as two;
-ghost use Rattle.worker.specs.Calls.{IsBuiltBy, IsLed, running};
+ghost use Rattle.worker.specs.Calls.{AreTurns, IsBuiltBy, IsLed, running};
 ghost use Rattle.worker.specs.Steps.{CameOfChild, IsActionOf, WasTaken};
 ghost use Rattle.worker.specs.Stored.{HasNoneFinished};
 ghost use Rattle.worker.specs.TwoSteps as example;
@@ -38,6 +38,7 @@ pub fn actions_are_of_steps<A: Allocator, N: Runner<A>>(runner: &N)
 pub fn a_build_takes_two_steps<A: Allocator, N: Runner<A>>(alloc: &A, runner: &N)
     ensures built { (built : IsBuiltBy A (N.yields runner.now) two.telling two.telling 1
         example.first example.last) × (built.led.calls ≡ example.calls) }
+    ensures turns { AreTurns example.calls }
     ensures fresh { HasNoneFinished example.first }
     ensures idle { running example.first.jobs ≡ 0 }
     ensures complete { HaveAllFinished example.last }

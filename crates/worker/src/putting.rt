@@ -8,7 +8,7 @@ ghost use Rattle.wire.specs.Bytes.{IsBytes};
 ghost use Rattle.blob_source.specs.Sink.{HasRight};
 ghost use Rattle.runs.specs.Engine.{finished_in};
 ghost use Rattle.worker.specs.Storing.{HasPut, HasPutAll, HasResultOf, IsKeptBut, IsResultOfStep};
-ghost use Rattle.worker.specs.Storing.{StaysPut, WerePut, not_put};
+ghost use Rattle.worker.specs.Storing.{StaysPut, WerePut, not_put, tree_blobs};
 ghost use Rattle.worker.specs.Outcomes.{HasAllRight, HasTrees, directories_of};
 ghost use Rattle.worker.specs.Counted.{Counts, IsFetch};
 ghost use Rattle.worker.specs.Values.{items_of};
@@ -120,6 +120,8 @@ fn put_directories<A: Allocator + Copy, S: BlobSink<A>>(
     ensures kept { IsKept (S.tells sink.old) (S.tells sink.new) }
     ensures held { OnOk result
         (HasAllRight (S.tells sink.new).blobs (directories_of tree.now)) }
+    ensures once { OnOk result
+        ((S.tells sink.new).calls ≤ (S.tells sink.old).calls + length (directories_of tree.now)) }
     ensures failed { IfErr result IsStoreFault }
     ensures fetched { Counts (S.tells sink.old).failures (S.tells sink.new).failures
         (IsErrAnd result IsFetch) }
@@ -140,6 +142,9 @@ pub(crate) fn put_trees<A: Allocator + Copy, S: BlobSink<A>>(
 ) -> Result<(), Refusal<A>>
     ensures kept { IsKept (S.tells sink.old) (S.tells sink.new) }
     ensures held { OnOk result (HasTrees (S.tells sink.new).blobs outcome.now) }
+    // The store is called at most once for each Tree and each of its Directories.
+    ensures once { OnOk result
+        ((S.tells sink.new).calls ≤ (S.tells sink.old).calls + tree_blobs outcome.now.outputs) }
     ensures failed { IfErr result IsStoreFault }
     ensures fetched { Counts (S.tells sink.old).failures (S.tells sink.new).failures
         (IsErrAnd result IsFetch) }

@@ -6,6 +6,7 @@ ghost use Rattle.worker.specs.Stored.{IsKept};
 ghost use Rattle.worker.specs.Outcomes.{IsHeld, CanBeTaken};
 ghost use Rattle.worker.specs.Going.{HasNoneToTake};
 ghost use Rattle.worker.specs.Stopped.{IsStoreFault};
+ghost use Rattle.worker.specs.Storing.{AsksResultOnce};
 ghost use Rattle.std.specs.List.{AllByRecursion};
 ghost use Rattle.actions.specs.Outcome.{outputs_in, paths_of_outputs};
 
@@ -40,6 +41,7 @@ fn lists_all<A: Allocator>(command: &Command<A>, outputs: &[(Path<A>, Output<A>)
 }
 
 /// The outcome that the store has for a job's action, if it is one that a build takes.
+#[tactic(auto, using(crate::proofs::Untaken::asked_once))]
 pub(crate) fn recorded_outcome<A: Allocator + Copy, S: BlobSink<A>>(
     alloc: A,
     sink: &mut S,
@@ -52,6 +54,7 @@ pub(crate) fn recorded_outcome<A: Allocator + Copy, S: BlobSink<A>>(
     // There is none only where the store has none that can be taken.
     ensures none { IfOk result (λ found. found ≡ None
         → HasNoneToTake (S.tells sink.new) job.now.digest job.now.command) }
+    ensures once { AsksResultOnce job.now.digest (S.tells sink.old) (S.tells sink.new) }
     ensures failed { IfErr result IsStoreFault }
     ensures fetched { Counts (S.tells sink.old).failures (S.tells sink.new).failures
         (IsErrAnd result IsFetch) }

@@ -8,11 +8,12 @@ ghost use Rattle.std.specs.Result.{IsErrAnd};
 ghost use Rattle.worker.specs.Counted.{Counts, IsDevice, IsFetch};
 ghost use Rattle.worker.specs.Storing.{Remembers, StaysRemembered, StoresSteps};
 ghost use Rattle.worker.specs.Outcomes.{YieldsNoMore};
-ghost use Rattle.worker.specs.Calls.{IsStartable, PutsOf};
-ghost use Rattle.worker.specs.Going.{AreJobsOf, IsJobOf, IsTurn, IsNextTurn, IsGoing, turns_left};
-ghost use Rattle.worker.specs.Going.{FinishesOnly, GoesOnBy, is_start, step_of, taken_in};
+ghost use Rattle.worker.specs.Calls.{AreTurns, HasNoneStartable, IsLeastStartable, IsStartable};
+ghost use Rattle.worker.specs.Calls.{PutsOf};
+ghost use Rattle.worker.specs.Going.{AreJobsOf, IsJobOf, IsTurn, IsGoing, turns_left};
+ghost use Rattle.worker.specs.Going.{AreOneTurn, FinishesOnly, GoesOnBy, is_start, step_of};
+ghost use Rattle.worker.specs.Going.{taken_in};
 ghost use Rattle.worker.specs.Stopped.{IsRefusedBuild};
-ghost use Rattle.worker.specs.Watching.{turns_in};
 
 use crate::beginning::begin;
 use crate::child::Child;
@@ -48,11 +49,9 @@ fn can_start<A: Allocator + Copy>(engine: &Engine<'_, A>, step: usize) -> bool
 
 /// The least step that may be started.
 pub(crate) fn next_step<A: Allocator + Copy>(engine: &Engine<'_, A>) -> Option<usize>
-    ensures found { IfSome result
-        (λ i. (i < length engine.now.plan.steps) × IsStartable engine.now i) }
-    ensures least { IfSome result (λ i. (k : ℕ) → k < i → IsStartable engine.now k → ⊥) }
-    ensures none { result ≡ None
-        → (k : ℕ) → k < length engine.now.plan.steps → IsStartable engine.now k → ⊥ }
+    ensures within { IfSome result (λ step. step < length engine.now.plan.steps) }
+    ensures least { IfSome result (IsLeastStartable engine.now) }
+    ensures none { result ≡ None → HasNoneStartable engine.now }
 {
     let steps = engine.plan().steps().len();
     for step in 0..steps {
@@ -72,10 +71,8 @@ pub(crate) fn next_turn<A: Allocator + Copy, J>(
 ) -> Option<Turn>
     requires some { 0 < jobs }
     ensures turn { IfSome result (IsTurn jobs engine.now children.now.items) }
-    ensures next { IfSome result (IsNextTurn jobs engine.now children.now.items) }
     ensures none_runs { result ≡ None → children.now.items ≡ [] }
-    ensures none_starts { result ≡ None
-        → (k : ℕ) → k < length engine.now.plan.steps → IsStartable engine.now k → ⊥ }
+    ensures none_starts { result ≡ None → HasNoneStartable engine.now }
     ensures planned { IsPlan engine.now.plan }
     ensures valid { IsEngine engine.now }
 {
@@ -109,10 +106,9 @@ pub(crate) fn take_turn<A: Allocator + Copy, S: BlobSink<A>, N: Runner<A>>(
     ensures going { (entry : N) (before : Telling) (most : ℕ) (first : EngineValue)
         → YieldsNoMore (N.yields runner.old) (N.yields entry)
         → IsTurn most engine.old children.old.items turn
-        → IsNextTurn most engine.old children.old.items turn
         → (g : IsGoing A (N.yields entry) N.may_give (N.starts entry) (N.starts runner.old)
         before (S.tells sink.old) most first
-        engine.old children.old.items)
+        engine.old children.old.items) → AreTurns g.led.built.led.calls
         → (on : GoesOnBy A (N.yields entry) N.may_give (N.starts entry) (N.starts runner.new)
         before (S.tells sink.new) most first
         engine.new children.new.items g.led.built.led.calls
@@ -120,7 +116,7 @@ pub(crate) fn take_turn<A: Allocator + Copy, S: BlobSink<A>, N: Runner<A>>(
         × IfErr result (λ e. IsRefusedBuild A (N.yields entry) (S.tells sink.new) most
         on.going.led.built.led.calls first engine.new e.step e.refusal)
         × PutsOf on.more (S.tells sink.old) (S.tells sink.new)
-        × OnOk result (turns_in on.more ≡ 1) }
+        × OnOk result (AreOneTurn on.more) }
     // What the store has of what has finished, it has of what finishes in this turn too.
     ensures stored { OnOk result ((entry : N) (before : Telling) (most : ℕ) (first : EngineValue)
         → IsGoing A (N.yields entry) N.may_give (N.starts entry) (N.starts runner.old)

@@ -1,11 +1,11 @@
-ghost use Rattle.std.specs.Prelude.{◌≡◌, IfOk, IfErr, IsErrOf, IsNone, Ok, length, option_map};
+ghost use Rattle.std.specs.Prelude.{◌≡◌, IfOk, IfErr, IsErrOf, IsNone, Ok, length, option_copied};
 ghost use Rattle.blob_source.specs.Source.{Asks};
 ghost use Rattle.blob_source.specs.Called.{Calls};
 ghost use Rattle.tree.specs.Form.{node_value};
-ghost use Rattle.tree.specs.Lookup.{Looks, TellsOfTrees, found, nothing, names_in, looked};
+ghost use Rattle.tree.specs.Lookup.{Looks, found, looked, names_in};
 ghost use Rattle.tree.specs.LooksAt.{OnWay};
-ghost use Rattle.tree.specs.Memo.{IsKnownOf, WasRefused, Learns, known_by};
-ghost use Rattle.tree.specs.TreeError.{ExplainsLookup, IsAbsent};
+ghost use Rattle.tree.specs.Memo.{IsKnownOf, Learns, known_by};
+ghost use Rattle.tree.specs.TreeError.{ExplainsLookup, IsCutShort};
 
 use super::Memo;
 use crate::error::TreeError;
@@ -16,9 +16,9 @@ use std::alloc::Allocator;
 
 impl<A: Allocator + Copy> Memo<A> {
     /// The node at a path below the directory with a digest, as `lookup` answers it. A Directory on
-    /// the way is read once, and kept. Refusals: `Absent`, `BlobMissing`, `BlobWrong` and
-    /// `BlobMalformed`.
-    #[tactic(auto, using(crate::proofs::LookupLemmas::looks_tell, crate::proofs::Learning::learns_none))]
+    /// the way is read once, and kept, also where nothing is at the path. Refusals: `Absent`,
+    /// `BlobMissing`, `BlobWrong` and `BlobMalformed`.
+    #[tactic(auto, using(crate::proofs::Learning::learns_none))]
     pub fn lookup<S: BlobSource<A>>(
         &mut self,
         alloc: A,
@@ -28,19 +28,15 @@ impl<A: Allocator + Copy> Memo<A> {
     ) -> Result<Node<A>, TreeError<A>>
         requires { IsKnownOf (known_by self.old) (S.tells source.old) }
         ensures found { IfOk result (λ x. Looks (S.tells source.new).blobs root.now
-            (names_in (option_map (λ p. p.now) path.entry)) (found (node_value x))) }
+            (names_in (option_copied path.entry)) (found (node_value x))) }
         ensures refused { IfErr result (ExplainsLookup (S.tells source.new).blobs root.now
-            (names_in (option_map (λ p. p.now) path.entry))) }
+            (names_in (option_copied path.entry))) }
         // The root itself takes no memory.
         ensures root { IsNone path.entry → result ≡ Ok (Node.Dir root.now) }
-        ensures of_trees { IfOk result (λ x. TellsOfTrees (S.tells source.new).blobs root.now
-            (names_in (option_map (λ p. p.now) path.entry)) (found (node_value x))) }
-        ensures absent { IfErr result (λ e. IsAbsent e → TellsOfTrees (S.tells source.new).blobs
-            root.now (names_in (option_map (λ p. p.now) path.entry)) nothing) }
-        ensures called { Calls (Asks (length (names_in (option_map (λ p. p.now) path.entry))))
+        ensures called { Calls (Asks (length (names_in (option_copied path.entry))))
             (S.tells source.old) (S.tells source.new) (IsErrOf result TreeError.Fetch) }
         ensures learned { Learns (OnWay (S.tells source.new).blobs root.now
-            (names_in (option_map (λ p. p.now) path.entry))) (WasRefused result)
+            (names_in (option_copied path.entry))) (IsCutShort result)
             (known_by self.old) (known_by self.new) (S.tells source.old) (S.tells source.new) }
     {
         match path {
@@ -64,7 +60,7 @@ impl<A: Allocator + Copy> Memo<A> {
         ensures called { Calls (Asks (length path.now)) (S.tells source.old) (S.tells source.new)
             (IsErrOf result TreeError.Fetch) }
         ensures learned { Learns (OnWay (S.tells source.new).blobs root.now path.now)
-            (WasRefused result) (known_by self.old) (known_by self.new)
+            (IsCutShort result) (known_by self.old) (known_by self.new)
             (S.tells source.old) (S.tells source.new) }
     {
         let names = path.to_names(alloc)?;
@@ -90,7 +86,7 @@ impl<A: Allocator + Copy> Memo<A> {
         ensures called { Calls (Asks (length names.now)) (S.tells source.old) (S.tells source.new)
             (IsErrOf result TreeError.Fetch) }
         ensures learned { Learns (OnWay (S.tells source.new).blobs root.now names.now)
-            (WasRefused result) (known_by self.old) (known_by self.new)
+            (IsCutShort result) (known_by self.old) (known_by self.new)
             (S.tells source.old) (S.tells source.new) }
     {
         let mut node = Node::Dir(*root);

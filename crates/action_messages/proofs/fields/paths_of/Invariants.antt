@@ -2,7 +2,7 @@ use Rattle.std.proofs.Common.{◌≡◌, drop}
 use Rattle.canonical.specs.View.{slices}
 use Rattle.canonical.specs.Told.{each}
 use Rattle.messages.specs.Path.{path_of}
-use Rattle.messages.proofs.Each.{with_front}
+use Rattle.wire.proofs.Steps.{with_front}
 use Rattle.action_messages.proofs.fields.paths_of.Given as goal
 
 abbrev pub invariant-loop-bytes : goal.invariant-loop-bytes

@@ -2,7 +2,7 @@ use Rattle.std.proofs.Common.{◌≡◌, drop, map}
 use Rattle.std.specs.String.{string_bytes}
 use Rattle.canonical.specs.View.{slices}
 use Rattle.canonical.specs.Told.{each}
-use Rattle.messages.proofs.Each.{with_front}
+use Rattle.wire.proofs.Steps.{with_front}
 use Rattle.action_messages.specs.Fields.{string_of}
 use Rattle.action_messages.proofs.fields.strings_of.Given as goal
 

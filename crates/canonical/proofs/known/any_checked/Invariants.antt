@@ -4,7 +4,7 @@ use Rattle.wire.specs.Reading.{any_fields_of}
 use Rattle.wire.specs.Record.{records_of}
 use Rattle.canonical.specs.Known.{any_checked, any_fields_checked}
 use Rattle.canonical.specs.View.{slices}
-use Rattle.canonical.proofs.Behind.{with_front}
+use Rattle.wire.proofs.Steps.{with_front}
 use Rattle.canonical.proofs.known.any_checked.Given as goal
 
 abbrev pub invariant-loop-field : goal.invariant-loop-field

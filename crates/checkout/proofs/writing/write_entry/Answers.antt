@@ -1,12 +1,14 @@
-use Rattle.std.proofs.Common.{sym, subst, refl}
+use Rattle.std.proofs.Common.{ap, sym, subst, refl, inr}
+use Rattle.std.proofs.lemmas.Result.{err_from_is_err_and}
 use Rattle.tree.specs.FlatTree.{entry_value}
+use Rattle.checkout.specs.Refused.FailsOneEntry.{untried}
 use Rattle.checkout.specs.Folder.{Gains}
 use Rattle.checkout.specs.Folder.Written.{a_file, a_link}
 use Rattle.checkout.specs.Written.{MakesEntry}
 use Rattle.checkout.specs.Written.{EntryLooksAt}
 use Rattle.tree.specs.Memo.{AsksNoOther}
-use Rattle.checkout.proofs.Entries.{where_ok}
-use Rattle.checkout.proofs.Telling.{asks_nothing}
+use Rattle.checkout.proofs.Entries.{tries_none, where_ok}
+use Rattle.checkout.proofs.Telling.{asks_nothing, call_fails}
 use Rattle.checkout.proofs.writing.write_entry.Goals as goal
 
 pub returns-in-Link-clause-made : goal.returns-in-Link-clause-made
@@ -46,3 +48,20 @@ pub returns-in_ok-content-in-File-clause-only : goal.returns-in_ok-content-in-Fi
 returns-in_ok-content-in-File-clause-only g c =
     let tells = g.S.BlobSource.tells in
     subst (λ e. AsksNoOther (EntryLooksAt (entry_value e)) (tells c.args.source.now).blobs (tells c.read_content.new.source).blobs) (sym c.in-File.is) c.read_content.ensures.only
+
+pub returns-in-Dir-clause-refused : goal.returns-in-Dir-clause-refused
+returns-in-Dir-clause-refused g c =
+    call_fails g.W.FolderWriter.works.refuses _ _ c.args.place.now _ c.make_folder.result c.made_at.result c.make_folder.ensures.tries c.made_at.ensures.refused c.make_folder.ensures.refused
+
+pub returns-in-Link-clause-refused : goal.returns-in-Link-clause-refused
+returns-in-Link-clause-refused g c =
+    call_fails g.W.FolderWriter.works.refuses _ _ c.args.place.now _ c.make_link-made.result c.made_at-in-Link.result c.make_link-made.ensures.tries c.made_at-in-Link.ensures.refused c.make_link-made.ensures.refused
+
+pub returns-in_ok-content-in-File-clause-refused : goal.returns-in_ok-content-in-File-clause-refused
+returns-in_ok-content-in-File-clause-refused g c =
+    call_fails g.W.FolderWriter.works.refuses _ _ c.args.place.now _ c.write_file-made.result c.made_at-in-File.result c.write_file-made.ensures.tries c.made_at-in-File.ensures.refused c.write_file-made.ensures.refused
+
+pub returns-in_err-content-in-File-clause-refused : goal.returns-in_err-content-in-File-clause-refused
+returns-in_err-content-in-File-clause-refused g c =
+    let p = err_from_is_err_and c.from_residual.result c.from_residual.ensures.1 in
+    rw (p.1, p.2) (untried (tries_none g.W.FolderWriter.tried c.args.writer.now) (inr (c.in-File.digest, c.in-File.executable, ap entry_value c.in-File.is, c.in_err-content-in-File.ensures.refused)))

@@ -1,7 +1,7 @@
 use Rattle.std.proofs.Common.{inl, inr, string_bytes}
 use Rattle.std.proofs.Math.Logic.{∥∥₁_map}
 use Rattle.remote.specs.Remote.{connection_of}
-use Rattle.commands.specs.Places.{IsToldOver}
+use Rattle.commands.specs.Places.{IsToldOver, puts_too}
 use Rattle.cli.proofs.Builds.{over_fails, stops_of, told_as}
 use Rattle.commands.proofs.Exits.{exit_by}
 use Rattle.cli.specs.Refused.{FailsTelling}
@@ -10,9 +10,9 @@ use Rattle.cli.proofs.building.build_in_folder.Goals as goal
 pub returns-in-Ok-clause-told : goal.returns-in-Ok-clause-told
 returns-in-Ok-clause-told g c =
     let remote = c.tell_build.new.sink.remote in (
-      told_as (IsToldOver g.K.Origin.start) c.args.asked.now.plan c.args.asked.now.sources _ _ _
+      told_as (IsToldOver puts_too g.K.Origin.start) c.args.asked.now.plan c.args.asked.now.sources _ _ _
           (∥∥₁_map c.new-client.result.over (λ over. (connection_of g.W.Link.Stream.flow c.new-client.result.remote, over)))
-          (∥∥₁_map c.tell_build.new.sink.over (λ over. (connection_of g.W.Link.Stream.flow remote, over))) _ _ c.requires.folder c.tell_build.result _ c.tell_build.ensures.told c.in-Ok.is,
+          (∥∥₁_map c.tell_build.new.sink.over (λ over. (connection_of g.W.Link.Stream.flow remote, over))) _ _ c.requires.folder c.tell_build.result _ c.tell_build.ensures.told.came c.in-Ok.is,
       c.in_ok-put_root-in-Ok.ensures.held,
     )
 
@@ -32,7 +32,7 @@ returns-in-Fetch-clause-fault g c =
 pub returns-in-Some-clause-fault : goal.returns-in-Some-clause-fault
 returns-in-Some-clause-fault g c =
     let remote = c.tell_build.new.sink.remote in
-    inr (inl (stops_of (IsToldOver g.K.Origin.start) c.args.asked.now.plan c.args.asked.now.sources c.args.asked.now.jobs _ _
+    inr (inl (stops_of (IsToldOver puts_too g.K.Origin.start) c.args.asked.now.plan c.args.asked.now.sources c.args.asked.now.jobs _ _
     (∥∥₁_map c.new-client.result.over (λ over. (connection_of g.W.Link.Stream.flow c.new-client.result.remote, over)))
     (∥∥₁_map c.tell_build.new.sink.over (λ over. (connection_of g.W.Link.Stream.flow remote, over)))
-    _ _ c.requires.folder c.in-Err.error c.in-Some.stopped _ c.tell_build.result c.tell_build.ensures.told c.in-Err.is c.in-Some.ensures c.in_ok-process_error-in-Some.ensures))
+    _ _ c.requires.folder c.in-Err.error c.in-Some.stopped _ c.tell_build.result c.tell_build.ensures.told.came c.in-Err.is c.in-Some.ensures.some c.in_ok-process_error-in-Some.ensures))

@@ -1,7 +1,8 @@
-use Rattle.std.proofs.Common.{inr}
+use Rattle.std.proofs.Common.{◌≡◌, inr}
 use Rattle.clap.specs.Words.{found_of, rows_of}
 use Rattle.commands.proofs.Exits.{exit_by}
 use Rattle.commands.proofs.Writing.{where_err}
+use Rattle.commands.specs.Refusal.{IsPrintFault}
 use Rattle.cli.specs.Refused.{FailsBuild}
 use Rattle.cli.specs.Refused.FailsBuild.{in_output, in_record}
 use Rattle.cli.proofs.building.run_build.Goals as goal
@@ -20,6 +21,11 @@ pub returns-in_err-print_told-clause-begun : goal.returns-in_err-print_told-clau
 returns-in_err-print_told-clause-begun g c =
     where_err c.from_residual-in_err-print_told.result
     (inr (c.in_ok-told.told, c.in_ok-told.ensures.tells, c.in_ok-write_record.ensures.noted, c.in_err-print_told.ensures.begun))
+
+pub returns-in_err-print_told-clause-unprinted : goal.returns-in_err-print_told-clause-unprinted
+returns-in_err-print_told-clause-unprinted g c =
+    exit_by (λ e. ¬ IsPrintFault e → g.O.Write.contents c.print_told.new.out ≡ g.O.Write.contents c.args.out.now) _ c.from_residual-in_err-print_told.ensures.1
+    (λ not. absurd (not c.in_err-print_told.ensures.fault))
 
 pub returns-clause-printed : goal.returns-clause-printed
 returns-clause-printed g c = record {

@@ -1,5 +1,6 @@
 use Rattle.std.proofs.Common.{◌≡◌, rules, map, string_bytes, codes}
-use Rattle.commands.specs.Status.{exit_status}
+use Rattle.commands.specs.Refusal.{IsPrintFault}
+use Rattle.commands.specs.ServeRefused.{IsAcceptFault}
 use Rattle.clap.specs.Words.{subcommand_of, subcommand_rows_of}
 use Rattle.command_lines.specs.CommandLine.{program_line}
 use Rattle.command_lines.proofs.Called.{calls_one}
@@ -83,17 +84,23 @@ returns-in_err-run_serve-in-serve-clause-refused g c =
 
 pub returns-in_err-run_get-in-get-clause-unprinted : goal.returns-in_err-run_get-in-get-clause-unprinted
 returns-in_err-run_get-in-get-clause-unprinted g c =
-    exit_by (λ fault. exit_status fault ≡ 2 → g.O.Write.contents c.run_get.new.out ≡ g.O.Write.contents c.args.out.now) _ c.from_residual-in_err-run_get-in-get.ensures.1
-    c.in_err-run_get-in-get.ensures.unprinted
+    exit_by (λ fault. ¬ IsPrintFault fault → ¬ IsAcceptFault fault → g.O.Write.contents c.run_get.new.out ≡ g.O.Write.contents c.args.out.now) _ c.from_residual-in_err-run_get-in-get.ensures.1
+    (λ print accept. c.in_err-run_get-in-get.ensures.unprinted print)
+
+pub returns-in_err-run_put-in-put-clause-unprinted : goal.returns-in_err-run_put-in-put-clause-unprinted
+returns-in_err-run_put-in-put-clause-unprinted g c =
+    exit_by (λ fault. ¬ IsPrintFault fault → ¬ IsAcceptFault fault → g.O.Write.contents c.run_put.new.out ≡ g.O.Write.contents c.args.out.now) _ c.from_residual-in_err-run_put-in-put.ensures.1
+    (λ print accept. c.in_err-run_put-in-put.ensures.unprinted print)
 
 pub returns-in_err-run_serve-in-serve-clause-unprinted : goal.returns-in_err-run_serve-in-serve-clause-unprinted
 returns-in_err-run_serve-in-serve-clause-unprinted g c =
-    exit_by (λ fault. exit_status fault ≡ 2 → g.O.Write.contents c.run_serve.new.out ≡ g.O.Write.contents c.args.out.now) _ c.from_residual-in_err-run_serve-in-serve.ensures.1
+    exit_by (λ fault. ¬ IsPrintFault fault → ¬ IsAcceptFault fault → g.O.Write.contents c.run_serve.new.out ≡ g.O.Write.contents c.args.out.now) _ c.from_residual-in_err-run_serve-in-serve.ensures.1
     c.in_err-run_serve-in-serve.ensures.unprinted
 
 pub returns-in_err-run_verify-in-verify-clause-unprinted : goal.returns-in_err-run_verify-in-verify-clause-unprinted
 returns-in_err-run_verify-in-verify-clause-unprinted g c =
-    exit_by _ _ c.from_residual-in_err-run_verify-in-verify.ensures.1 c.in_err-run_verify-in-verify.ensures.unprinted
+    exit_by (λ fault. ¬ IsPrintFault fault → ¬ IsAcceptFault fault → g.O.Write.contents c.run_verify.new.out ≡ g.O.Write.contents c.args.out.now) _ c.from_residual-in_err-run_verify-in-verify.ensures.1
+    (λ print accept. c.in_err-run_verify-in-verify.ensures.unprinted print)
 
 pub returns-in_err-run_verify-in-verify-clause-begun : goal.returns-in_err-run_verify-in-verify-clause-begun
 returns-in_err-run_verify-in-verify-clause-begun g c =

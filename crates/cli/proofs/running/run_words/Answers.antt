@@ -1,4 +1,5 @@
-use Rattle.std.proofs.Common.{◌<◌, ◌≤◌, arith, map, string_bytes, subst, sym}
+use Rattle.std.proofs.Common.{◌∙◌, ◌<◌, ◌≤◌, arith, map, string_bytes, subst, sym}
+use Rattle.commands.proofs.Silent.{words_serve_nothing}
 use Rattle.cli.proofs.CommandLines.{ends_below, ends_done, ends_no, ends_quiet, few_statuses, no_answer, not_refused}
 use Rattle.cli.proofs.running.run_words.Goals as goal
 
@@ -13,6 +14,18 @@ returns-in-Err-clause-no g c = λ one. absurd (no_answer c.status.result c.in-Er
 
 pub returns-in-Err-clause-quiet : goal.returns-in-Err-clause-quiet
 returns-in-Err-clause-quiet g c = λ zero. absurd (no_answer c.status.result c.in-Err.error c.status.ensures (subst (λ n. n < 2) (sym zero) (omega arith)))
+
+pub returns-in-Err-clause-refused : goal.returns-in-Err-clause-refused
+returns-in-Err-clause-refused g c = λ many. record {
+  error = c.in-Err.error;
+  why = c.in-Err.ensures.refused;
+  status_is = sym c.status.ensures;
+  unprinted = c.in-Err.ensures.unprinted;
+  told = c.tell.ensures;
+}
+
+pub returns-in-Err-clause-unprinted : goal.returns-in-Err-clause-unprinted
+returns-in-Err-clause-unprinted g c = λ two. words_serve_nothing c.in-Err.error c.in-Err.ensures.unprinted (sym c.status.ensures ∙ two)
 
 pub returns-in-Ok-clause-status : goal.returns-in-Ok-clause-status
 returns-in-Ok-clause-status g c =

@@ -1,4 +1,4 @@
-use Rattle.std.proofs.Common.{rules, [], ◌≡◌, ◌≢◌, ◌∙◌, Some, Ok, Option, Result, ℕ, inr, subst, sym, string_bytes}
+use Rattle.std.proofs.Common.{rules, [], ◌≡◌, ◌≢◌, ◌∙◌, Some, Ok, Option, Result, ℕ, inr, refl, subst, sym, string_bytes}
 use Rattle.std.specs.declared.alloc.Global.{Global}
 use Rattle.std.specs.declared.vec.Vec.{Vec}
 use Rattle.blob_digest.specs.Digest.{digest_of, empty_digest}
@@ -6,12 +6,12 @@ use Rattle.blob_source.specs.declared.source.FetchError.{FetchError}
 use Rattle.http_core.specs.declared.event.Area.TheVariants.{Cas}
 use Rattle.remote.specs.Remote.{blobs_of, connection_of}
 use Rattle.commands.specs.GetRefused.{FailsGetBlob}
-use Rattle.commands.specs.GetRefused.FailsGetBlob.{in_bytes, in_memory, in_reply}
-use Rattle.commands.specs.Places.{RefusesAt}
+use Rattle.commands.specs.GetRefused.FailsGetBlob.{in_bytes, in_reply}
+use Rattle.commands.specs.Places.{RefusesAt, gets_alone}
 use Rattle.commands.specs.Places.Comes.{fresh}
 use Rattle.commands.specs.declared.failure.Method.TheVariants.{GetBlob}
 use Rattle.commands.proofs.Failures.{refused_at}
-use Rattle.commands.proofs.Refused.{or_memory}
+use Rattle.commands.proofs.Refused.{or_weaker}
 use Rattle.commands.proofs.Tellings.{got_bytes}
 use Rattle.commands.proofs.getting.get_blob.Goals as goal
 
@@ -40,12 +40,12 @@ returns-in_ok-write_text-in-Ok-Some-clause-fault g c =
     let no = c.if-has_digest.false in
     cc (yes, no) in
     let some : digest ≢ empty_digest = search rules in
-    in_bytes some (record {
+    inr (in_bytes some (record {
       bytes = c.in-Ok-Some.bytes.items;
       came = got_bytes Cas digest (connection_of flow old) (connection_of flow new) (blobs_of old) (blobs_of new) c.fetch.result c.in-Ok-Some.bytes
           c.fetch.ensures.asked (c.requires.blobs digest) is;
       other = other;
-    }) (c.in_ok-from_str-in-Ok-Some.ensures.ok ∙ c.as_str.ensures.value, c.in_ok-write_text-in-Ok-Some.ensures)
+    }) (c.in_ok-from_str-in-Ok-Some.ensures.ok ∙ c.as_str.ensures.value, c.in_ok-write_text-in-Ok-Some.ensures))
 
 pub returns-in_ok-server_error-in-Err-clause-fault : goal.returns-in_ok-server_error-in-Err-clause-fault
 returns-in_ok-server_error-in-Err-clause-fault g c =
@@ -57,6 +57,6 @@ returns-in_ok-server_error-in-Err-clause-fault g c =
     let digest = c.args.digest.now in
     let e = c.in_ok-server_error-in-Err.field-0 in
     let some : digest ≢ empty_digest = search rules in
-    or_memory (RefusesAt start address GetBlob digest []) (FailsGetBlob start address digest) e (in_memory some) (in_reply some)
-    (refused_at start start (connection_of flow new) address GetBlob digest [] c.last_fault-fault.result c.in-Err.refusal e fresh c.in-Err.ensures.asked.refused
+    or_weaker (RefusesAt gets_alone start address GetBlob digest []) (FailsGetBlob start address digest) e (in_reply some)
+    (refused_at gets_alone start start (connection_of flow new) address GetBlob digest [] c.last_fault-fault.result c.in-Err.refusal e fresh refl c.in-Err.ensures.asked.refused
     (sym c.last_fault-fault.ensures) c.in_ok-server_error-in-Err.ensures.error)

@@ -1,11 +1,13 @@
-use Rattle.std.proofs.Common.{IfSome, inr, subst, string_bytes, ℕ}
+use Rattle.std.proofs.Common.{◌≡◌, IfSome, inr, subst, string_bytes, ℕ}
 use Rattle.std.specs.Io.KnownBytes.{Appends}
 use Rattle.std.specs.declared.alloc.Global.{Global}
 use Rattle.std.specs.declared.vec.Vec.{Vec}
 use Rattle.remote.specs.Remote.{connection_of}
+use Rattle.commands.specs.Faults.{OrMemory}
 use Rattle.commands.specs.GetRefused.{FailsGetBlob}
 use Rattle.commands.specs.GetRefused.FailsGetBlob.{in_output}
 use Rattle.commands.specs.Got.{IsBlobOver}
+use Rattle.commands.specs.Refusal.{IsPrintFault}
 use Rattle.commands.specs.Told.{AppendsBeginning}
 use Rattle.commands.proofs.Exits.{exit_by}
 use Rattle.commands.proofs.Writing.{where_err}
@@ -28,8 +30,13 @@ returns-in_err-print_all-clause-fault g c =
     let start = connection_of g.S.Stream.flow c.args.remote in
     let digest = c.args.digest.now in
     let blob : IsBlobOver start digest bytes = subst (λ o. IfSome o (λ (b : Vec ℕ Global). IsBlobOver start digest b.items)) c.in-Some.is c.in_ok-bytes.ensures.right in
-    exit_by (FailsGetBlob start (string_bytes c.args.server.now.address) digest) _ c.from_residual-in_err-print_all.ensures.1
-    (in_output bytes blob c.in_err-print_all.ensures.fault)
+    exit_by (OrMemory (FailsGetBlob start (string_bytes c.args.server.now.address) digest)) _ c.from_residual-in_err-print_all.ensures.1
+    (inr (in_output bytes blob c.in_err-print_all.ensures.fault))
+
+pub returns-in_err-print_all-clause-unprinted : goal.returns-in_err-print_all-clause-unprinted
+returns-in_err-print_all-clause-unprinted g c =
+    exit_by (λ e. ¬ IsPrintFault e → g.O.Write.contents c.print_all.new.out ≡ g.O.Write.contents c.args.out.now) _ c.from_residual-in_err-print_all.ensures.1
+    (λ not. absurd (not c.in_err-print_all.ensures.fault))
 
 pub returns-clause-printed : goal.returns-clause-printed
 returns-clause-printed g c =

@@ -1,14 +1,15 @@
-use Rattle.std.proofs.Common.{◌≡◌, ◌++◌, ◌∷◌, ◌∙◌, [], ap, map, refl, rules, sym, subst, string_bytes}
+use Rattle.std.proofs.Common.{◌≡◌, ◌++◌, ◌∷◌, ◌∙◌, [], ap, inl, inr, map, refl, rules, sym, subst, string_bytes}
 use Rattle.std.specs.Prelude.{IsSorted}
 use Rattle.messages.specs.Order.{bytes_cmp}
 use Rattle.tree.specs.Form.{node_value}
 use Rattle.commands.specs.Children.{folder_read}
 use Rattle.commands.specs.Put.{IsPutAt, StandsAs}
+use Rattle.commands.specs.PutRefused.{FailsBelow, FailsHere}
 use Rattle.commands.specs.PutRefused.FailsBelow.{here}
-use Rattle.commands.specs.PutRefused.FailsHere.{in_memory, unread}
+use Rattle.commands.specs.PutRefused.FailsHere.{unread}
 use Rattle.commands.specs.World.{a_link, what_stands}
 use Rattle.commands.proofs.Exits.{exit_by}
-use Rattle.commands.proofs.Refused.{IsUnput, deepest, directory_fails, entry_at, further, further_down, name_fails, names_fail, target_fails}
+use Rattle.commands.proofs.Refused.{IsUnput, deepest, directory_fails, entry_at, further, further_down, name_fails, names_fail, or_weaker, target_fails}
 use Rattle.commands.proofs.SoFar.{IsPutSoFar, IsPutThere, all_names_put, file_there, folder_there, link_there, next_put, nothing_put, put_answered}
 use Rattle.commands.proofs.putting.+put_folder.Goals.{put_node-in-Folder+in_ok-put_folder-in-Folder, put_node-in-Link+in_ok-target_at-in-Link, put_node-in-File+in_ok-put_file-in-File}
 use Rattle.commands.proofs.putting.+put_folder.Goals as goal
@@ -18,7 +19,7 @@ use Rattle.commands.proofs.putting.+put_folder.Goals as goal
 pub put_node-returns-in_err-found-clause-refused : goal.put_node-returns-in_err-found-clause-refused
 put_node-returns-in_err-found-clause-refused g t c =
     exit_by (IsUnput g.W.World.sees g.K.Origin.start c.args.server.now c.args.left c.args.place.now) _ c.from_residual.ensures.1
-    (here c.args.left c.args.place.now (unread _ c.in_err-found.ensures.fault refl))
+    (inr (here c.args.left c.args.place.now (unread _ c.in_err-found.ensures.fault refl)))
 
 pub put_node-returns-in_err-put_folder-in-Folder-clause-refused : goal.put_node-returns-in_err-put_folder-in-Folder-clause-refused
 put_node-returns-in_err-put_folder-in-Folder-clause-refused g t c =
@@ -33,12 +34,13 @@ put_node-returns-in_err-target_at-in-Link-clause-refused g t c =
     let link : sees.stands place (a_link target) = subst (λ b. sees.stands place (a_link b)) (sym c.as_str.ensures.value)
     (subst (λ f. sees.stands place (what_stands f)) c.in-Link.is c.in_ok-found.ensures.stands) in
     exit_by (IsUnput sees g.K.Origin.start c.args.server.now c.args.left place) _ c.from_residual-in_err-target_at-in-Link.ensures.1
-    (here c.args.left place (target_fails sees g.K.Origin.start (string_bytes c.args.server.now.address) place target _ link c.in_err-target_at-in-Link.ensures.refused))
+    (target_fails sees g.K.Origin.start (string_bytes c.args.server.now.address) place c.args.left target _ link c.in_err-target_at-in-Link.ensures.refused)
 
 pub put_node-returns-in_err-put_file-in-File-clause-refused : goal.put_node-returns-in_err-put_file-in-File-clause-refused
 put_node-returns-in_err-put_file-in-File-clause-refused g t c =
     exit_by (IsUnput g.W.World.sees g.K.Origin.start c.args.server.now c.args.left c.args.place.now) _ c.from_residual-in_err-put_file-in-File.ensures.1
-    (here c.args.left c.args.place.now c.in_err-put_file-in-File.ensures.refused)
+    (or_weaker (FailsHere g.W.World.sees g.K.Origin.start (string_bytes c.args.server.now.address) c.args.place.now)
+    (λ x. FailsBelow g.W.World.sees g.K.Origin.start (string_bytes c.args.server.now.address) x c.args.left c.args.place.now) _ (here c.args.left c.args.place.now) c.in_err-put_file-in-File.ensures.refused)
 
 pub put_node-returns : goal.put_node-returns
 put_node-returns g t c =
@@ -88,12 +90,12 @@ put_folder-loop-name-preserved g t c =
 pub put_folder-returns-in_err-names-clause-refused : goal.put_folder-returns-in_err-names-clause-refused
 put_folder-returns-in_err-names-clause-refused g t c =
     exit_by (IsUnput g.W.World.sees g.K.Origin.start c.args.server.now c.args.left c.args.place.now) _ c.from_residual.ensures.1
-    (here c.args.left c.args.place.now (unread _ c.in_err-names.ensures.fault refl))
+    (inr (here c.args.left c.args.place.now (unread _ c.in_err-names.ensures.fault refl)))
 
 pub put_folder-returns-in_err-below-clause-refused : goal.put_folder-returns-in_err-below-clause-refused
 put_folder-returns-in_err-below-clause-refused g t c =
     exit_by (IsUnput g.W.World.sees g.K.Origin.start c.args.server.now c.args.left c.args.place.now) _ c.from_residual-in_err-below.ensures.1
-    (here c.args.left c.args.place.now (in_memory refl))
+    (inl refl)
 
 pub put_folder-returns-in_err-name-clause-refused : goal.put_folder-returns-in_err-name-clause-refused
 put_folder-returns-in_err-name-clause-refused g t c =
@@ -104,9 +106,10 @@ put_folder-returns-in_err-name-clause-refused g t c =
     let whole : string_bytes c.in_ok-below.below ≡ place ++ 47 ∷ string_bytes c.name-item.result = search rules in
     let at : path ≡ place ++ 47 ∷ n = c.as_str.ensures.value ∙ whole ∙ ap (λ m. place ++ 47 ∷ m) (sym c.as_str-in-loop-name.ensures.value) in
     let lists = subst (λ l. sees.lists place (map string_bytes l)) (sym c.deref-name-items.ensures.value) c.in_ok-names.ensures.listed in
-    let entry = entry_at sees place c.deref-name-items.result.now c.loop-name.name-index c.name-item.result n lists c.loop-name-test.true c.name-item.is c.as_str-in-loop-name.ensures.value in
+    let entry = entry_at sees g.K.Origin.start c.args.left place c.deref-name-items.result.now c.loop-name.name-index c.name-item.result n (folder_read c.loop-name.children) lists
+    c.loop-name-test.true c.name-item.is c.as_str-in-loop-name.ensures.value c.loop-name.invariant in
     exit_by (IsUnput sees g.K.Origin.start c.args.server.now c.args.left place) _ c.from_residual-in_err-name.ensures.1
-    (here c.args.left place (name_fails sees g.K.Origin.start (string_bytes c.args.server.now.address) place n path _ entry at c.in_err-name.ensures.refused))
+    (name_fails sees g.K.Origin.start (string_bytes c.args.server.now.address) place c.args.left n path _ entry at c.in_err-name.ensures.refused)
 
 pub put_folder-returns-then-left-eq0-clause-refused : goal.put_folder-returns-then-left-eq0-clause-refused
 put_folder-returns-then-left-eq0-clause-refused g t c =
@@ -117,7 +120,8 @@ put_folder-returns-then-left-eq0-clause-refused g t c =
     let whole : string_bytes c.in_ok-below.below ≡ place ++ 47 ∷ string_bytes c.name-item.result = search rules in
     let at : path ≡ place ++ 47 ∷ n = c.as_str-then-left-eq0.ensures.value ∙ whole ∙ ap (λ m. place ++ 47 ∷ m) (sym c.as_str-in-loop-name.ensures.value) in
     let lists = subst (λ l. sees.lists place (map string_bytes l)) (sym c.deref-name-items.ensures.value) c.in_ok-names.ensures.listed in
-    let entry = entry_at sees place c.deref-name-items.result.now c.loop-name.name-index c.name-item.result n lists c.loop-name-test.true c.name-item.is c.as_str-in-loop-name.ensures.value in
+    let entry = entry_at sees g.K.Origin.start c.args.left place c.deref-name-items.result.now c.loop-name.name-index c.name-item.result n (folder_read c.loop-name.children) lists
+    c.loop-name-test.true c.name-item.is c.as_str-in-loop-name.ensures.value c.loop-name.invariant in
     deepest sees g.K.Origin.start (string_bytes c.args.server.now.address) place c.args.left n path _ c.if-left-eq0.true entry at c.entry_error.ensures
 
 pub put_folder-returns-in_err-node-clause-refused : goal.put_folder-returns-in_err-node-clause-refused
@@ -129,14 +133,15 @@ put_folder-returns-in_err-node-clause-refused g t c =
     let whole : string_bytes c.in_ok-below.below ≡ place ++ 47 ∷ string_bytes c.name-item.result = search rules in
     let at : path ≡ place ++ 47 ∷ n = c.as_str-path.ensures.value ∙ whole ∙ ap (λ m. place ++ 47 ∷ m) (sym c.as_str-in-loop-name.ensures.value) in
     let lists = subst (λ l. sees.lists place (map string_bytes l)) (sym c.deref-name-items.ensures.value) c.in_ok-names.ensures.listed in
-    let entry = entry_at sees place c.deref-name-items.result.now c.loop-name.name-index c.name-item.result n lists c.loop-name-test.true c.name-item.is c.as_str-in-loop-name.ensures.value in
+    let entry = entry_at sees g.K.Origin.start c.args.left place c.deref-name-items.result.now c.loop-name.name-index c.name-item.result n (folder_read c.loop-name.children) lists
+    c.loop-name-test.true c.name-item.is c.as_str-in-loop-name.ensures.value c.loop-name.invariant in
     exit_by (IsUnput sees g.K.Origin.start c.args.server.now c.args.left place) _ c.from_residual-in_err-node.ensures.1
     (further sees g.K.Origin.start (string_bytes c.args.server.now.address) place c.args.left n path _ c.if-left-eq0.false entry at c.in_err-node.ensures.refused)
 
 pub put_folder-returns-in_err-push-clause-refused : goal.put_folder-returns-in_err-push-clause-refused
 put_folder-returns-in_err-push-clause-refused g t c =
     exit_by (IsUnput g.W.World.sees g.K.Origin.start c.args.server.now c.args.left c.args.place.now) _ c.from_residual-in_err-push.ensures.1
-    (here c.args.left c.args.place.now (in_memory refl))
+    (inl refl)
 
 pub put_folder-returns-in_err-directory-clause-refused : goal.put_folder-returns-in_err-directory-clause-refused
 put_folder-returns-in_err-directory-clause-refused g t c =
@@ -148,12 +153,12 @@ put_folder-returns-in_err-directory-clause-refused g t c =
     let ordered = subst (λ l. IsSorted bytes_cmp (map string_bytes l)) (sym c.deref-name-items.ensures.value) c.in_ok-names.ensures.ordered in
     let so_far = all_names_put sees start c.args.left place items c.loop-name.name-index (folder_read c.loop-name.children) c.loop-name-test.false c.loop-name.invariant in
     exit_by (IsUnput sees start c.args.server.now c.args.left place) _ c.from_residual-in_err-directory.ensures.1
-    (here c.args.left place (names_fail sees start (string_bytes c.args.server.now.address) place (map string_bytes items) (folder_read c.loop-name.children) _ lists ordered so_far.follows c.in_err-directory.ensures.refused))
+    (names_fail sees start (string_bytes c.args.server.now.address) place c.args.left (map string_bytes items) (folder_read c.loop-name.children) _ lists ordered so_far.follows c.in_err-directory.ensures.refused)
 
 pub put_folder-returns-in_err-bytes-clause-refused : goal.put_folder-returns-in_err-bytes-clause-refused
 put_folder-returns-in_err-bytes-clause-refused g t c =
     exit_by (IsUnput g.W.World.sees g.K.Origin.start c.args.server.now c.args.left c.args.place.now) _ c.from_residual-in_err-bytes.ensures.1
-    (here c.args.left c.args.place.now (in_memory refl))
+    (inl refl)
 
 pub put_folder-returns : goal.put_folder-returns
 put_folder-returns g t c =

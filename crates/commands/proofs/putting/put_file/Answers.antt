@@ -1,5 +1,6 @@
-use Rattle.std.proofs.Common.{◌∙◌, ◌+◌, ap, false, min, refl, string_bytes, subst, suc, sym}
+use Rattle.std.proofs.Common.{◌∙◌, ◌+◌, ap, false, inr, min, refl, string_bytes, subst, suc, sym}
 use Rattle.messages.specs.declared.node.Node.TheVariants.{File}
+use Rattle.commands.specs.Faults.{OrMemory}
 use Rattle.commands.specs.Put.{IsPutAt}
 use Rattle.commands.specs.Put.IsPutAt.{file_put}
 use Rattle.commands.specs.PutRefused.{FailsHere}
@@ -10,8 +11,8 @@ use Rattle.commands.proofs.putting.put_file.Goals as goal
 
 pub returns-in_err-bytes-clause-refused : goal.returns-in_err-bytes-clause-refused
 returns-in_err-bytes-clause-refused g c =
-    exit_by (FailsHere g.W.World.sees g.K.Origin.start (string_bytes c.args.server.now.address) c.args.place.now) _ c.from_residual.ensures.1
-    (unread _ c.in_err-bytes.ensures.fault refl)
+    exit_by (OrMemory (FailsHere g.W.World.sees g.K.Origin.start (string_bytes c.args.server.now.address) c.args.place.now)) _ c.from_residual.ensures.1
+    (inr (unread _ c.in_err-bytes.ensures.fault refl))
 
 pub returns-in_err-digest-clause-refused : goal.returns-in_err-digest-clause-refused
 returns-in_err-digest-clause-refused g c =
@@ -19,7 +20,7 @@ returns-in_err-digest-clause-refused g c =
     let start = g.K.Origin.start in
     let address = string_bytes c.args.server.now.address in
     let place = c.args.place.now in
-    exit_by (FailsHere sees start address place) _ c.from_residual-in_err-digest.ensures.1
+    exit_by (OrMemory (FailsHere sees start address place)) _ c.from_residual-in_err-digest.ensures.1
     (file_fails sees start address place c.deref.result.now _ (subst (λ b. sees.reads place b) (sym c.deref.ensures.value) c.in_ok-bytes.ensures.read) c.in_err-digest.ensures.refused)
 
 pub returns-clause-sized : goal.returns-clause-sized

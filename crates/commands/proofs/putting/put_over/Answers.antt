@@ -1,11 +1,13 @@
 use Rattle.std.proofs.Common.{ℕ, false, inl, inr, refl, rules, string_bytes, subst, suc, true}
 use Rattle.std.proofs.lemmas.Result.{IfOk-weaker}
 use Rattle.messages.specs.declared.node.Node.TheVariants.{Dir, File}
+use Rattle.commands.specs.Faults.{OrMemory}
 use Rattle.commands.specs.Put.{IsPutAt, PutsPath}
 use Rattle.commands.specs.PutRefused.{FailsBelow, FailsHere}
 use Rattle.commands.specs.PutRefused.FailsBelow.{here}
 use Rattle.commands.specs.PutRefused.FailsHere.{unread}
 use Rattle.commands.proofs.Exits.{err_weaker, exit_by}
+use Rattle.commands.proofs.Refused.{or_weaker}
 use Rattle.commands.proofs.putting.put_over.Goals as goal
 
 pub returns-in_err-is_folder-clause-refused : goal.returns-in_err-is_folder-clause-refused
@@ -13,8 +15,8 @@ returns-in_err-is_folder-clause-refused g c =
     let sees = g.W.World.sees in
     let start = g.K.Origin.start in
     let address = string_bytes c.args.server.now.address in
-    exit_by (λ e. FailsBelow sees start address e 64 (string_bytes c.args.place)) _ c.from_residual.ensures.1
-    (subst (FailsBelow sees start address _ 64) c.as_str-place.ensures.value (here 64 c.as_str-place.result.now (unread _ c.in_err-is_folder.ensures.fault refl)))
+    exit_by (OrMemory (λ e. FailsBelow sees start address e 64 (string_bytes c.args.place))) _ c.from_residual.ensures.1
+    (inr (subst (FailsBelow sees start address _ 64) c.as_str-place.ensures.value (here 64 c.as_str-place.result.now (unread _ c.in_err-is_folder.ensures.fault refl))))
 
 pub returns-clause-refused : goal.returns-clause-refused
 returns-clause-refused g c =
@@ -22,8 +24,9 @@ returns-clause-refused g c =
     let start = g.K.Origin.start in
     let address = string_bytes c.args.server.now.address in
     let place = c.as_str-place.result.now in
-    err_weaker c.put_file.result (FailsHere sees start address place) (λ e. FailsBelow sees start address e 64 (string_bytes c.args.place))
-    (λ e fails. subst (FailsBelow sees start address e 64) c.as_str-place.ensures.value (here 64 place fails)) c.put_file.ensures.refused
+    err_weaker c.put_file.result (OrMemory (FailsHere sees start address place)) (OrMemory (λ e. FailsBelow sees start address e 64 (string_bytes c.args.place)))
+    (λ e. or_weaker (FailsHere sees start address place) (λ x. FailsBelow sees start address x 64 (string_bytes c.args.place)) e
+    (λ fails. subst (FailsBelow sees start address e 64) c.as_str-place.ensures.value (here 64 place fails))) c.put_file.ensures.refused
 
 pub returns-then-branch-clause-put : goal.returns-then-branch-clause-put
 returns-then-branch-clause-put g c =

@@ -8,11 +8,10 @@ use Rattle.commands.specs.Put.{PutsPath}
 use Rattle.commands.specs.PutRefused.{FailsBelow, FailsPut}
 use Rattle.commands.specs.PutRefused.FailsPut.{in_connection, in_memory, in_output, in_path, in_words}
 use Rattle.commands.specs.Refusal.{IsPrintFault}
-use Rattle.commands.specs.Status.{exit_status}
 use Rattle.commands.specs.Words.{FailsFirst, server_words}
 use Rattle.commands.proofs.Exits.{exit_by, or_else}
 use Rattle.commands.proofs.Placed.{starts_put}
-use Rattle.commands.proofs.Refused.{not_words, or_memory}
+use Rattle.commands.proofs.Refused.{or_memory}
 use Rattle.commands.proofs.Writing.{where_err}
 use Rattle.commands.proofs.putting.run_put.Goals as goal
 
@@ -45,9 +44,10 @@ returns-in_err-digest-clause-refused g c =
     let options = rows_of (found_of c.args.matches.now) in
     let start = connection_of g.W.Link.Stream.flow c.in_ok-remote.remote in
     exit_by (FailsPut sees options) _ c.from_residual-in_err-digest.ensures.1
-    (in_path start (starts_put sees options c.in_ok-server.server start c.in_ok-server.ensures.server c.in_ok-remote.ensures.opened c.in_ok-server.ensures.checked)
-    (subst (λ a. FailsBelow sees start a c.in_err-digest.field-0.0 64 (option_text options (codes "path"))) c.in_ok-server.ensures.server.address
-    (subst (FailsBelow sees start (string_bytes c.in_ok-server.server.address) c.in_err-digest.field-0.0 64) (c.in_ok-place.ensures.ok ∙ c.text_of.ensures) c.in_err-digest.ensures.refused)))
+    (or_memory (λ x. FailsBelow sees start (option_text options (codes "server")) x 64 (option_text options (codes "path"))) (FailsPut sees options) _ in_memory
+    (in_path start (starts_put sees options c.in_ok-server.server start c.in_ok-server.ensures.server c.in_ok-remote.ensures.opened c.in_ok-server.ensures.checked))
+    (subst (λ a. OrMemory (λ x. FailsBelow sees start a x 64 (option_text options (codes "path"))) c.in_err-digest.field-0.0) c.in_ok-server.ensures.server.address
+    (subst (λ p. OrMemory (λ x. FailsBelow sees start (string_bytes c.in_ok-server.server.address) x 64 p) c.in_err-digest.field-0.0) (c.in_ok-place.ensures.ok ∙ c.text_of.ensures) c.in_err-digest.ensures.refused)))
 
 pub returns-in_err-print_digest-clause-refused : goal.returns-in_err-print_digest-clause-refused
 returns-in_err-print_digest-clause-refused g c =
@@ -75,8 +75,8 @@ returns-in_err-print_digest-clause-begun g c =
 
 pub returns-in_err-print_digest-clause-unprinted : goal.returns-in_err-print_digest-clause-unprinted
 returns-in_err-print_digest-clause-unprinted g c =
-    exit_by (λ e. exit_status e ≡ 2 → g.O.Write.contents c.print_digest.new.out ≡ g.O.Write.contents c.args.out.now) _ c.from_residual-in_err-print_digest.ensures.1
-    (λ status. absurd (not_words _ c.in_err-print_digest.ensures.fault status))
+    exit_by (λ e. ¬ IsPrintFault e → g.O.Write.contents c.print_digest.new.out ≡ g.O.Write.contents c.args.out.now) _ c.from_residual-in_err-print_digest.ensures.1
+    c.in_err-print_digest.ensures.unprinted
 
 pub returns-clause-printed : goal.returns-clause-printed
 returns-clause-printed g c =

@@ -4,6 +4,7 @@ use Rattle.std.specs.Io.KnownBytes.{Appends}
 use Rattle.commands.specs.Printed.{listening_line}
 use Rattle.commands.specs.Told.{AppendsBeginning}
 use Rattle.commands.proofs.Gotten.{on_err}
+use Rattle.commands.proofs.Silent.{only_prints}
 use Rattle.commands.proofs.serving.print_address.Goals as goal
 
 pub returns-clause-printed : goal.returns-clause-printed
@@ -16,3 +17,6 @@ returns-clause-begun g c =
     let line : c.as_bytes.result.now ≡ listening_line c.args.address.now = search rules in
     on_err c.print_all.result c.print_all.ensures.begun
     (λ begun. inr (subst (AppendsBeginning (g.O.Write.contents c.args.out.now) (g.O.Write.contents c.print_all.new.out)) line begun))
+
+pub returns-clause-unprinted : goal.returns-clause-unprinted
+returns-clause-unprinted g c = only_prints _ c.print_all.result c.print_all.ensures.fault

@@ -4,11 +4,10 @@ use Rattle.command_lines.specs.CommandLine.{option_text}
 use Rattle.commands.specs.Refusal.{IsPrintFault}
 use Rattle.commands.specs.ServeRefused.{FailsServe, FailsToListen, IsAcceptFault}
 use Rattle.commands.specs.ServeRefused.FailsServe.{in_address, in_connections, in_memory, in_output, in_words}
-use Rattle.commands.specs.Status.{exit_status}
 use Rattle.commands.specs.Words.{FailsFirst, serve_words}
 use Rattle.commands.specs.Printed.{PrintsListening, listening_line}
 use Rattle.commands.proofs.Exits.{exit_by, or_else}
-use Rattle.commands.proofs.Refused.{listen_not_accept, not_words, or_memory, print_not_accept, starts_serve, words_not_accept}
+use Rattle.commands.proofs.Refused.{listen_not_accept, or_memory, print_not_accept, starts_serve, words_not_accept}
 use Rattle.commands.proofs.Writing.{beginning_of_all, where_err}
 use Rattle.commands.proofs.serving.run_serve.Goals as goal
 
@@ -44,8 +43,11 @@ returns-in_err-print_address-clause-refused g c =
 
 pub returns-in_err-print_address-clause-unprinted : goal.returns-in_err-print_address-clause-unprinted
 returns-in_err-print_address-clause-unprinted g c =
-    exit_by (λ e. exit_status e ≡ 2 → g.O.Write.contents c.print_address.new.out ≡ g.O.Write.contents c.args.out.now) _ c.from_residual-in_err-print_address.ensures.1
-    (λ status. absurd (not_words _ c.in_err-print_address.ensures.fault status))
+    exit_by (λ e. ¬ IsPrintFault e → ¬ IsAcceptFault e → g.O.Write.contents c.print_address.new.out ≡ g.O.Write.contents c.args.out.now) _ c.from_residual-in_err-print_address.ensures.1
+    (λ print accept. c.in_err-print_address.ensures.unprinted print)
+
+pub returns-in-Err-clause-unprinted : goal.returns-in-Err-clause-unprinted
+returns-in-Err-clause-unprinted g c = λ print accept. absurd (accept tt)
 
 pub returns-in-Err-clause-refused : goal.returns-in-Err-clause-refused
 returns-in-Err-clause-refused g c =

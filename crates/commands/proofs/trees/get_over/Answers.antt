@@ -1,12 +1,14 @@
-use Rattle.std.proofs.Common.{refl, string_bytes, subst}
+use Rattle.std.proofs.Common.{◌≡◌, refl, string_bytes, subst}
 use Rattle.std.proofs.Math.Logic.{∥∥₁_map}
 use Rattle.std.specs.declared.alloc.Global.{Global}
 use Rattle.checkout.specs.Refused.{FailsCheckout}
-use Rattle.checkout.specs.Written.{HoldsTree}
+use Rattle.checkout.specs.Written.{HoldsTree, TriesTree}
 use Rattle.remote.specs.Remote.{connection_of, telling_of}
+use Rattle.commands.specs.Faults.{OrMemory}
 use Rattle.commands.specs.GetRefused.{FailsGetTree}
+use Rattle.commands.specs.Refusal.{IsPrintFault}
 use Rattle.commands.proofs.Exits.{exit_by, or_else}
-use Rattle.commands.proofs.Gotten.{tree_fails}
+use Rattle.commands.proofs.Gotten.{asks_tree, tree_fails}
 use Rattle.commands.proofs.Writing.{where_err}
 use Rattle.commands.proofs.trees.get_over.Goals as goal
 
@@ -15,7 +17,9 @@ returns-in-Ok-clause-got g c =
     let source = c.check_out.new.source in
     record {
       told = telling_of source.remote;
-      over = ∥∥₁_map source.over (λ over. (connection_of g.S.Stream.flow source.remote, over));
+      asks = asks_tree g.K.Origin.start c.args.digest.now c.args.remote c.new-client.result.remote (telling_of source.remote)
+          c.new-client.ensures c.requires.fresh (∥∥₁_map source.over (λ over. (connection_of g.S.Stream.flow source.remote, over))) c.check_out.ensures.only c.check_out.ensures.few;
+      tried = subst (TriesTree g.W.World.sees.tries (telling_of source.remote).blobs c.args.digest.now) c.as_str.ensures.value c.in-Ok.ensures.tried;
       holds = subst (λ f. HoldsTree g.W.World.sees.holds (telling_of source.remote).blobs c.args.digest.now f) c.as_str.ensures.value c.in-Ok.ensures.written;
       unprinted = refl;
     }
@@ -25,9 +29,10 @@ returns-clause-got g c =
     let source = c.check_out.new.source in
     record {
       told = telling_of source.remote;
-      over = ∥∥₁_map source.over (λ over. (connection_of g.S.Stream.flow source.remote, over));
+      asks = asks_tree g.K.Origin.start c.args.digest.now c.args.remote c.new-client.result.remote (telling_of source.remote)
+          c.new-client.ensures c.requires.fresh (∥∥₁_map source.over (λ over. (connection_of g.S.Stream.flow source.remote, over))) c.check_out.ensures.only c.check_out.ensures.few;
       error = c.in-Err.error;
-      fails = subst (λ f. FailsCheckout {A = Global} g.W.World.sees.holds g.W.World.sees.unwritten (telling_of source.remote).blobs c.args.digest.now f c.in-Err.error) c.as_str.ensures.value c.in-Err.ensures.refused;
+      fails = subst (λ f. FailsCheckout {A = Global} g.W.World.sees.holds g.W.World.sees.unwritten g.W.World.sees.tries (telling_of source.remote).blobs c.args.digest.now f c.in-Err.error) c.as_str.ensures.value c.in-Err.ensures.refused;
       lacks = c.in_ok-print_lack-in-Err.ensures.printed;
     }
 
@@ -36,9 +41,10 @@ returns-in_err-print_lack-in-Err-clause-begun g c =
     let source = c.check_out.new.source in
     where_err c.from_residual.result (or_else c.in_err-print_lack-in-Err.ensures.begun (λ lacks. record {
       told = telling_of source.remote;
-      over = ∥∥₁_map source.over (λ over. (connection_of g.S.Stream.flow source.remote, over));
+      asks = asks_tree g.K.Origin.start c.args.digest.now c.args.remote c.new-client.result.remote (telling_of source.remote)
+          c.new-client.ensures c.requires.fresh (∥∥₁_map source.over (λ over. (connection_of g.S.Stream.flow source.remote, over))) c.check_out.ensures.only c.check_out.ensures.few;
       error = c.in-Err.error;
-      fails = subst (λ f. FailsCheckout {A = Global} g.W.World.sees.holds g.W.World.sees.unwritten (telling_of source.remote).blobs c.args.digest.now f c.in-Err.error) c.as_str.ensures.value c.in-Err.ensures.refused;
+      fails = subst (λ f. FailsCheckout {A = Global} g.W.World.sees.holds g.W.World.sees.unwritten g.W.World.sees.tries (telling_of source.remote).blobs c.args.digest.now f c.in-Err.error) c.as_str.ensures.value c.in-Err.ensures.refused;
       lacks = lacks;
     }))
 
@@ -50,8 +56,14 @@ returns-in_err-print_lack-in-Err-clause-fault g c =
     let address = string_bytes c.args.server.now.address in
     let folder = string_bytes c.args.folder in
     let digest = c.args.digest.now in
-    exit_by (FailsGetTree sees start address digest folder) _ c.from_residual.ensures.1
+    exit_by (OrMemory (FailsGetTree sees start address digest folder)) _ c.from_residual.ensures.1
     (tree_fails sees start address digest folder (telling_of source.remote) c.in-Err.error _
-    (∥∥₁_map source.over (λ over. (connection_of g.S.Stream.flow source.remote, over)))
-    (subst (λ f. FailsCheckout {A = Global} sees.holds sees.unwritten (telling_of source.remote).blobs digest f c.in-Err.error) c.as_str.ensures.value c.in-Err.ensures.refused)
+    (asks_tree start digest c.args.remote c.new-client.result.remote (telling_of source.remote)
+    c.new-client.ensures c.requires.fresh (∥∥₁_map source.over (λ over. (connection_of g.S.Stream.flow source.remote, over))) c.check_out.ensures.only c.check_out.ensures.few)
+    (subst (λ f. FailsCheckout {A = Global} sees.holds sees.unwritten sees.tries (telling_of source.remote).blobs digest f c.in-Err.error) c.as_str.ensures.value c.in-Err.ensures.refused)
     c.in_err-print_lack-in-Err.ensures.fault)
+
+pub returns-in_err-print_lack-in-Err-clause-unprinted : goal.returns-in_err-print_lack-in-Err-clause-unprinted
+returns-in_err-print_lack-in-Err-clause-unprinted g c =
+    exit_by (λ e. ¬ IsPrintFault e → g.O.Write.contents c.print_lack.new.out ≡ g.O.Write.contents c.args.out.now) _ c.from_residual.ensures.1
+    c.in_err-print_lack-in-Err.ensures.unprinted

@@ -1,6 +1,7 @@
 use Rattle.std.proofs.Common.{subst, string_bytes}
 use Rattle.std.specs.Prelude.{IfErr, IfOk, OnErr}
 use Rattle.remote.specs.Remote.{connection_of}
+use Rattle.commands.specs.Faults.{OrMemory}
 use Rattle.commands.specs.GetRefused.{FailsGetTree}
 use Rattle.commands.specs.Trees.{BeginsLack, IsTreeGot}
 use Rattle.commands.proofs.trees.get_tree.Goals as goal
@@ -24,5 +25,5 @@ returns-clause-begun g c =
 pub returns-clause-fault : goal.returns-clause-fault
 returns-clause-fault g c =
     let start = connection_of g.W.Link.Stream.flow c.args.remote in
-    subst (λ f. IfErr c.get_over.result (FailsGetTree g.W.World.sees start (string_bytes c.args.server.now.address) c.args.digest.now f)) c.in_ok-folder.ensures.ok
+    subst (λ f. IfErr c.get_over.result (OrMemory (FailsGetTree g.W.World.sees start (string_bytes c.args.server.now.address) c.args.digest.now f))) c.in_ok-folder.ensures.ok
     c.get_over.ensures.fault

@@ -1,6 +1,6 @@
-use Rattle.std.proofs.Common.{◌≡◌, ◌⊎◌, inl, string_bytes, subst, sym}
+use Rattle.std.proofs.Common.{inl, string_bytes, subst, sym}
+use Rattle.commands.specs.Faults.{OrMemory}
 use Rattle.commands.specs.GetRefused.{TellsCheckout}
-use Rattle.commands.specs.declared.error.CommandError.TheVariants.{Memory}
 use Rattle.commands.proofs.Exits.{exit_by, or_else}
 use Rattle.commands.proofs.trees.print_lack.Goals as goal
 
@@ -8,5 +8,5 @@ pub returns-in_err-confirm-in-Missing-clause-fault : goal.returns-in_err-confirm
 returns-in_err-confirm-in-Missing-clause-fault g c =
     let start = g.K.Origin.start in
     let address = string_bytes c.args.server.now.address in
-    exit_by (λ e. (e ≡ Memory) ⊎ TellsCheckout start address c.args.error e) _ c.from_residual.ensures.1
+    exit_by (OrMemory (TellsCheckout start address c.args.error)) _ c.from_residual.ensures.1
     (or_else c.in_err-confirm-in-Missing.ensures.fault (λ over. subst (λ x. TellsCheckout start address x c.in_err-confirm-in-Missing.field-0.0) (sym c.in-Missing.is) (inl over)))

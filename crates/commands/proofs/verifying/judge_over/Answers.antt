@@ -2,7 +2,7 @@ use Rattle.std.proofs.Common.{inl, refl, string_bytes}
 use Rattle.std.proofs.Math.Logic.{∥∥₁_map}
 use Rattle.remote.specs.Remote.{connection_of, telling_of}
 use Rattle.commands.specs.Faults.{OrMemory}
-use Rattle.commands.specs.Places.{FailsOver}
+use Rattle.commands.specs.Places.{FailsOver, gets_alone}
 use Rattle.commands.proofs.Exits.{exit_by}
 use Rattle.commands.proofs.verifying.judge_over.Goals as goal
 
@@ -18,7 +18,7 @@ returns-in-Ok-clause-answered g c =
 -- memory ran out
 pub returns-in_err-error-in-Err-Fetch-clause-fault : goal.returns-in_err-error-in-Err-Fetch-clause-fault
 returns-in_err-error-in-Err-Fetch-clause-fault g c =
-    exit_by (OrMemory (λ e. ∥ FailsOver g.K.Origin.start (string_bytes c.args.server.now.address) e ∥₁)) _ c.from_residual-in_err-error-in-Err-Fetch.ensures.1 (inl refl)
+    exit_by (OrMemory (λ e. ∥ FailsOver gets_alone g.K.Origin.start (string_bytes c.args.server.now.address) e ∥₁)) _ c.from_residual-in_err-error-in-Err-Fetch.ensures.1 (inl refl)
 
 pub returns : goal.returns
 returns g c = record { answered = tt; fault = inl refl }

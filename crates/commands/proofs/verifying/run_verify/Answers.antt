@@ -1,10 +1,10 @@
-use Rattle.std.proofs.Common.{inl, inr, refl, rules, subst, sym}
+use Rattle.std.proofs.Common.{◌≡◌, inl, inr, refl, rules, subst, sym}
 use Rattle.std.specs.Prelude.{◌↔◌, IsTrue}
 use Rattle.clap.specs.Words.{found_of, rows_of}
 use Rattle.verifier.specs.Verdict.{IsYes}
-use Rattle.commands.specs.Printed.{JudgesAsked}
+use Rattle.commands.specs.Printed.{JudgesAsked, NotesFolder}
 use Rattle.commands.specs.Told.{AppendsBeginning}
-use Rattle.commands.specs.Refusal.{FailsAtPlace, FailsVerify}
+use Rattle.commands.specs.Refusal.{FailsAtPlace, FailsVerify, IsPrintFault}
 use Rattle.commands.specs.Refusal.FailsVerify.{in_memory, in_output, in_place, in_record, in_words}
 use Rattle.commands.specs.Words.{FailsFirst, place_words}
 use Rattle.commands.proofs.Exits.{exit_by}
@@ -19,6 +19,13 @@ returns-in_err-build-clause-refused g c =
     let sees = g.W.World.sees in
     exit_by (FailsVerify sees options) _ c.from_residual.ensures.1
     (or_memory (FailsFirst (place_words options)) (FailsVerify sees options) _ in_memory in_words c.in_err-build.ensures.checked)
+
+pub returns-in_err-store-clause-refused : goal.returns-in_err-store-clause-refused
+returns-in_err-store-clause-refused g c =
+    exit_by (FailsVerify g.W.World.sees (rows_of (found_of c.args.matches.now))) _ c.from_residual-in_err-store.ensures.1 (in_memory refl)
+
+pub returns-clause-noted : goal.returns-clause-noted
+returns-clause-noted g c = subst (λ o. NotesFolder g.W.World.sees o c.ended_of.result) c.in_ok-store.ensures c.ended_of.ensures.noted
 
 pub returns-in_err-case-clause-unended : goal.returns-in_err-case-clause-unended
 returns-in_err-case-clause-unended g c =
@@ -62,6 +69,11 @@ returns-in_err-print_line-clause-begun g c =
     record { question = c.in_ok-case.case; asks = c.in_ok-case.ensures.asks; told = is.0; source = is.1; judged = is.2.judged; lacks = lacked_by sees rows c.in_ok-case.case is.2.verdict c.in_ok-answer.answer.lack is.2.lack is.3 } in
     where_err c.from_residual-in_err-print_line.result
     (inr (is.2.verdict, judged, subst (AppendsBeginning (g.O.Write.contents c.args.out.now) (g.O.Write.contents c.print_line.new.out)) is.2.tells.line c.in_err-print_line.ensures.begun))
+
+pub returns-in_err-print_line-clause-unprinted : goal.returns-in_err-print_line-clause-unprinted
+returns-in_err-print_line-clause-unprinted g c =
+    exit_by (λ e. ¬ IsPrintFault e → g.O.Write.contents c.print_line.new.out ≡ g.O.Write.contents c.args.out.now) _ c.from_residual-in_err-print_line.ensures.1
+    (λ not. absurd (not c.in_err-print_line.ensures.fault))
 
 pub returns-clause-printed : goal.returns-clause-printed
 returns-clause-printed g c =

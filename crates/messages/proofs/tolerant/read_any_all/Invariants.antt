@@ -2,7 +2,7 @@ use Rattle.std.proofs.Common.{◌≡◌, drop}
 use Rattle.canonical.specs.View.{slices}
 use Rattle.canonical.specs.Told.{each}
 use Rattle.messages.specs.Tolerant.{alone}
-use Rattle.messages.proofs.Each.{with_front}
+use Rattle.wire.proofs.Steps.{with_front}
 use Rattle.messages.proofs.tolerant.read_any_all.Given as goal
 
 abbrev pub invariant-loop-bytes : goal.invariant-loop-bytes

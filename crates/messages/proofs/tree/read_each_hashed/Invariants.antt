@@ -3,7 +3,7 @@ use Rattle.canonical.specs.View.{slices}
 use Rattle.canonical.specs.Told.{each}
 use Rattle.messages.specs.Directory.{directory_bytes, decoded_directory}
 use Rattle.messages.specs.Tree.{digests_of}
-use Rattle.messages.proofs.Each.{with_front}
+use Rattle.wire.proofs.Steps.{with_front}
 use Rattle.messages.proofs.tree.read_each_hashed.Given as goal
 
 abbrev pub invariant-loop-bytes : goal.invariant-loop-bytes

@@ -6,6 +6,7 @@ use Rattle.plan.specs.Plan.{plan_header, lines_text}
 use Rattle.plan.specs.Values.{StepValue}
 use Rattle.plan.proofs.Beginnings.{step_fault, is_step, handed_on, lines_of_step, shorter, step_with, next_front}
 use Rattle.plan.proofs.Directories.{no_lines}
+use Rattle.plan.proofs.Early.{on_err, step_at}
 use Rattle.plan.proofs.StepNames.{found_name, new_name}
 use Rattle.plan.proofs.StepTexts.{count_few}
 use Rattle.plan.proofs.plan.read_steps.Goals as goal
@@ -67,3 +68,18 @@ loop-line-preserved g c =
     let next : c.in_ok-steps.steps ≡ c.loop-line.steps ++ step_with c.in-Some.line.name.now c.in-Some.line.digest c.in_ok-lines.lines.items ∷ [] = c.in_ok-steps.ensures ∙ ap (λ (n : List ℕ). c.loop-line.steps ++ step_with n c.in-Some.line.digest c.in_ok-lines.lines.items ∷ []) c.in_ok-of_valid.ensures in
     next_front c.args.version c.args.text.now c.loop-line.rest.now c.in-Some.line.behind.now c.in_ok-lines.behind.now c.loop-line.steps (step_with c.in-Some.line.name.now c.in-Some.line.digest c.in_ok-lines.lines.items) c.in_ok-steps.steps c.loop-line.number (c.loop-line.number + (1 + c.len-in-Some.result))
     c.loop-line.invariant.few (λ e. c.if-len-eq-MOST_STEPS.false (omega (arith, e, c.len.ensures))) c.loop-line.invariant.valid c.loop-line.invariant.apart is c.in_ok-lines.ensures.apart c.loop-line.invariant.cut c.loop-line.invariant.counted first.2 found.1 c.in_ok-lines.ensures.none next (omega (arith, c.len-in-Some.ensures, c.in_ok-lines.lines.ok))
+
+pub returns-then-is_some-clause-late : goal.returns-then-is_some-clause-late
+returns-then-is_some-clause-late g c = step_at c.args.text.now c.loop-line.rest.now c.in-Some.line.behind.now c.loop-line.steps c.in-Some.line.name.now c.in-Some.line.digest c.loop-line.invariant.valid c.loop-line.invariant.cut c.in-Some.ensures
+
+pub returns-then-len-eq-MOST_STEPS-clause-late : goal.returns-then-len-eq-MOST_STEPS-clause-late
+returns-then-len-eq-MOST_STEPS-clause-late g c = step_at c.args.text.now c.loop-line.rest.now c.in-Some.line.behind.now c.loop-line.steps c.in-Some.line.name.now c.in-Some.line.digest c.loop-line.invariant.valid c.loop-line.invariant.cut c.in-Some.ensures
+
+pub returns-in_err-lines-clause-late : goal.returns-in_err-lines-clause-late
+returns-in_err-lines-clause-late g c = on_err c.from_residual.result (step_at c.args.text.now c.loop-line.rest.now c.in-Some.line.behind.now c.loop-line.steps c.in-Some.line.name.now c.in-Some.line.digest c.loop-line.invariant.valid c.loop-line.invariant.cut c.in-Some.ensures)
+
+pub returns-in_err-of_valid-clause-late : goal.returns-in_err-of_valid-clause-late
+returns-in_err-of_valid-clause-late g c = on_err c.from_residual-in_err-of_valid.result (step_at c.args.text.now c.loop-line.rest.now c.in-Some.line.behind.now c.loop-line.steps c.in-Some.line.name.now c.in-Some.line.digest c.loop-line.invariant.valid c.loop-line.invariant.cut c.in-Some.ensures)
+
+pub returns-in_err-steps-clause-late : goal.returns-in_err-steps-clause-late
+returns-in_err-steps-clause-late g c = on_err c.from_residual-in_err-steps.result (step_at c.args.text.now c.loop-line.rest.now c.in-Some.line.behind.now c.loop-line.steps c.in-Some.line.name.now c.in-Some.line.digest c.loop-line.invariant.valid c.loop-line.invariant.cut c.in-Some.ensures)

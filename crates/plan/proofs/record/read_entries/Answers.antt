@@ -2,7 +2,7 @@ use Rattle.std.proofs.Common.{◌≡◌, ◌+◌, ◌++◌, ◌∷◌, ◌∙◌
 use Rattle.plan.specs.Line.{line_text, step_words}
 use Rattle.plan.specs.Record.{IsNextEntryFault}
 use Rattle.plan.specs.Values.{StepValue}
-use Rattle.plan.proofs.Entries.{next_entries, step_entry_fault, whole_record, end_entry_fault}
+use Rattle.plan.proofs.Entries.{first_entry, next_entries, step_entry_fault, whole_record, end_entry_fault}
 use Rattle.plan.proofs.Lines.{nothing_left}
 use Rattle.plan.proofs.record.read_entries.Goals as goal
 
@@ -29,3 +29,10 @@ pub returns-clause-fault : goal.returns-clause-fault
 returns-clause-fault g c =
     end_entry_fault c.args.steps.now c.loop-step.step-index c.args.text.now c.loop-step.rest.now c.loop-step.digests.items (c.len-2.result + 2) c.end_fault.result c.at-2.result c.requires.valid c.loop-step-test.false c.loop-step.invariant c.end_fault.ensures
     (omega (arith, c.len-2.ensures, c.loop-step.digests.ok)) c.at-2.ensures
+
+pub returns-in_err-push-in-Ok-clause-late : goal.returns-in_err-push-in-Ok-clause-late
+returns-in_err-push-in-Ok-clause-late g c = λ memory.
+    let name : c.as_bytes.result.now ≡ c.step-item.result.name = c.as_bytes.ensures.value ∙ ap (λ (s : StepValue). s.name) c.step.view_is in
+    let begins : c.loop-step.rest.now ≡ line_text (step_words c.step-item.result.name c.in-Ok.line.digest) ++ c.in-Ok.line.behind.now = subst (λ (n : List ℕ). c.loop-step.rest.now ≡ line_text (step_words n c.in-Ok.line.digest) ++ c.in-Ok.line.behind.now) name c.in-Ok.ensures.1 in
+    first_entry c.args.steps.now c.loop-step.step-index c.args.text.now c.loop-step.rest.now c.in-Ok.line.behind.now c.loop-step.digests.items c.in-Ok.line.digest c.step-item.result
+    c.requires.valid c.loop-step.invariant c.loop-step-test.true c.step-item.is c.in-Ok.ensures.0 begins

@@ -11,6 +11,7 @@ use Rattle.blob_source.proofs.Asking.{ok_no_error}
 use Rattle.blob_source.proofs.Calling.{called_exit, called_no, called_on, calls_some}
 use Rattle.tree.proofs.Leaving.{others_at, others_more, others_then}
 use Rattle.tree.proofs.Ways.{unfold_here, unfold_still}
+use Rattle.tree.proofs.FoundEntries.{asks_below, asks_done, asks_root}
 use Rattle.tree.proofs.UnfoldSteps.{Unfolds, child_looks, fault_here, unfolds_first, unfolds_leaf, unfolds_folder, unfolds_end, child_too_deep, child_fault, flat_pushed, counts_leaf, counts_folder}
 use Rattle.tree.proofs.unfolding.+unfold_below.Goals as goal
 use Rattle.tree.proofs.unfolding.+unfold_below.Goals.{in-File+in_ok-push-in-File, in-Link+in_ok-push-in-Link, in-Dir+in_ok-push-in-Dir+in_ok-unfold_below-in-Dir+in-Some-1, in-Dir+in_ok-push-in-Dir+in_ok-unfold_below-in-Dir+in-None-1}
@@ -144,3 +145,36 @@ pub returns-clause-told : goal.returns-clause-told
 returns-clause-told g t c =
     let none = rest_all (λ x. x) c.loop-name.name-iterator c.next.new.self c.next.result c.in-None.is c.next.ensures.steps in
     unfolds_end _ c.args.digest.now _ _ _ (subst (λ l. Unfolds (g.S.BlobSource.tells c.loop-name.source).blobs c.args.digest.now (names_in c.args.above.now) (flat_value c.args.entries.now.items) (flat_value c.loop-name.entries.items) (child_values l)) none c.loop-name.invariant.unfolds)
+
+-- ---- one call for each directory
+
+pub returns-in_err-directory-clause-once : goal.returns-in_err-directory-clause-once
+returns-in_err-directory-clause-once g t c = asks_root _ c.args.digest.now _ _ c.fetch_message.ensures.called.asked.most_calls
+
+pub returns-in_err-name-items-clause-once : goal.returns-in_err-name-items-clause-once
+returns-in_err-name-items-clause-once g t c = asks_root _ c.args.digest.now _ _ c.fetch_message.ensures.called.asked.most_calls
+
+pub returns-in_err-path-clause-once : goal.returns-in_err-path-clause-once
+returns-in_err-path-clause-once g t c = asks_done _ c.args.digest.now _ _ _ _ c.loop-name.invariant.unfolds _ _ c.loop-name.invariant.few
+
+pub returns-in_err-names-clause-once : goal.returns-in_err-names-clause-once
+returns-in_err-names-clause-once g t c = asks_done _ c.args.digest.now _ _ _ _ c.loop-name.invariant.unfolds _ _ c.loop-name.invariant.few
+
+pub returns-in_err-push-in-File-clause-once : goal.returns-in_err-push-in-File-clause-once
+returns-in_err-push-in-File-clause-once g t c = asks_done _ c.args.digest.now _ _ _ _ c.loop-name.invariant.unfolds _ _ c.loop-name.invariant.few
+
+pub returns-in_err-push-in-Link-clause-once : goal.returns-in_err-push-in-Link-clause-once
+returns-in_err-push-in-Link-clause-once g t c = asks_done _ c.args.digest.now _ _ _ _ c.loop-name.invariant.unfolds _ _ c.loop-name.invariant.few
+
+pub returns-in_err-push-in-Dir-clause-once : goal.returns-in_err-push-in-Dir-clause-once
+returns-in_err-push-in-Dir-clause-once g t c = asks_done _ c.args.digest.now _ _ _ _ c.loop-name.invariant.unfolds _ _ c.loop-name.invariant.few
+
+pub returns-in_err-unfold_below-in-Dir-clause-once : goal.returns-in_err-unfold_below-in-Dir-clause-once
+returns-in_err-unfold_below-in-Dir-clause-once g t c =
+    let steps = rest_more (λ x. x) c.loop-name.name-iterator c.next.new.self c.next.result (c.in-Some.name, c.in-Some.node) c.in-Some.is c.next.ensures.steps in
+    let unfolds = subst (λ l. Unfolds (g.S.BlobSource.tells c.loop-name.source).blobs c.args.digest.now (names_in c.args.above.now) (flat_value c.args.entries.now.items) (flat_value c.loop-name.entries.items) (child_values l)) steps c.loop-name.invariant.unfolds in
+    let node = subst (λ x. Unfolds (g.S.BlobSource.tells c.loop-name.source).blobs c.args.digest.now (names_in c.args.above.now) (flat_value c.args.entries.now.items) (flat_value c.loop-name.entries.items) ((c.in-Some.name, node_value x) ∷ child_values c.next.new.self)) c.in-Dir.is unfolds in
+    asks_below _ _ c.args.digest.now c.in-Dir.digest _ _ _ c.in-Some.name (child_values c.next.new.self) _ _ _ c.unfold_below.ensures.called.asked.blobs node c.loop-name.invariant.few c.unfold_below.ensures.once
+
+pub returns-clause-once : goal.returns-clause-once
+returns-clause-once g t c = asks_done _ c.args.digest.now _ _ _ _ c.loop-name.invariant.unfolds _ _ c.loop-name.invariant.few

@@ -1,3 +1,7 @@
+use Rattle.std.proofs.Common.{refl, subst}
+use Rattle.blob_digest.specs.DigestValue.{IsDigest}
+use Rattle.tree.specs.Form.{form, top}
+use Rattle.tree.proofs.TreeDigests.{IsDigest-digest_of}
 use Rattle.verifier.specs.TwoSteps as two
 use Rattle.verifier.proofs.TwoSteps.{sources_named, plan_valid}
 use Rattle.verifier.proofs.TwoStepsRecorded.{as_recorded}
@@ -19,3 +23,6 @@ returns-clause-run c = runs_once
 
 pub returns-clause-complete : goal.returns-clause-complete
 returns-clause-complete c = is_complete
+
+pub returns-clause-counted : goal.returns-clause-counted
+returns-clause-counted c = (subst IsDigest sources_named (IsDigest-digest_of (top (form two.tree))), refl)

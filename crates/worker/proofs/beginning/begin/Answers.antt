@@ -1,5 +1,6 @@
 use Rattle.worker.proofs.Keeping.{kept_trans, kept_some}
 use Rattle.std.proofs.Common.{◌≡◌, ◌∙◌, Some, refl, ap, subst, sym, inl, inr}
+use Rattle.tree.specs.Memo.{WasRefused}
 use Rattle.runs.specs.Calls.{without_job}
 use Rattle.runs.specs.Engine.{EngineValue, job_in}
 use Rattle.worker.specs.Going.{kept_job}
@@ -31,6 +32,17 @@ unfolding begun was_started
 returns-in-Ok-launch-clause-listed g c = (
   begun (g.S.BlobSource.tells c.launch.new.sink) c.in-Ok.ensures.started c.launch.ensures.kept.blobs (kept_some c.start.ensures.called) c.in-Ok-launch.ensures.launched,
   c.in-Ok-launch.ensures.listed,
+)
+
+pub returns-in-Ok-launch-clause-once : goal.returns-in-Ok-launch-clause-once
+unfolding begun was_started
+returns-in-Ok-launch-clause-once g c = (
+  begun (g.S.BlobSource.tells c.launch.new.sink) c.in-Ok.ensures.started c.launch.ensures.kept.blobs (kept_some c.start.ensures.called) c.in-Ok-launch.ensures.launched,
+  record {
+    calls = (g.S.BlobSource.tells c.start.new.source).calls;
+    asked = λ list covers. c.start.ensures.learned.learned (λ refused. subst WasRefused c.in-Ok.is refused) list covers;
+    goes = c.in-Ok-launch.ensures.once;
+  },
 )
 
 pub returns-clause-kept : goal.returns-clause-kept

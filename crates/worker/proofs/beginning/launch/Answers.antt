@@ -1,5 +1,6 @@
 use Rattle.std.proofs.lemmas.Result.{err_from_is_err_and}
-use Rattle.std.proofs.Common.{refl, sym, subst, inl, inr, ap, ◌∙◌, ◌++◌, ◌∷◌, []}
+use Rattle.std.proofs.Common.{arith, length, ◌+◌, refl, sym, subst, inl, inr, ap, ◌∙◌, ◌++◌, ◌∷◌, []}
+use Rattle.worker.specs.Storing.{tree_blobs}
 use Rattle.blob_source.specs.Sink.{HasRight}
 use Rattle.std.specs.Prelude.{IfSome}
 use Rattle.worker.specs.declared.child.Child.{Child}
@@ -166,3 +167,27 @@ returns-in_err-finish-clause-put g c = put_still c.put_input.new.put (kept_trans
 
 pub returns-in-Some-clause-put : goal.returns-in-Some-clause-put
 returns-in-Some-clause-put g c = put_still c.put_input.new.put (kept_trans c.recorded_outcome.ensures.kept c.put_trees.ensures.kept).blobs c.put_input.ensures.put
+
+pub returns-in-Some-clause-once : goal.returns-in-Some-clause-once
+returns-in-Some-clause-once g c = record {
+  rest = tree_blobs c.in-Some.outcome.outputs;
+  for_rest = inr (c.in-Some.outcome, c.in_ok-finish.ensures.finished, refl);
+  once = λ most few.
+      let put = c.put_input.ensures.once in
+      let asked = c.recorded_outcome.ensures.once most (λ b r at reads. few b r (c.put_trees.ensures.kept.results c.args.job.now.digest b at) reads) in
+      let trees = c.in_ok-put_trees.ensures.once in
+      omega (arith, put, asked, trees);
+}
+
+pub returns-clause-once : goal.returns-clause-once
+returns-clause-once g c =
+    let owed = c.in_ok-child.ensures.owed in
+    record {
+      rest = 1 + length owed.0.folders + length owed.0.files;
+      for_rest = inl (owed.0, owed.1, refl);
+      once = λ most few.
+          let put = c.put_input.ensures.once in
+          let asked = c.recorded_outcome.ensures.once most (λ b r at reads. few b r (c.start_child.ensures.kept.results c.args.job.now.digest b at) reads) in
+          let laid = owed.4 in
+          omega (arith, put, asked, laid);
+    }

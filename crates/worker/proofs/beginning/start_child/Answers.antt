@@ -20,6 +20,7 @@ returns-clause-owed g c = (
   subst (λ d. IsLayoutOf (g.S.BlobSource.tells c.layout.new.source).blobs d c.in_ok-laid.laid) c.input_root_digest-root.ensures.value c.in_ok-laid.ensures.told,
   λ p m. let given = c.in_ok-start.ensures.gives p m in (c.start.ensures.same c.in_ok-laid.laid c.args.job.now.command p given.0, given.1),
   c.in_ok-start.ensures.listed,
+  c.in_ok-laid.ensures.few,
 )
 
 pub returns-in_err-start-clause-refused : goal.returns-in_err-start-clause-refused

@@ -16,19 +16,22 @@ end_all-requires g c = record {
 }
 
 pub returns-in-Ok-clause-led : goal.returns-in-Ok-clause-led
-returns-in-Ok-clause-led g c = let going = c.in-Ok.ensures.going in (going.0.led, tt, going.2, going.3)
+returns-in-Ok-clause-led g c = let going = c.in-Ok.ensures.going in let ends = going.1 in (going.0.led, record { turns = ends.turns; refused = tt; watched = ends.watched; up_to_date = ends.up_to_date })
 
 pub returns-clause-led : goal.returns-clause-led
 returns-clause-led g c =
     let going = c.in-Err.ensures.going in
     let rest = c.end_all.ensures.led c.args.runner.now (g.S.BlobSource.tells c.args.sink.now) (g.S.BlobSource.tells c.take_turns.new.sink) c.args.jobs c.args.engine.now going.0 in
-    let stop = going.1 in
+    let stop = going.1.refused in
     let lost_then = rest.1 in
     let t = g.S.BlobSource.tells c.take_turns.new.sink in (
       rest.0,
-      record { at = stop.at; led = stop.led; rest = loses_then stop.rest lost_then; planned = stop.planned; stops = stop.stops },
-      watched_moved g.row.A.Denot (g.N.Runner.yields c.args.runner.now) c.args.jobs c.args.engine.now t t going.0.led.built.led.calls rest.0.built.led.calls (map lost lost_then.ids) lost_then.calls (puts_none t t (map lost lost_then.ids) kept_none) (λ e b at right. at) going.2,
-      tt,
+      record {
+        turns = tt;
+        refused = record { at = stop.at; led = stop.led; turns = stop.turns; rest = loses_then stop.rest lost_then; planned = stop.planned; stops = stop.stops };
+        watched = watched_moved g.row.A.Denot (g.N.Runner.yields c.args.runner.now) c.args.jobs c.args.engine.now t t going.0.led.built.led.calls rest.0.built.led.calls (map lost lost_then.ids) lost_then.calls (puts_none t t (map lost lost_then.ids) kept_none) (λ e b at right. at) going.1.watched;
+        up_to_date = tt;
+      },
     )
 
 pub returns-clause-alive : goal.returns-clause-alive

@@ -1,10 +1,12 @@
-use Rattle.std.proofs.Common.{subst, ap, ◌∙◌}
+use Rattle.std.proofs.Common.{arith, subst, ap, length, ◌∙◌}
+use Rattle.std.proofs.lemmas.List.{length-map}
 use Rattle.blob_digest.specs.Digest.{digest_of}
 use Rattle.blob_source.specs.Sink.{HasRight}
 use Rattle.messages.specs.Directory.{directory_bytes}
 use Rattle.worker.proofs.Keeping.{kept_trans, kept_blob, right_put, right_still, all_right_spelled}
 use Rattle.blob_source.proofs.Asking.{ok_no_error}
 use Rattle.worker.specs.Counted.{IsFetch}
+use Rattle.worker.proofs.PutOnce.{call_counts}
 use Rattle.worker.proofs.Failures.{counts_none, counts_same, counts_from, counts_exit, counts_put, counts_calls}
 use Rattle.worker.proofs.putting.put_directories.Goals as goal
 
@@ -15,6 +17,8 @@ loop-child-preserved g c =
     let kept = kept_blob c.put_blob-in-loop-child.ensures.called in
     record {
       kept = kept_trans c.loop-child.invariant.kept kept;
+      once = let one = call_counts c.put_blob-in-loop-child.ensures.called.asked.counts in let was = c.loop-child.invariant.once in omega (arith, one, was);
+      within = let more = c.loop-child-test.true in omega (arith, more);
       fetched = c.in_ok-put_blob-2.ensures.called.unfailed ok_no_error ∙ c.loop-child.invariant.fetched;
       held = (
         right_still kept.blobs c.loop-child.invariant.held.0,
@@ -29,6 +33,8 @@ loop-child-init g c =
     let after = (g.S.BlobSource.tells c.put_blob.new.self).blobs in
     record {
       kept = kept_blob c.put_blob.ensures.called;
+      once = let one = call_counts c.put_blob.ensures.called.asked.counts in omega (arith, one);
+      within = omega arith;
       fetched = c.in_ok-put_blob.ensures.called.unfailed ok_no_error;
       held = (subst (λ bs. HasRight after (digest_of bs)) (c.deref.ensures.value ∙ c.in_ok-encode.ensures.bytes ∙ ap directory_bytes c.root.ensures.value) (right_put before after c.in_ok-put_blob.ensures.held), tt);
     }
@@ -41,3 +47,11 @@ returns-in_err-put_blob-2-clause-fetched g c = counts_from c.loop-child.invarian
 
 pub returns-clause-fetched : goal.returns-clause-fetched
 returns-clause-fetched g c = counts_same (λ f. f) c.loop-child.invariant.fetched
+
+pub returns-clause-once : goal.returns-clause-once
+returns-clause-once g c =
+    let was = c.loop-child.invariant.once in
+    let within = c.loop-child.invariant.within in
+    let children = ap length c.children-child-items.ensures.value in
+    let spelled = length-map c.args.tree.now.children directory_bytes in
+    omega (arith, was, within, children, spelled)

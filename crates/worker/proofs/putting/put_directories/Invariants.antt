@@ -1,4 +1,4 @@
-use Rattle.std.proofs.Common.{◌≡◌, ◌∷◌, take}
+use Rattle.std.proofs.Common.{◌≡◌, ◌∷◌, ◌+◌, ◌≤◌, length, take}
 use Rattle.std.specs.Prelude.{map}
 use Rattle.messages.specs.Directory.{directory_bytes}
 use Rattle.worker.specs.Stored.{IsKept}
@@ -10,6 +10,8 @@ invariant-loop-child g l =
     let tells = g.S.BlobSource.tells in
     record {
       kept : IsKept (tells l.fn.sink) (tells l.sink);
+      once : (tells l.sink).calls ≤ (tells l.fn.sink).calls + 1 + l.child-index;
+      within : l.child-index ≤ length l.child-items;
       fetched : (tells l.sink).failures ≡ (tells l.fn.sink).failures;
       held : HasAllRight (tells l.sink).blobs (directory_bytes l.tree.root ∷ map directory_bytes (take l.child-index l.child-items));
     }

@@ -1,4 +1,4 @@
-use Rattle.std.proofs.Common.{◌≡◌, sym, subst, ◌∙◌}
+use Rattle.std.proofs.Common.{◌≡◌, ◌+◌, ◌≤◌, [], ◌∷◌, ap, arith, sym, subst, ◌∙◌}
 use Rattle.std.proofs.lemmas.Result.{err_from_is_err_and}
 use Rattle.blob_digest.specs.Digest.{digest_of}
 use Rattle.blob_source.specs.Sink.{HasRight}
@@ -7,7 +7,9 @@ use Rattle.actions.specs.declared.outcome.Output.TheVariants as outputs
 use Rattle.worker.specs.Stored.{IsKept}
 use Rattle.worker.specs.Outcomes.{directories_of, HasTree}
 use Rattle.worker.proofs.Keeping.{kept_none, kept_trans, kept_blob, right_put, all_right_still, fetch_fault}
-use Rattle.worker.proofs.Storing.{trees_taken, no_tree}
+use Rattle.worker.specs.Storing.{tree_blobs}
+use Rattle.worker.proofs.PutOnce.{call_counts}
+use Rattle.worker.proofs.Storing.{trees_taken, no_tree, tree_blobs_more}
 use Rattle.blob_source.proofs.Asking.{ok_no_error}
 use Rattle.worker.specs.Counted.{IsFetch}
 use Rattle.worker.proofs.Failures.{counts_none, counts_same, counts_from, counts_exit, counts_put, counts_calls}
@@ -40,6 +42,15 @@ loop-output-preserved g c =
           let one : HasRight after _ = right_put (tells w.put_directories.new.sink).blobs after (w.in_ok-put_blob.ensures {u = tt}).held in
           record {
             kept = kept_trans c.loop-output.invariant.kept kept;
+            once =
+                let trees = (w.in_ok-put_directories.ensures {u = tt}).once in
+                let blob = call_counts w.put_blob.ensures.called.asked.counts in
+                let here : (tells w.put_blob.new.self).calls ≤ (tells c.loop-output.sink).calls + tree_blobs ((x.0, outputs.Tree w.in-Tree.tree) ∷ []) = omega (arith, trees, blob) in
+                let one = subst (λ o. (tells w.put_blob.new.self).calls ≤ (tells c.loop-output.sink).calls + tree_blobs ((x.0, output_value o) ∷ [])) (sym w.in-Tree.is) here in
+                let ends = ap (λ s. (tells s).calls) w.sink-is in
+                let was = c.loop-output.invariant.once in
+                let more = tree_blobs_more _ c.loop-output.output-index x c.loop-output-test.true c.output-item.is in
+                omega (arith, one, ends, was, more);
             fetched = subst (λ s. (tells s).failures ≡ (tells c.args.sink.now).failures) (sym w.sink-is) ((w.in_ok-put_blob.ensures {u = tt}).called.unfailed ok_no_error ∙ (w.in_ok-put_directories.ensures {u = tt}).fetched.unfailed (λ f. f) ∙ c.loop-output.invariant.fetched);
             held = trees_taken before (tells c.match-output.sink).blobs _ c.loop-output.output-index x c.loop-output-test.true c.output-item.is kept.blobs c.loop-output.invariant.held
                 (subst (λ o. HasTree (tells c.match-output.sink).blobs (x.0, output_value o)) (sym w.in-Tree.is)
@@ -52,6 +63,11 @@ loop-output-preserved g c =
           let kept : IsKept (tells c.loop-output.sink) (tells c.match-output.sink) = subst (λ s. IsKept (tells c.loop-output.sink) (tells s)) (sym w.sink-is) kept_none in
           record {
             kept = kept_trans c.loop-output.invariant.kept kept;
+            once =
+                let ends = ap (λ s. (tells s).calls) w.sink-is in
+                let was = c.loop-output.invariant.once in
+                let more = tree_blobs_more _ c.loop-output.output-index x c.loop-output-test.true c.output-item.is in
+                omega (arith, ends, was, more);
             fetched = subst (λ s. (tells s).failures ≡ (tells c.args.sink.now).failures) (sym w.sink-is) c.loop-output.invariant.fetched;
             held = trees_taken before (tells c.match-output.sink).blobs _ c.loop-output.output-index x c.loop-output-test.true c.output-item.is kept.blobs c.loop-output.invariant.held
                 (no_tree (tells c.match-output.sink).blobs x.0 x.1 w.in_default.not-Tree);

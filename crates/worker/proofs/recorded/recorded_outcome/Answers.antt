@@ -6,7 +6,7 @@ use Rattle.std.specs.Prelude.{Err}
 use Rattle.blob_source.proofs.Asking.{ok_no_error}
 use Rattle.worker.proofs.Failures.{counts_as, counts_no, counts_from, counts_calls}
 use Rattle.worker.specs.Going.{HasNoneToTake}
-use Rattle.worker.proofs.Untaken.{unread, none_reads, none_fits, none_explained, if_ok, if_err}
+use Rattle.worker.proofs.Untaken.{unread, none_reads, none_fits, none_explained, if_ok, if_err, asked_trees}
 use Rattle.worker.proofs.recorded.recorded_outcome.Goals.{in-Memory, in_default-error}
 use Rattle.worker.proofs.recorded.recorded_outcome.Goals as goal
 
@@ -67,3 +67,18 @@ returns-clause-none g c same =
     let bytes = c.in-Some.bytes.items in
     none_explained t c.args.job.now.digest c.args.job.now.command bytes (c.recorded.ensures.called.asked.some.results c.args.job.now.digest bytes (sym c.in_ok-bytes.ensures.told ∙ ap bytes_of c.in-Some.is))
     c.in-Ok.made (subst (λ bs. Reads c.in-Ok.made bs) c.deref.ensures.value c.in-Ok.ensures.found) c.in-Err-recorded.error c.in-Err-recorded.ensures.faulty c.in_default-error-2.not-Fetch c.in_default-error-2.not-Memory
+
+pub returns-then-fits-clause-once : goal.returns-then-fits-clause-once
+returns-then-fits-clause-once g c = asked_trees c.args.job.now.digest c.result.ensures.called.asked.counts (g.S.BlobSource.tells c.recorded.new.source) c.in-Ok.made c.recorded.ensures.called.asked c.in_ok-bytes.ensures.told c.in-Some.is c.deref.ensures.value c.in-Ok.ensures.found
+
+pub returns-in-Ok-recorded-clause-once : goal.returns-in-Ok-recorded-clause-once
+returns-in-Ok-recorded-clause-once g c = asked_trees c.args.job.now.digest c.result.ensures.called.asked.counts (g.S.BlobSource.tells c.recorded.new.source) c.in-Ok.made c.recorded.ensures.called.asked c.in_ok-bytes.ensures.told c.in-Some.is c.deref.ensures.value c.in-Ok.ensures.found
+
+pub returns-in-Fetch-clause-once : goal.returns-in-Fetch-clause-once
+returns-in-Fetch-clause-once g c = asked_trees c.args.job.now.digest c.result.ensures.called.asked.counts (g.S.BlobSource.tells c.recorded.new.source) c.in-Ok.made c.recorded.ensures.called.asked c.in_ok-bytes.ensures.told c.in-Some.is c.deref.ensures.value c.in-Ok.ensures.found
+
+pub returns-in-Memory-error-clause-once : goal.returns-in-Memory-error-clause-once
+returns-in-Memory-error-clause-once g c = asked_trees c.args.job.now.digest c.result.ensures.called.asked.counts (g.S.BlobSource.tells c.recorded.new.source) c.in-Ok.made c.recorded.ensures.called.asked c.in_ok-bytes.ensures.told c.in-Some.is c.deref.ensures.value c.in-Ok.ensures.found
+
+pub returns-clause-once : goal.returns-clause-once
+returns-clause-once g c = asked_trees c.args.job.now.digest c.result.ensures.called.asked.counts (g.S.BlobSource.tells c.recorded.new.source) c.in-Ok.made c.recorded.ensures.called.asked c.in_ok-bytes.ensures.told c.in-Some.is c.deref.ensures.value c.in-Ok.ensures.found

@@ -2,7 +2,8 @@ use Rattle.std.proofs.Common.{◌≡◌, Some, None, refl, ap, subst}
 use Rattle.std.specs.Prelude.{IfSome}
 use Rattle.std.specs.List.{AllByRecursion, insert}
 use Rattle.action_messages.specs.Overlaps.{ArePathsApart}
-use Rattle.actions.specs.Outcome.{OutcomeValue, HasRoom, outputs_in}
+use Rattle.actions.specs.Outcome.{OutcomeValue, outputs_in}
+use Rattle.actions.specs.Parts.{HasRoom}
 use Rattle.actions.specs.OutcomeLookup.{StandsOver}
 use Rattle.actions.proofs.OutcomeLookups.{no_output_over, paths_in, ascending, valid, paths_of}
 use Rattle.actions.proofs.Added.{valid_added, is_added, full}

@@ -3,7 +3,8 @@ use Rattle.tree.specs.Form.{node_value}
 use Rattle.tree.specs.Lookup.{nothing, found, looked}
 use Rattle.tree.specs.Merging.{within_value}
 use Rattle.actions.specs.Outcome.{output_value}
-use Rattle.actions.specs.OutcomeLookup.{LooksBelow, names_left}
+use Rattle.actions.specs.OutcomeLookup.{LooksBelow}
+use Rattle.actions.specs.Parts.{names_left}
 use Rattle.actions.proofs.OutcomeLookups.{ascending, valid, within, none_over, looks_over, lies_over, memory_over}
 use Rattle.actions.proofs.outcome.Outcome.lookup_within.Goals as goal
 

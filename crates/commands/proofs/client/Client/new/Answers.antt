@@ -1,25 +1,26 @@
-use Rattle.std.proofs.Common.{None, ap, subst, sym}
+use Rattle.std.proofs.Common.{◌∙◌, None, ap, subst, sym}
 use Rattle.http_core.specs.declared.event.Area.TheVariants.{Ac, Cas}
 use Rattle.remote.specs.Line.{ConnectionValue}
 use Rattle.remote.specs.Remote.{blobs_of, connection_of, results_of, telling_of}
 use Rattle.commands.specs.Places.{AreLacked, Comes, IsClientOver, KeepsRefused, LacksIt, LacksOver}
 use Rattle.commands.specs.Places.Comes.{fresh}
-use Rattle.commands.proofs.Tellings.{none_lacked, none_unasked}
+use Rattle.commands.proofs.Tellings.{none_lacked, none_unasked, some_not_none}
 use Rattle.commands.proofs.client.Client.new.Goals as goal
 
 pub invariant_of-result : goal.invariant_of-result
 invariant_of-result g c =
     let remote = c.args.remote in
-    let start : Comes g.K.Origin.start (connection_of g.S.Stream.flow remote) = subst (Comes g.K.Origin.start) c.requires.start fresh in
-    let over : IsClientOver g.K.Origin.start (connection_of g.S.Stream.flow remote) (telling_of remote) = record {
+    let access = g.U.Permit.access in
+    let start : Comes access g.K.Origin.start (connection_of g.S.Stream.flow remote) = subst (Comes access g.K.Origin.start) c.requires.start fresh in
+    let over : IsClientOver access g.K.Origin.start (connection_of g.S.Stream.flow remote) (telling_of remote) = record {
       came = start;
-      blobs = λ d b is. absurd (none_unasked (blobs_of remote) d b (c.requires.fresh.blobs d) is);
-      results = λ d b is. absurd (none_unasked (results_of remote) d b (c.requires.fresh.results d) is);
+      blobs = λ d b is. absurd (some_not_none (sym is ∙ none_unasked (blobs_of remote) d (c.requires.fresh.blobs d)));
+      results = λ d b is. absurd (some_not_none (sym is ∙ none_unasked (results_of remote) d (c.requires.fresh.results d)));
     } in
-    let lacked : AreLacked (LacksIt g.K.Origin.start) (blobs_of remote) (results_of remote) = record {
-      blobs = none_lacked (λ d. LacksOver g.K.Origin.start Cas d.hash) (blobs_of remote) c.requires.fresh.blobs;
-      results = none_lacked (λ d. LacksOver g.K.Origin.start Ac d.hash) (results_of remote) c.requires.fresh.results;
+    let lacked : AreLacked (LacksIt access g.K.Origin.start) (blobs_of remote) (results_of remote) = record {
+      blobs = none_lacked (λ d. LacksOver access g.K.Origin.start Cas d.hash) (blobs_of remote) c.requires.fresh.blobs;
+      results = none_lacked (λ d. LacksOver access g.K.Origin.start Ac d.hash) (results_of remote) c.requires.fresh.results;
     } in
-    let refused : KeepsRefused g.K.Origin.start (connection_of g.S.Stream.flow remote) None =
+    let refused : KeepsRefused access g.K.Origin.start (connection_of g.S.Stream.flow remote) None =
     ap (λ (line : ConnectionValue). line.failures) (sym c.requires.start) in
     record { over = ∣ over ∣₁; lacked = ∣ lacked ∣₁; refused = ∣ refused ∣₁ }

@@ -6,11 +6,12 @@ use Rattle.remote.specs.Table.{told_by}
 use Rattle.commands.specs.Places.{CameAllOver, KeepsRefused}
 use Rattle.commands.specs.declared.failure.Method.TheVariants.{GetResult}
 use Rattle.commands.proofs.Failures.{keeps_after}
-use Rattle.commands.proofs.Tellings.{LacksAllOver, came_on, comes_on, lacks_now, lacks_on}
+use Rattle.commands.proofs.Tellings.{LacksAllOver, came_on, comes_on, lacks_now, lacks_on, may_get}
 use Rattle.commands.proofs.client.ClientBlobSourceGlobal.result.Goals as goal
 
 pub invariant_of-self : goal.invariant_of-self
 invariant_of-self g c =
+    let access = g.U.Permit.access in
     let start = g.K.Origin.start in
     let flow = g.S.Stream.flow in
     let old = c.args.self.now.remote in
@@ -19,19 +20,19 @@ invariant_of-self g c =
     let is = c.result-found.ensures in
     record {
       over = ∥∥₁_map c.args.self.now.over (λ over. record {
-        came = comes_on start Ac d (connection_of flow old) (connection_of flow new) (results_of old) (results_of new) c.result-found.result is.asked over.came;
-        results = came_on start Ac d (connection_of flow old) (connection_of flow new) (results_of old) (results_of new) c.result-found.result is.asked over.came
+        came = comes_on access start Ac d (connection_of flow old) (connection_of flow new) (results_of old) (results_of new) c.result-found.result is.asked over.came;
+        results = came_on access start Ac d (connection_of flow old) (connection_of flow new) (results_of old) (results_of new) c.result-found.result is.asked over.came
             is.told is.called.asked.results over.results;
-        blobs = subst (λ t. CameAllOver start Cas (told_by t)) (sym is.untouched) over.blobs;
+        blobs = subst (λ t. CameAllOver access start Cas (told_by t)) (sym is.untouched) over.blobs;
       });
       lacked = ∥∥₁_map₂ c.args.self.now.over c.args.self.now.lacked (λ over lacked. record {
-        results = lacks_on start Ac d (connection_of flow old) (connection_of flow new) (results_of old) (results_of new) c.result-found.result is.asked over.came
+        results = lacks_on access start Ac d (connection_of flow old) (connection_of flow new) (results_of old) (results_of new) c.result-found.result is.asked over.came
             is.told lacked.results;
-        blobs = subst (LacksAllOver start Cas) (sym is.untouched) lacked.blobs;
+        blobs = subst (LacksAllOver access start Cas) (sym is.untouched) lacked.blobs;
       });
-      refused = subst (λ f. ∥ KeepsRefused start (connection_of flow new) f ∥₁) (sym c.keep_failure.ensures)
-          (∥∥₁_map₂ c.args.self.now.over c.args.self.now.refused (λ over kept. keeps_after start (connection_of flow old) (connection_of flow new)
-          c.args.self.now.failure GetResult d [] c.result-found.result c.last_fault-fault.result is.asked.refused is.called.unfailed (sym c.last_fault-fault.ensures) refl over.came kept));
+      refused = subst (λ f. ∥ KeepsRefused access start (connection_of flow new) f ∥₁) (sym c.keep_failure.ensures)
+          (∥∥₁_map₂ c.args.self.now.over c.args.self.now.refused (λ over kept. keeps_after access start (connection_of flow old) (connection_of flow new)
+          c.args.self.now.failure GetResult d [] c.result-found.result c.last_fault-fault.result is.asked.refused is.called.unfailed (sym c.last_fault-fault.ensures) refl (may_get access Ac d.hash) over.came kept));
     }
 
 pub returns-clause-lacked : goal.returns-clause-lacked
@@ -39,5 +40,5 @@ returns-clause-lacked g c =
     let flow = g.S.Stream.flow in
     let old = c.args.self.now.remote in
     let new = c.result-found.new.self in
-    lacks_now g.K.Origin.start Ac c.args.digest.now (connection_of flow old) (connection_of flow new) (results_of old) (results_of new) c.result-found.result
+    lacks_now g.U.Permit.access g.K.Origin.start Ac c.args.digest.now (connection_of flow old) (connection_of flow new) (results_of old) (results_of new) c.result-found.result
     c.result-found.ensures.asked (∥∥₁_map c.args.self.now.over (λ over. over.came)) c.result-found.ensures.told (∥∥₁_map c.args.self.now.lacked (λ lacked. lacked.results))

@@ -1,10 +1,12 @@
-use Rattle.std.proofs.Common.{◌≡◌, ◌+◌, ◌++◌, ◌∙◌, [], List, sym, subst, arith}
+use Rattle.std.proofs.Common.{◌≡◌, ℕ, ◌+◌, ◌++◌, ◌∙◌, [], List, ap, refl, inl, sym, subst, arith, Err}
 use Rattle.plan.specs.Faults.{IsFaultBehind, IsPlanFault}
 use Rattle.plan.specs.Parts.{IsLinesFault}
 use Rattle.plan.specs.Plan.{IsPlan, plan_header, plan_text}
+use Rattle.plan.specs.Reading.{FaultyUnlessMemory}
 use Rattle.plan.specs.Values.{StepValue}
 use Rattle.plan.proofs.Beginnings.{root_fault, lines_of_root, end_fault, handed_on, plan_with}
-use Rattle.plan.proofs.Chains.{plan_one}
+use Rattle.plan.proofs.Chains.{plan_one, no_fault}
+use Rattle.plan.proofs.Early.{not_early, root_at, told}
 use Rattle.plan.proofs.Lines.{nothing_left, some_left}
 use Rattle.plan.proofs.Reading.{lifted, lifted_error, only_error, only_handed, no_header, small_number, whole_plan}
 use Rattle.plan.proofs.plan.Plan.read.Goals as goal
@@ -86,17 +88,24 @@ returns-clause-only g c = λ plan is e.
     let found = returns-clause-found g c in
     plan_one (plan_with c.in-Some.version c.into_vec.result.items c.in_ok-root.root.items) plan found.0 is (sym found.1 ∙ e)
 
-pub returns-in_err-front-clause-header : goal.returns-in_err-front-clause-header
-returns-in_err-front-clause-header g c = λ no. absurd (no c.in-Some.version (_, c.in-Some.ensures))
+pub returns-in_default-clause-early : goal.returns-in_default-clause-early
+returns-in_default-clause-early g c = λ e f few. ap Err (told c.args.text.now c.at.result _ e c.at.ensures (subst (FaultyUnlessMemory (IsPlanFault c.args.text.now)) (sym c.at.ensures) (inl (refl, c.in_default.ensures))) f)
 
-pub returns-in_default-strip-clause-header : goal.returns-in_default-strip-clause-header
-returns-in_default-strip-clause-header g c = λ no. absurd (no c.in-Some.version (_, c.in-Some.ensures))
+pub returns-in_err-front-clause-early : goal.returns-in_err-front-clause-early
+returns-in_err-front-clause-early g c = λ e f few. absurd (not_early c.in-Some.version c.args.text.now c.in-Some.rest.now e c.in-Some.ensures c.in_err-front.ensures.late f few)
 
-pub returns-in_err-root-clause-header : goal.returns-in_err-root-clause-header
-returns-in_err-root-clause-header g c = λ no. absurd (no c.in-Some.version (_, c.in-Some.ensures))
+pub returns-in_default-strip-clause-early : goal.returns-in_default-strip-clause-early
+returns-in_default-strip-clause-early g c = λ e f few. ap Err (told c.args.text.now c.at-in_default-strip.result _ e c.at-in_default-strip.ensures (returns-in_default-strip-clause-fault g c) f)
 
-pub returns-then-not-is_empty-clause-header : goal.returns-then-not-is_empty-clause-header
-returns-then-not-is_empty-clause-header g c = λ no. absurd (no c.in-Some.version (_, c.in-Some.ensures))
+pub returns-in_err-root-clause-early : goal.returns-in_err-root-clause-early
+returns-in_err-root-clause-early g c = λ e f few.
+    let two = root_at c.in-Some.version c.in-Some.rest.now c.in_ok-front.front.rest.now c.in-Some-strip.rest.now c.in_ok-front.front.steps c.in_ok-front.front.number c.in_ok-front.ensures.found c.in-Some-strip.ensures in
+    absurd (not_early c.in-Some.version c.args.text.now c.in-Some.rest.now e c.in-Some.ensures two f few)
 
-pub returns-clause-header : goal.returns-clause-header
-returns-clause-header g c = λ no. absurd (no c.in-Some.version (_, c.in-Some.ensures))
+pub returns-then-not-is_empty-clause-early : goal.returns-then-not-is_empty-clause-early
+returns-then-not-is_empty-clause-early g c = λ e f few. ap Err (told c.args.text.now c.at-then-not-is_empty.result _ e c.at-then-not-is_empty.ensures (returns-then-not-is_empty-clause-fault g c) f)
+
+pub returns-clause-early : goal.returns-clause-early
+returns-clause-early g c = λ e f few.
+    let found = returns-clause-found g c in
+    absurd (no_fault (plan_with c.in-Some.version c.into_vec.result.items c.in_ok-root.root.items) e found.0 (subst (λ (t : List ℕ). IsPlanFault t e) found.1 f))

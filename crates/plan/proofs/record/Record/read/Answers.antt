@@ -1,10 +1,12 @@
-use Rattle.std.proofs.Common.{◌≡◌, ◌++◌, ◌∙◌, List, ℕ, [], ap, sym, subst}
+use Rattle.std.proofs.Common.{◌≡◌, ◌++◌, ◌∙◌, List, ℕ, [], ap, refl, inl, sym, subst, Err}
+use Rattle.plan.specs.Parts.{BeginsWithEntry}
 use Rattle.plan.specs.Record.{IsRecord, names_of, record_header, entries_text, IsEntryFault, IsRecordFault}
+use Rattle.plan.specs.Reading.{FaultyUnlessMemory}
 use Rattle.plan.specs.Values.{StepValue}
 use Rattle.plan.proofs.Beginnings.{handed_on}
 use Rattle.plan.proofs.Directories.{named, AreNamed}
 use Rattle.plan.proofs.Entries.{record_with}
-use Rattle.plan.proofs.Records.{only_handed_record, lifted_record, record_one}
+use Rattle.plan.proofs.Records.{only_handed_record, lifted_record, record_one, early_record, read_without_fault, told_record}
 use Rattle.plan.proofs.StepNames.{step_names}
 use Rattle.plan.proofs.record.Record.read.Goals as goal
 
@@ -31,11 +33,24 @@ returns-clause-only g c = λ r is fits e.
     (c.in_ok-new.ensures {u = tt})
     ∙ record_one (record_with (names_of c.args.plan.now) c.in_ok-digests.digests.items) r found.0 is (sym fits) (sym (c.in-Some.ensures ∙ ap (λ (t : List ℕ). record_header ++ t) found.1) ∙ e)
 
-pub returns-in_err-digests-clause-header : goal.returns-in_err-digests-clause-header
-returns-in_err-digests-clause-header g c = λ no. absurd (no (_, c.in-Some.ensures))
+pub returns-in_default-clause-early : goal.returns-in_default-clause-early
+returns-in_default-clause-early g c = λ e f few. ap Err (told_record (names_of c.args.plan.now) c.args.text.now c.at.result _ e c.at.ensures (subst (FaultyUnlessMemory (IsRecordFault (names_of c.args.plan.now) c.args.text.now)) (sym c.at.ensures) (inl (refl, c.in_default.ensures))) f)
 
-pub returns-in_err-new-clause-header : goal.returns-in_err-new-clause-header
-returns-in_err-new-clause-header g c = λ no. absurd (no (_, c.in-Some.ensures))
+pub returns-in_err-digests-clause-early : goal.returns-in_err-digests-clause-early
+returns-in_err-digests-clause-early g c = λ e f few.
+    early_record (names_of c.args.plan.now) c.args.text.now c.in-Some.rest.now c.from_residual.result c.in_err-digests.field-0.0 e c.in-Some.ensures c.from_residual.ensures.1 (returns-in_err-digests-clause-fault g c)
+    (λ memory. subst (λ (ss : List StepValue). BeginsWithEntry (step_names ss) c.in-Some.rest.now) c.steps.ensures.value (c.in_err-digests.ensures.late (ap Err memory))) f few
 
-pub returns-clause-header : goal.returns-clause-header
-returns-clause-header g c = λ no. absurd (no (_, c.in-Some.ensures))
+pub returns-in_err-new-clause-early : goal.returns-in_err-new-clause-early
+returns-in_err-new-clause-early g c = λ e f few.
+    let found : IsRecord (record_with (names_of c.args.plan.now) c.in_ok-digests.digests.items) × (c.in-Some.rest.now ≡ entries_text (names_of c.args.plan.now) c.in_ok-digests.digests.items) =
+    subst (λ (ss : List StepValue). IsRecord (record_with (step_names ss) c.in_ok-digests.digests.items) × (c.in-Some.rest.now ≡ entries_text (step_names ss) c.in_ok-digests.digests.items)) c.steps.ensures.value c.in_ok-digests.ensures.found
+    in
+    absurd (read_without_fault (names_of c.args.plan.now) c.args.text.now c.in-Some.rest.now c.in_ok-digests.digests.items e c.in-Some.ensures found.0 found.1 f)
+
+pub returns-clause-early : goal.returns-clause-early
+returns-clause-early g c = λ e f few.
+    let found : IsRecord (record_with (names_of c.args.plan.now) c.in_ok-digests.digests.items) × (c.in-Some.rest.now ≡ entries_text (names_of c.args.plan.now) c.in_ok-digests.digests.items) =
+    subst (λ (ss : List StepValue). IsRecord (record_with (step_names ss) c.in_ok-digests.digests.items) × (c.in-Some.rest.now ≡ entries_text (step_names ss) c.in_ok-digests.digests.items)) c.steps.ensures.value c.in_ok-digests.ensures.found
+    in
+    absurd (read_without_fault (names_of c.args.plan.now) c.args.text.now c.in-Some.rest.now c.in_ok-digests.digests.items e c.in-Some.ensures found.0 found.1 f)

@@ -1,5 +1,6 @@
 use Rattle.std.proofs.Common.{refl, subst, sym}
-use Rattle.plan.specs.Targets.{AreTargetsApart, OverlapsAny}
+use Rattle.plan.specs.Faults.{OverlapsAny}
+use Rattle.plan.specs.Targets.{AreTargetsApart}
 use Rattle.plan.proofs.TargetSets.{overlaps_beginning, overlaps_longer, refused, told_none, taken_with, taken_apart}
 use Rattle.plan.proofs.targets.Targets.insert.Goals as goal
 use Rattle.plan.proofs.targets.Targets.insert.Goals.{then-has_beginning-via-then-has_beginning, then-has_beginning-via-else-has_beginning+then-has_longer}

@@ -1,8 +1,8 @@
-use Rattle.std.proofs.Common.{◌≡◌, ◌∙◌, ◌<◌, ap, sym, subst, length, true, false, Some, None, set, arith}
+use Rattle.std.proofs.Common.{◌≡◌, ◌∙◌, ◌<◌, refl, ap, sym, subst, inr, length, true, false, Some, None, set, arith}
 use Rattle.std.specs.Prelude.{slice_get}
 use Rattle.std.proofs.lemmas.Result.{err_from_is_err_and}
 use Rattle.runs.specs.Engine.{EngineValue, TakesOutcome, at_number}
-use Rattle.runs.specs.Calls.{IsFinished, Disagrees}
+use Rattle.runs.specs.Calls.{IsFinished, Disagrees, IsCompared}
 use Rattle.runs.specs.Ties.{IsFinish, IsForeign}
 use Rattle.verifier.proofs.FreshRuns.{one_answer}
 use Rattle.runs.proofs.Places.{element_at, taken_within}
@@ -29,7 +29,12 @@ pub returns-in_err-disagrees-clause-refused : goal.returns-in_err-disagrees-clau
 returns-in_err-disagrees-clause-refused g c =
     let at : at_number c.self.inside.jobs.items c.args.id ≡ Some (record { step = c.job.inside.step; action = c.job.inside.action; input = c.job.inside.input }) = ap (λ js. at_number js c.args.id) (sym c.deref.ensures.value) ∙ sym (c.in-Some.ensures {u = tt}) ∙ ap Some (sym c.job.view_is) in
     let p = err_from_is_err_and c.from_residual-in_err-disagrees.result c.from_residual-in_err-disagrees.ensures.1 in
-    rw (p.1, p.2, ← c.self.view_is) (record { step = c.job.inside.step; action = c.job.inside.action; input = c.job.inside.input }, at, (c.in_ok-check_outcome.ensures {u = tt}).taken.exit_code)
+    rw (p.1, p.2, ← c.self.view_is) (
+      record { step = c.job.inside.step; action = c.job.inside.action; input = c.job.inside.input },
+      at,
+      (c.in_ok-check_outcome.ensures {u = tt}).taken.exit_code,
+      inr (subst (λ fs. IsCompared fs c.job.inside.step c.job.inside.action) c.deref-2.ensures.value ((c.in_err-disagrees.ensures {u = tt}).memory refl)),
+    )
 
 pub returns-then-branch-clause-refused : goal.returns-then-branch-clause-refused
 returns-then-branch-clause-refused g c =
@@ -40,7 +45,7 @@ returns-then-branch-clause-refused g c =
       record { step = c.job.inside.step; action = c.job.inside.action; input = c.job.inside.input },
       at,
       λ other h. subst (λ d. TakesOutcome d c.args.outcome) (one_answer (slice_get c.self.inside.commands.items c.job.inside.step) c.index.result.now other command h) (c.in_ok-check_outcome.ensures {u = tt}).taken,
-      subst (λ fs. Disagrees fs c.job.inside.step c.job.inside.action c.args.outcome) c.deref-2.ensures.value ((c.in_ok-disagrees.ensures {u = tt}).0 c.if-branch.true),
+      subst (λ fs. Disagrees fs c.job.inside.step c.job.inside.action c.args.outcome) c.deref-2.ensures.value ((c.in_ok-disagrees.ensures {u = tt}).told.0 c.if-branch.true),
     )
 
 pub returns-then-branch-clause-foreign : goal.returns-then-branch-clause-foreign
@@ -48,7 +53,7 @@ returns-then-branch-clause-foreign g c = λ _.
     let at : at_number c.self.inside.jobs.items c.args.id ≡ Some (record { step = c.job.inside.step; action = c.job.inside.action; input = c.job.inside.input }) = ap (λ js. at_number js c.args.id) (sym c.deref.ensures.value) ∙ sym (c.in-Some.ensures {u = tt}) ∙ ap Some (sym c.job.view_is) in
     subst (λ e. IsForeign e c.args.id c.args.outcome) c.self.view_is
     (foreign_outcome (record { plan = c.self.inside.plan.now; sources = c.self.inside.sources; frames = c.self.inside.frames.items; commands = c.self.inside.commands.items; finished = c.self.inside.finished.items; jobs = c.self.inside.jobs.items }) c.args.id (record { step = c.job.inside.step; action = c.job.inside.action; input = c.job.inside.input }) c.args.outcome c.self.invariant at (c.in_ok-check_outcome.ensures {u = tt}).taken.valid
-    (subst (λ fs. Disagrees fs c.job.inside.step c.job.inside.action c.args.outcome) c.deref-2.ensures.value ((c.in_ok-disagrees.ensures {u = tt}).0 c.if-branch.true)))
+    (subst (λ fs. Disagrees fs c.job.inside.step c.job.inside.action c.args.outcome) c.deref-2.ensures.value ((c.in_ok-disagrees.ensures {u = tt}).told.0 c.if-branch.true)))
 
 pub keep_first-requires : goal.keep_first-requires
 keep_first-requires g c =
@@ -78,7 +83,7 @@ returns-clause-finished g c =
       job = record { step = c.job.inside.step; action = c.job.inside.action; input = c.job.inside.input };
       is = at;
       taken = λ other h. subst (λ d. TakesOutcome d c.args.outcome) (one_answer (slice_get c.self.inside.commands.items c.job.inside.step) c.index.result.now other command h) (c.in_ok-check_outcome.ensures {u = tt}).taken;
-      agrees = λ h. let t = (c.in_ok-disagrees.ensures {u = tt}).1 (subst (λ fs. Disagrees fs c.job.inside.step c.job.inside.action c.args.outcome) (sym c.deref-2.ensures.value) h) in let f = c.if-branch.false in (let both : true ≡ false = sym t ∙ f in cc);
+      agrees = λ h. let t = (c.in_ok-disagrees.ensures {u = tt}).told.1 (subst (λ fs. Disagrees fs c.job.inside.step c.job.inside.action c.args.outcome) (sym c.deref-2.ensures.value) h) in let f = c.if-branch.false in (let both : true ≡ false = sym t ∙ f in cc);
       after = λ i. record { plan = c.self.inside.plan.now; sources = c.self.inside.sources; frames = c.self.inside.frames.items; commands = c.self.inside.commands.items; finished = c.keep_first.ensures i; jobs = set c.self.inside.jobs.items c.args.id None };
     })
 

@@ -1,23 +1,18 @@
-use Rattle.std.proofs.Common.{◌≡◌, ℕ, [], Bool, true, false, Option, Some, None, refl, sym, ◌∙◌, ap}
-use Rattle.std.specs.Prelude.{is_some}
-use Rattle.cache_server.specs.Answer.{AnswerValue}
-use Rattle.service.specs.Member.{MemberValue, end_of, unsent_of}
-use Rattle.service.proofs.Talking.{lingers_moves}
+use Rattle.std.proofs.Common.{◌≡◌, [], ◌∙◌, ap, arith, drop, length}
+use Rattle.std.proofs.lemmas.List.{length-drop}
+use Rattle.service.specs.Member.{MemberValue, end_of}
+use Rattle.service.proofs.Talking.{lingers_moves, not_both}
 use Rattle.service.proofs.member.Member.step.Goals as goal
-
--- no answer is at hand
-none_unsent : (answer : Option AnswerValue) (sent : ℕ) → is_some answer ≡ false → unsent_of answer sent ≡ []
-none_unsent None sent e = refl
-none_unsent (Some a) sent e = cc
-
-not_both : (b : Bool) → b ≡ false → b ≡ true → ⊥
-not_both b e f = let g : false ≡ true = sym e ∙ f in cc
 
 pub returns-then-not-is_open-clause-moves : goal.returns-then-not-is_open-clause-moves
 returns-then-not-is_open-clause-moves g c =
-    let unsent : c.args.self.now.unsent ≡ [] =
-    sym (ap (λ (z : MemberValue g.row.S.Denot). z.unsent) c.self.view_is)
-    ∙ none_unsent c.self.inside.answer c.self.inside.sent (sym c.is_some.ensures ∙ c.if-is_some.false) in
     lingers_moves g.S.Peer.spoke g.S.Peer.over (end_of c.linger.result) c.args.number c.args.server.now c.args.self.now c.linger.new.self
     c.linger.ensures.end (λ o. not_both c.is_open.result c.if-not-is_open.true (c.is_open.ensures.1 o))
-    c.linger.ensures.stays c.linger.ensures.left c.linger.ensures.unsent unsent
+    c.linger.ensures.stays c.linger.ensures.left c.linger.ensures.unsent (c.is_sent.ensures.0 c.if-not-is_sent.false)
+
+pub returns-then-self-len-clause-share : goal.returns-then-self-len-clause-share
+returns-then-self-len-clause-share g c none few =
+    let left : drop c.self.inside.at c.self.inside.input.items ≡ [] = ap (λ (z : MemberValue g.row.S.Denot). z.left) c.self.view_is ∙ none in
+    let long = ap length left in
+    let size = length-drop c.self.inside.at c.self.inside.input.items in
+    absurd (omega (arith, long, size, c.if-self-len.true))

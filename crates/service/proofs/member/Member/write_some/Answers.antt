@@ -39,16 +39,16 @@ head_case s answer o head next items unsent v is p n i h count c =
 pub returns-then-self-head-clause-sent : goal.returns-then-self-head-clause-sent
 returns-then-self-head-clause-sent g c =
     let view : unsent_of c.self.inside.answer c.self.inside.sent ≡ c.args.self.now.unsent = ap (λ (z : MemberValue g.row.S.Denot). z.unsent) c.self.view_is in
-    let stream : c.self.inside.stream ≡ c.args.self.now.stream = ap (λ (z : MemberValue g.row.S.Denot). z.stream) c.self.view_is in
-    sent_front g.S.Peer.spoke c.self.inside.stream c.args.self.now.stream c.write.new.self c.write.result c.next_of.result.now c.args.self.now.unsent stream
+    let stream : c.self.inside.stream.stream ≡ c.args.self.now.stream = ap (λ (z : MemberValue g.row.S.Denot). z.stream) c.self.view_is in
+    sent_front g.S.Peer.spoke c.self.inside.stream.stream c.args.self.now.stream c.write.new.self.stream c.write.result c.next_of.result.now c.args.self.now.unsent stream
     (body_case c.self.inside.sent c.in-Some.answer c.self.inside.answer c.head-head.result.now c.body.result.now c.next_of.result.now c.args.self.now.unsent view c.in-Some.is c.head-head.ensures c.body.ensures c.next_of.ensures c.if-self-head.true)
     c.write.ensures.bound c.write.ensures.sent
 
 pub returns-clause-sent : goal.returns-clause-sent
 returns-clause-sent g c =
     let view : unsent_of c.self.inside.answer c.self.inside.sent ≡ c.args.self.now.unsent = ap (λ (z : MemberValue g.row.S.Denot). z.unsent) c.self.view_is in
-    let stream : c.self.inside.stream ≡ c.args.self.now.stream = ap (λ (z : MemberValue g.row.S.Denot). z.stream) c.self.view_is in
-    sent_front g.S.Peer.spoke c.self.inside.stream c.args.self.now.stream c.write-2.new.self c.write-2.result c.as_slice.result.now c.args.self.now.unsent stream
+    let stream : c.self.inside.stream.stream ≡ c.args.self.now.stream = ap (λ (z : MemberValue g.row.S.Denot). z.stream) c.self.view_is in
+    sent_front g.S.Peer.spoke c.self.inside.stream.stream c.args.self.now.stream c.write-2.new.self.stream c.write-2.result c.as_slice.result.now c.args.self.now.unsent stream
     (head_case c.self.inside.sent c.in-Some.answer c.self.inside.answer c.head-head.result.now c.as_slice.result.now c.gather.new.gathered.items c.args.self.now.unsent view c.in-Some.is c.head-head.ensures c.as_slice.ensures.value c.in_ok-gather.ensures c.if-self-head.false)
     c.write-2.ensures.bound c.write-2.ensures.sent
 

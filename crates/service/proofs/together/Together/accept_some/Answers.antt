@@ -1,4 +1,5 @@
 use Rattle.std.specs.Prelude.{false}
+use Rattle.std.proofs.Common.{rules}
 use Rattle.service.proofs.Keeping.{keeps_further}
 use Rattle.service.proofs.Places.{placed_further}
 use Rattle.service.proofs.together.Together.accept_some.Goals as goal
@@ -19,4 +20,5 @@ loop-preserved g c = record {
       (c.loop.invariant.keeps server) (c.accept_one.ensures.keeps server);
   places = placed_further c.loop.invariant.places c.accept_one.ensures.places;
   within = c.accept_one.ensures.within;
+  again = λ was. c.accept_one.ensures.again (search rules);
 }

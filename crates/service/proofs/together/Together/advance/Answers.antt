@@ -10,5 +10,5 @@ returns-clause-some g c = record {
   at = search rules;
   others = λ j n. search rules;
   many = search rules;
-  moves = subst (λ (z : MemberValue g.row.S.Denot). MovesOn (end_of c.turn-turn.result) g.S.Peer.spoke g.S.Peer.over c.args.number c.args.server.now z c.turn-turn.new.server c.turn-turn.new.self) c.queue.ensures c.turn-turn.ensures;
+  moves = subst (λ (z : MemberValue g.row.S.Denot). MovesOn (end_of c.turn-turn.result) g.S.Peer.spoke g.S.Peer.over c.args.number c.args.server.now z c.turn-turn.new.server c.turn-turn.new.self) c.queue.ensures c.turn-turn.ensures.moves;
 }

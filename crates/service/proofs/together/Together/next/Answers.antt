@@ -1,10 +1,8 @@
-use Rattle.std.proofs.Common.{◌≡◌, Bool, true, false, sym, ◌∙◌, subst}
+use Rattle.std.proofs.Common.{◌∙◌, subst}
 use Rattle.service.specs.Turns.{FailsAfter}
 use Rattle.service.proofs.Failing.{fails_on}
+use Rattle.service.proofs.Talking.{not_both}
 use Rattle.service.proofs.together.Together.next.Goals as goal
-
-not_both : (b : Bool) → b ≡ false → b ≡ true → ⊥
-not_both b e f = let g : false ≡ true = sym e ∙ f in cc
 
 pub loop-failed-preserved : goal.loop-failed-preserved
 loop-failed-preserved g c = record {
@@ -12,6 +10,7 @@ loop-failed-preserved g c = record {
       (c.in-Err.ensures.fails (λ e. not_both c.finds_none.result c.if-finds_none.false (c.finds_none.ensures.1 e)));
   places = λ free h. c.in-Err.ensures.keeps free (c.loop-failed.invariant.places free h);
   same = c.loop-failed.invariant.same;
+  waits = c.loop-failed.invariant.waits;
 }
 
 pub returns-then-tried-eq-TRIES-clause-fails : goal.returns-then-tried-eq-TRIES-clause-fails
@@ -22,3 +21,12 @@ returns-then-tried-eq-TRIES-clause-fails g c = record {
       (c.in-Err.ensures.fails (λ e. not_both c.finds_none.result c.if-finds_none.false (c.finds_none.ensures.1 e))));
   last = c.in-Err.ensures.last;
 }
+
+pub returns-in-Ok-clause-again : goal.returns-in-Ok-clause-again
+returns-in-Ok-clause-again g c was shut = absurd (not_both c.loop-failed.self.waits shut (c.loop-failed.invariant.waits ∙ was))
+
+pub returns-then-tried-eq-TRIES-clause-again : goal.returns-then-tried-eq-TRIES-clause-again
+returns-then-tried-eq-TRIES-clause-again g c was shut = absurd (not_both c.loop-failed.self.waits shut (c.loop-failed.invariant.waits ∙ was))
+
+pub returns-clause-again : goal.returns-clause-again
+returns-clause-again g c was shut = absurd (not_both c.loop-failed.self.waits shut (c.loop-failed.invariant.waits ∙ was))

@@ -1,10 +1,12 @@
 use Rattle.std.specs.Prelude.{false}
-use Rattle.std.proofs.Common.{ℕ}
+use Rattle.std.proofs.Common.{◌≡◌, ℕ, ◌+◌, length}
 use Rattle.service.specs.Together.{GoesOnTogether, LeavesPlaced}
 use Rattle.service.proofs.together.Together.sweep.Given as goal
 
-abbrev pub invariant-loop-number : goal.invariant-loop-number
-invariant-loop-number g l = record {
+abbrev pub invariant-loop : goal.invariant-loop
+invariant-loop g l = record {
   keeps : (accepted : ℕ) → GoesOnTogether false g.S.Peer.spoke g.N.Sockets.ended g.N.Sockets.lost l.fn.self.members.entries accepted l.fn.server l.self.members.entries accepted l.server;
   places : LeavesPlaced g.N.Sockets.places (l.fn.sockets, l.fn.self.members.entries) (l.sockets, l.self.members.entries);
+  idle : l.self.idle ≡ l.fn.self.idle;
+  fewer : l.counter + length l.self.members.entries ≡ length l.fn.self.members.entries;
 }

@@ -11,7 +11,7 @@ returns-in-Again-clause-keeps g c accepted =
     accepted accepted accepted c.args.server.now c.advance.new.server c.advance.new.server
     (keeps_moved false g.S.Peer.spoke g.N.Sockets.ended g.N.Sockets.lost g.S.Peer.over c.args.self.now.members.entries c.advance.new.self.members.entries accepted c.args.server.now c.advance.new.server c.args.number
     (subst (λ t. MovesOnAt (end_of t) g.S.Peer.spoke g.S.Peer.over c.args.number c.args.server.now c.args.self.now.members.entries c.advance.new.server c.advance.new.self.members.entries) c.in-Again.is c.in-Some.ensures.some))
-    (keeps_same false g.S.Peer.spoke g.N.Sockets.ended g.N.Sockets.lost c.advance.new.self.members.entries c.queue.new.self.members.entries accepted c.advance.new.server c.queue.ensures)
+    (keeps_same false g.S.Peer.spoke g.N.Sockets.ended g.N.Sockets.lost c.advance.new.self.members.entries c.queue.new.self.members.entries accepted c.advance.new.server c.queue.ensures.same)
 
 pub returns-then-is_err-clause-keeps : goal.returns-then-is_err-clause-keeps
 returns-then-is_err-clause-keeps g c accepted =
@@ -31,7 +31,7 @@ pub returns-in-Again-clause-places : goal.returns-in-Again-clause-places
 returns-in-Again-clause-places g c all accepted =
     placed_further
     (placed_moved _ g.S.Peer.spoke g.S.Peer.over c.args.number c.args.server.now c.advance.new.server c.args.sockets.now c.args.self.now.members.entries c.advance.new.self.members.entries accepted c.in-Some.ensures.some)
-    (placed_still c.args.sockets.now c.advance.new.self.members.entries c.queue.new.self.members.entries accepted c.queue.ensures)
+    (placed_still c.args.sockets.now c.advance.new.self.members.entries c.queue.new.self.members.entries accepted c.queue.ensures.same)
 
 pub returns-then-is_err-clause-places : goal.returns-then-is_err-clause-places
 returns-then-is_err-clause-places g c all accepted =

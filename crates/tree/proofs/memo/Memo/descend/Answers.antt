@@ -1,11 +1,14 @@
 -- The loop goes on at the child that was found; a fault on the way ends the look-up.
 use Rattle.std.proofs.Common.{sym, ◌∙◌}
-use Rattle.std.specs.Prelude.{Some, None}
+use Rattle.std.specs.Prelude.{Option, Some, None}
+use Rattle.messages.specs.declared.node.Node.{Node}
 use Rattle.std.proofs.lemmas.Result.{err_from_is_err_and}
 use Rattle.blob_source.proofs.Asking.{asks_more, asks_then, ok_no_error}
 use Rattle.blob_source.proofs.Calling.{called_exit, called_no, calls_on}
 use Rattle.tree.proofs.Descent.{goes_dir, goes_child, goes_nowhere, goes_wrong}
-use Rattle.tree.proofs.Learning.{learns_then, learns_refused, refused_exit}
+use Rattle.blob_source.specs.Told.{FailsDirectory}
+use Rattle.tree.specs.TreeError.{IsCutShort}
+use Rattle.tree.proofs.Learning.{learns_then, learns_refused, cut_by}
 use Rattle.tree.proofs.Ways.{way_dir, way_still, way_here, way_child}
 use Rattle.tree.proofs.memo.Memo.descend.Goals as goal
 
@@ -24,12 +27,14 @@ returns-in_err-next-clause-called g c =
 
 pub returns-in_err-next-clause-learned : goal.returns-in_err-next-clause-learned
 returns-in_err-next-clause-learned g c =
+    let p = err_from_is_err_and c.from_residual.result c.from_residual.ensures.1 in
+    let cut : IsCutShort c.from_residual.result = rw (p.1, p.2) (cut_by (Option (Node g.row.A.Denot)) (FailsDirectory (g.S.BlobSource.tells c.child.new.source).blobs c.in-Dir.digest) _ c.in_err-next.ensures.faulty) in
     let tells = g.S.BlobSource.tells in
     let grows = c.child.ensures.called.asked.some.blobs in
     let way = way_dir _ c.args.root.now c.in-Dir.digest c.args.names.now _ c.loop-name.node c.in-Dir.is c.loop-name.invariant.way in
     learns_then {t1 = tells c.loop-name.source} (λ a. way_still _ _ c.args.root.now c.args.names.now a grows)
     (way_here _ _ c.args.root.now c.in-Dir.digest c.args.names.now c.loop-name.name-index c.loop-name-test.true way grows) (λ n. n) c.loop-name.invariant.learned
-    (learns_refused (λ a h. h) (refused_exit _ _ c.from_residual.ensures.1) c.child.ensures.learned)
+    (learns_refused (λ a h. h) cut c.child.ensures.learned)
 
 pub returns-in-None-clause-found : goal.returns-in-None-clause-found
 returns-in-None-clause-found g c =

@@ -5,12 +5,12 @@ use Rattle.http_core.specs.declared.event.Area.TheVariants.{Ac, Cas}
 use Rattle.remote.specs.Remote.{blobs_of, connection_of}
 use Rattle.remote.specs.Table.{told_by}
 use Rattle.commands.specs.Faults.{kept_failure}
-use Rattle.commands.specs.Places.{CameAllOver, KeepsRefused}
+use Rattle.commands.specs.Places.{CameAllOver, KeepsRefused, puts_too}
 use Rattle.commands.specs.declared.failure.Method.TheVariants.{PutBlob}
 use Rattle.commands.proofs.Failures.{keeps_after}
 use Rattle.commands.proofs.Taken.{taken_by_put}
 use Rattle.commands.proofs.Tellings.{LacksAllOver, blob_there, came_by_put, comes_by_put, lacks_by_put}
-use Rattle.commands.proofs.client.ClientBlobSinkGlobal.put_blob.Goals as goal
+use Rattle.commands.proofs.client.ClientPutsTooBlobSinkGlobal.put_blob.Goals as goal
 
 pub invariant_of-self : goal.invariant_of-self
 invariant_of-self g c =
@@ -28,16 +28,16 @@ invariant_of-self g c =
         came = comes_by_put start Cas d.hash bytes (connection_of flow old) (connection_of flow new) c.put_blob-put.result put.stored.taken put.stored.refused over.came;
         blobs = came_by_put start Cas d bytes (connection_of flow old) (connection_of flow new) (blobs_of old) (blobs_of new) c.put_blob-put.result put.stored over.came
             put.called.asked.blobs over.blobs;
-        results = subst (λ t. CameAllOver start Ac (told_by t)) (sym put.untouched) over.results;
+        results = subst (λ t. CameAllOver puts_too start Ac (told_by t)) (sym put.untouched) over.results;
       });
       lacked = ∥∥₁_map c.args.self.now.lacked (λ lacked. record {
-        blobs = lacks_by_put start Cas d bytes (connection_of flow old) (connection_of flow new) (blobs_of old) (blobs_of new) c.put_blob-put.result put.stored
+        blobs = lacks_by_put puts_too start Cas d bytes (connection_of flow old) (connection_of flow new) (blobs_of old) (blobs_of new) c.put_blob-put.result put.stored
             (blob_there bytes (told_by (blobs_of old)) (told_by (blobs_of new)) c.put_blob-put.result put.held) lacked.blobs;
-        results = subst (LacksAllOver start Ac) (sym put.untouched) lacked.results;
+        results = subst (LacksAllOver puts_too start Ac) (sym put.untouched) lacked.results;
       });
-      refused = subst (λ f. ∥ KeepsRefused start (connection_of flow new) f ∥₁) (sym kept)
-          (∥∥₁_map₂ c.args.self.now.over c.args.self.now.refused (λ over before. keeps_after start (connection_of flow old) (connection_of flow new)
-          c.args.self.now.failure PutBlob d bytes c.put_blob-put.result c.last_fault-fault.result put.stored.refused put.called.unfailed (sym c.last_fault-fault.ensures) refl over.came before));
+      refused = subst (λ f. ∥ KeepsRefused puts_too start (connection_of flow new) f ∥₁) (sym kept)
+          (∥∥₁_map₂ c.args.self.now.over c.args.self.now.refused (λ over before. keeps_after puts_too start (connection_of flow old) (connection_of flow new)
+          c.args.self.now.failure PutBlob d bytes c.put_blob-put.result c.last_fault-fault.result put.stored.refused put.called.unfailed (sym c.last_fault-fault.ensures) refl tt over.came before));
     }
 
 pub returns-clause-taken : goal.returns-clause-taken

@@ -6,13 +6,13 @@ use Rattle.remote.specs.Line.{RefusesRequest, put}
 use Rattle.remote.specs.Remote.{connection_of}
 use Rattle.remote.specs.Table.{told_by}
 use Rattle.commands.specs.Faults.{TellsFailure, kept_failure}
-use Rattle.commands.specs.Places.{CameAllOver, KeepsRefused}
+use Rattle.commands.specs.Places.{CameAllOver, KeepsRefused, puts_too}
 use Rattle.commands.specs.declared.failure.Method.TheVariants.{PutBlob}
 use Rattle.commands.specs.Put.{TakesBlob}
 use Rattle.commands.proofs.Failures.{blob_refused, keeps_after}
 use Rattle.commands.proofs.Taken.{taken_by_put}
 use Rattle.commands.proofs.Tellings.{LacksAllOver, comes_by_put}
-use Rattle.commands.proofs.client.Client.put.Goals as goal
+use Rattle.commands.proofs.client.Client+S+K+PutsToo.put.Goals as goal
 
 -- what is told stays, and the connection comes on
 pub invariant_of-self : goal.invariant_of-self
@@ -28,16 +28,16 @@ invariant_of-self g c =
     record {
       over = ∥∥₁_map c.args.self.now.over (λ over. record {
         came = comes_by_put start Cas (digest_of bytes).hash bytes old new c.send_blob-put.result sent.taken sent.refused over.came;
-        blobs = subst (λ t. CameAllOver start Cas (told_by t)) (sym sent.blobs) over.blobs;
-        results = subst (λ t. CameAllOver start Ac (told_by t)) (sym sent.results) over.results;
+        blobs = subst (λ t. CameAllOver puts_too start Cas (told_by t)) (sym sent.blobs) over.blobs;
+        results = subst (λ t. CameAllOver puts_too start Ac (told_by t)) (sym sent.results) over.results;
       });
       lacked = ∥∥₁_map c.args.self.now.lacked (λ lacked. record {
-        blobs = subst (LacksAllOver start Cas) (sym sent.blobs) lacked.blobs;
-        results = subst (LacksAllOver start Ac) (sym sent.results) lacked.results;
+        blobs = subst (LacksAllOver puts_too start Cas) (sym sent.blobs) lacked.blobs;
+        results = subst (LacksAllOver puts_too start Ac) (sym sent.results) lacked.results;
       });
-      refused = subst (λ f. ∥ KeepsRefused start new f ∥₁) (sym kept)
-          (∥∥₁_map₂ c.args.self.now.over c.args.self.now.refused (λ over before. keeps_after start old new c.args.self.now.failure PutBlob (digest_of bytes) bytes
-          c.send_blob-put.result c.last_fault-fault.result sent.refused sent.called.unfailed (sym c.last_fault-fault.ensures) refl over.came before));
+      refused = subst (λ f. ∥ KeepsRefused puts_too start new f ∥₁) (sym kept)
+          (∥∥₁_map₂ c.args.self.now.over c.args.self.now.refused (λ over before. keeps_after puts_too start old new c.args.self.now.failure PutBlob (digest_of bytes) bytes
+          c.send_blob-put.result c.last_fault-fault.result sent.refused sent.called.unfailed (sym c.last_fault-fault.ensures) refl tt over.came before));
     }
 
 pub returns-in-Ok-clause-taken : goal.returns-in-Ok-clause-taken

@@ -3,11 +3,11 @@ use Rattle.std.proofs.Math.Logic.{∥∥₁_map, ∥∥₁_map₂}
 use Rattle.http_core.specs.declared.event.Area.TheVariants.{Ac, Cas}
 use Rattle.remote.specs.Remote.{connection_of, results_of}
 use Rattle.remote.specs.Table.{told_by}
-use Rattle.commands.specs.Places.{CameAllOver, KeepsRefused}
+use Rattle.commands.specs.Places.{CameAllOver, KeepsRefused, puts_too}
 use Rattle.commands.specs.declared.failure.Method.TheVariants.{PutResult}
 use Rattle.commands.proofs.Failures.{keeps_after}
 use Rattle.commands.proofs.Tellings.{LacksAllOver, came_by_put, comes_by_put, lacks_by_put, result_there}
-use Rattle.commands.proofs.client.ClientBlobSinkGlobal.put_result.Goals as goal
+use Rattle.commands.proofs.client.ClientPutsTooBlobSinkGlobal.put_result.Goals as goal
 
 pub invariant_of-self : goal.invariant_of-self
 invariant_of-self g c =
@@ -24,14 +24,14 @@ invariant_of-self g c =
         came = comes_by_put start Ac d.hash bytes (connection_of flow old) (connection_of flow new) c.put_result-put.result put.stored.taken put.stored.refused over.came;
         results = came_by_put start Ac d bytes (connection_of flow old) (connection_of flow new) (results_of old) (results_of new) c.put_result-put.result put.stored over.came
             put.called.asked.results over.results;
-        blobs = subst (λ t. CameAllOver start Cas (told_by t)) (sym put.untouched) over.blobs;
+        blobs = subst (λ t. CameAllOver puts_too start Cas (told_by t)) (sym put.untouched) over.blobs;
       });
       lacked = ∥∥₁_map c.args.self.now.lacked (λ lacked. record {
-        results = lacks_by_put start Ac d bytes (connection_of flow old) (connection_of flow new) (results_of old) (results_of new) c.put_result-put.result put.stored
+        results = lacks_by_put puts_too start Ac d bytes (connection_of flow old) (connection_of flow new) (results_of old) (results_of new) c.put_result-put.result put.stored
             (result_there d bytes (told_by (results_of new)) c.put_result-put.result put.held) lacked.results;
-        blobs = subst (LacksAllOver start Cas) (sym put.untouched) lacked.blobs;
+        blobs = subst (LacksAllOver puts_too start Cas) (sym put.untouched) lacked.blobs;
       });
-      refused = subst (λ f. ∥ KeepsRefused start (connection_of flow new) f ∥₁) (sym kept)
-          (∥∥₁_map₂ c.args.self.now.over c.args.self.now.refused (λ over before. keeps_after start (connection_of flow old) (connection_of flow new)
-          c.args.self.now.failure PutResult d bytes c.put_result-put.result c.last_fault-fault.result put.stored.refused put.called.unfailed (sym c.last_fault-fault.ensures) tt over.came before));
+      refused = subst (λ f. ∥ KeepsRefused puts_too start (connection_of flow new) f ∥₁) (sym kept)
+          (∥∥₁_map₂ c.args.self.now.over c.args.self.now.refused (λ over before. keeps_after puts_too start (connection_of flow old) (connection_of flow new)
+          c.args.self.now.failure PutResult d bytes c.put_result-put.result c.last_fault-fault.result put.stored.refused put.called.unfailed (sym c.last_fault-fault.ensures) tt tt over.came before));
     }

@@ -1,0 +1,95 @@
+-- When connections will have been silent for too long, and what they hold.
+use Rattle.std.proofs.Common.{◌≡◌, ℕ, ◌+◌, ◌<◌, ◌≤◌, ◌⊎◌, inl, inr, Bool, true, false, Option, Some, None, List, [], ◌∷◌, refl, sym, ◌∙◌, ap, subst, arith}
+use Rattle.std.proofs.lemmas.Bool.{cases_lt}
+use Rattle.std.specs.Prelude.{min, ◌&&◌, if◌then◌else◌, IsTrue, length}
+use Rattle.std.specs.Option.{unwrap_or}
+use Rattle.cache_server.specs.Answer.{AnswerValue}
+use Rattle.service.specs.Member.{MemberValue, HoldsAlone, IsDeadline, deadline_at, deadline_of, own_size, pressed_limit}
+use Rattle.service.specs.Together.{HoldAlone, first_deadline}
+use Rattle.service.specs.declared.lingering.Lingering.{Lingering}
+
+-- the time, or where there is none the last of all
+abbrev pub or_never : Option ℕ → ℕ
+or_never time = unwrap_or time 18446744073709551615
+
+pressed_sooner : (lingering : Option Lingering) (held : Bool) (moved : ℕ) (idle : Option ℕ) → or_never (deadline_of lingering held moved (Some (pressed_limit idle))) ≤ or_never (deadline_of lingering held moved idle)
+pressed_sooner (Some it) held moved idle = omega arith
+pressed_sooner None true moved idle = omega arith
+pressed_sooner None false moved None = omega arith
+pressed_sooner None false moved (Some time) = omega arith
+
+no_later : {S : Type 0} (m : MemberValue S) (idle : Option ℕ) (pressed : Bool) (r : Option ℕ) → IsDeadline m idle pressed r → or_never r ≤ or_never (deadline_at m idle)
+no_later m idle pressed r (inl e) = let same : or_never r ≡ or_never (deadline_at m idle) = ap or_never e in omega (arith, same)
+no_later m idle pressed r (inr (p, heavy, e)) =
+    let same : or_never r ≡ or_never (deadline_at m (Some (pressed_limit idle))) = ap or_never e in
+    let less : or_never (deadline_at m (Some (pressed_limit idle))) ≤ or_never (deadline_at m idle) = pressed_sooner m.lingering m.held m.moved idle in omega (arith, same, less)
+
+pub first_below : {S : Type 0} (idle : Option ℕ) (members : List (ℕ × MemberValue S)) → first_deadline idle members ≤ 18446744073709551615
+first_below idle [] = omega arith
+first_below idle (m ∷ members) = let h : first_deadline idle members ≤ 18446744073709551615 = first_below idle members in omega (arith, h)
+
+-- one more was looked at
+pub wakes_sooner : {S : Type 0} (idle : Option ℕ) (pressed : Bool) (wake bound : ℕ) (left rest : List (ℕ × MemberValue S)) (entry : ℕ × MemberValue S) (r : Option ℕ) → left ≡ entry ∷ rest
+    → IsDeadline entry.1 idle pressed r → min wake (first_deadline idle left) ≤ bound → min (min wake (or_never r)) (first_deadline idle rest) ≤ bound
+wakes_sooner idle pressed wake bound left rest entry r e is h =
+    let first : first_deadline idle left ≡ first_deadline idle (entry ∷ rest) = ap (first_deadline idle) e in
+    let n : or_never r ≤ or_never (deadline_at entry.1 idle) = no_later entry.1 idle pressed r is in omega (arith, n, h, first)
+
+pub wakes_calm : {S : Type 0} (idle : Option ℕ) (pressed : Bool) (wake bound : ℕ) (left rest : List (ℕ × MemberValue S)) (entry : ℕ × MemberValue S) (r : Option ℕ) → left ≡ entry ∷ rest
+    → IsDeadline entry.1 idle pressed r → pressed ≡ false → min wake (first_deadline idle left) ≡ bound → min (min wake (or_never r)) (first_deadline idle rest) ≡ bound
+wakes_calm idle pressed wake bound left rest entry r e (inl is) calm h =
+    let first : first_deadline idle left ≡ first_deadline idle (entry ∷ rest) = ap (first_deadline idle) e in
+    let same : or_never r ≡ or_never (deadline_at entry.1 idle) = ap or_never is in omega (arith, same, h, first)
+wakes_calm idle pressed wake bound left rest entry r e (inr (p, heavy, is)) calm h = let not : false ≡ true = sym calm ∙ p in absurd cc
+
+-- all of them are to be looked at
+pub wakes_first : {S : Type 0} (idle : Option ℕ) (members left : List (ℕ × MemberValue S)) → left ≡ members → min 18446744073709551615 (first_deadline idle left) ≡ first_deadline idle members
+wakes_first idle members left e = let b : first_deadline idle members ≤ 18446744073709551615 = first_below idle members in
+    subst (λ ms. min 18446744073709551615 (first_deadline idle ms) ≡ first_deadline idle members) (sym e) (omega (arith, b))
+
+pub wakes_later : (now wake deadline least : ℕ) → least ≡ min wake deadline → (now < wake) ⊎ (wake ≡ 18446744073709551615) → now < deadline → (now < least) ⊎ (least ≡ 18446744073709551615)
+wakes_later now wake deadline least m (inl h) d = inl (omega (arith, m, h, d))
+wakes_later now wake deadline least m (inr e) d = by (cases_lt now 18446744073709551615)
+  where
+    by : (now < 18446744073709551615) ⊎ (18446744073709551615 ≤ now) → (now < least) ⊎ (least ≡ 18446744073709551615)
+    by (inl h) = inl (omega (arith, m, h, e, d))
+    by (inr h) = inr (omega (arith, m, h, e, d))
+
+-- ---- what nobody else holds
+
+-- of those that were looked at so much, of which a machine word counts so much
+abbrev pub HoldSo : {S : Type 0} → List (ℕ × MemberValue S) → List (ℕ × MemberValue S) → ℕ → Type 0
+HoldSo members left sum = (own : ℕ) × (sum ≡ min own 18446744073709551615) × ((others : ℕ) → HoldAlone left others → HoldAlone members (own + others))
+
+-- of an answer that isn't alone nobody owns a byte
+pub shared_owns_none : (o : Option AnswerValue) (answer : AnswerValue) (alone : Bool) → o ≡ Some answer → (answer.shared ≡ false → IsTrue alone) → alone ≡ false → own_size o ≡ 0
+shared_owns_none o answer alone is told not = ap own_size is ∙ by answer.shared told
+  where
+    by : (shared : Bool) → (shared ≡ false → IsTrue alone) → (if shared then 0 else length answer.body) ≡ 0
+    by true told = refl
+    by false told = let yes : alone ≡ true = told refl in let none : true ≡ false = sym yes ∙ not in cc
+
+-- so many bytes are held alone, whatever that is
+pub some_alone : {S : Type 0} (members : List (ℕ × MemberValue S)) → (count : ℕ) × HoldAlone members count
+some_alone [] = (0, refl)
+some_alone (m ∷ members) = let others = some_alone members in (m.1.load.answers + others.0, (m.1.load.answers, others.0, inl refl, others.1, refl))
+
+pub alone_first : {S : Type 0} (members left : List (ℕ × MemberValue S)) → left ≡ members → HoldSo members left 0
+alone_first members left e = (0, omega arith, λ others h. let z : others ≡ 0 + others = omega arith in subst (λ n. HoldAlone members n) z (subst (λ ms. HoldAlone ms others) e h))
+
+pub alone_more : {S : Type 0} (members left rest : List (ℕ × MemberValue S)) (entry : ℕ × MemberValue S) (sum more held : ℕ) → left ≡ entry ∷ rest → HoldsAlone entry.1 held
+    → more ≡ min (sum + held) 18446744073709551615 → HoldSo members left sum → HoldSo members rest more
+alone_more members left rest entry sum more held e own is (before, counted, all) = (
+  before + held,
+  omega (arith, is, counted),
+  λ others h.
+      let z : before + (held + others) ≡ before + held + others = omega arith in
+      subst (λ n. HoldAlone members n) z (all (held + others) (subst (λ ms. HoldAlone ms (held + others)) (sym e) (held, others, own, h, refl))),
+)
+
+pub alone_last : {S : Type 0} (members left : List (ℕ × MemberValue S)) (sum : ℕ) → left ≡ [] → HoldSo members left sum → (own : ℕ) × HoldAlone members own × (sum ≡ min own 18446744073709551615)
+alone_last members left sum e (own, counted, all) =
+    let z : own + 0 ≡ own = omega arith in (own, subst (λ n. HoldAlone members n) z (all 0 (subst (λ ms. HoldAlone ms 0) (sym e) refl)), counted)
+
+pub not_full : (a b c : Bool) → a ≡ b → a ≡ false → a ≡ b && c
+not_full a b c e f = let g : b ≡ false = sym e ∙ f in cc
