@@ -137,8 +137,9 @@ def assumable(folder, homes):
         in_cycles = set(re.findall(r"#\[cycle\(\w+\)\]\s*(?:pub(?:\(\w+\))? )?fn (\w+)", text))
         for function, texts in functions_of(file, text, homes).items():
             *above, name = function.split("::")
-            is_method = bool(above) and above[-1][0].isupper()
-            own = rf"(?:Self::|self\.|\b{above[-1]}(?:::<[^(]*>)?::)" if is_method else r"(?<![\w.:])(?:self::)?"
+            type_name = above[-1].partition("+")[0] if above else ""
+            is_method = type_name[:1].isupper()
+            own = rf"(?:Self::|self\.|\b{type_name}(?:::<[^(]*>)?::)" if is_method else r"(?<![\w.:])(?:self::)?"
             calls_itself = re.search(rf"{own}{name}(?:::<[^(]*>)?\(", texts[0].partition(f"fn {name}")[2])
             cycle = os.path.join(folder, "proofs", *above, f"+{name}")
             if (len(texts) == 1 and texts[0].endswith("}") and name != "main" and not calls_itself
@@ -217,8 +218,9 @@ def skip(words, at):
 
 
 def name_of(kind, head):
-    """The name of a module, a trait or an impl, as a check prints it: of an impl the type's name and then the trait's, with its
-    arguments but for the impl's own parameters."""
+    """The name of a module, a trait or an impl, as a check prints it: of an impl the type's name and then the trait's, each with
+    its arguments but for the impl's own parameters; of a type's own functions its name, with + and each argument where one of
+    them is no parameter."""
     if kind in ("mod", "trait"):
         return head[0]
     parameters = set()
@@ -240,9 +242,13 @@ def name_of(kind, head):
         if word == "for" and not depth:
             split = at
     sides = [head[split + 1:], head[:split]] if split is not None else [head]
-    name = "".join(tuple_name(it, parameters) or slice_name(it) or last_name(it) for it in sides)
-    parts = own_arguments(sides[1], parameters) if len(sides) > 1 else []
-    return f"{name}<{''.join(parts)}>" if parts else name
+    names = [tuple_name(it, parameters) or slice_name(it) or last_name(it) for it in sides]
+    if len(sides) == 1:
+        own = own_arguments(sides[0], parameters)
+        return "+".join([*names, *arguments(sides[0], parameters)]) if own else names[0]
+    # (of a tuple and a slice the name has its types already)
+    parts = [own_arguments(it, parameters) if name == last_name(it) else [] for it, name in zip(sides, names)]
+    return "".join(f"{name}<{''.join(args)}>" if args else name for name, args in zip(names, parts))
 
 
 def tuple_name(words, parameters):

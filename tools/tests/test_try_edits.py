@@ -124,6 +124,16 @@ class Functions(Case):
         many = "impl<'a, A: Allocator> Listed for &'a [Path<A>] { fn text(&self) {} }"
         self.assertEqual(list(mistakes.functions_of("src/listed.rt", many, {})), ["listed::RefSlicePathListed::text"])
 
+    def test_paths_of_one_type_with_different_arguments(self):
+        text = """
+impl<'r, S: Stream, K> Client<'r, S, K, PutsToo> { fn put(&mut self) -> u64 { 1 } }
+impl<'r, S: Stream, K, U> Client<'r, S, K, U> { fn get(&self) -> u64 { 2 } }
+impl<S: Stream, K> BlobSink<Global> for Client<'_, S, K, PutsToo> { fn put_blob(&mut self) -> u64 { 3 } }
+"""
+        found = [mistakes.spellings(it)[0] for it in mistakes.functions_of("src/client.rt", text, {})]
+        self.assertEqual(found, ["client::Client+S+K+PutsToo::put", "client::Client::get",
+                                 "client::ClientPutsTooBlobSinkGlobal::put_blob"])
+
     def test_a_types_functions_are_told_where_it_is_declared(self):
         self.keep("crates/small/src/text.rt", "impl Size { fn text(&self) {} }\n")
         homes = mistakes.homes_of(os.path.join(self.top, "crates", "small"))
