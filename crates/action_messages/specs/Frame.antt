@@ -18,8 +18,8 @@ use Rattle.messages.specs.DigestMessage.{digest_bytes, decoded_digest}
 use Rattle.action_messages.specs.Fields.{required}
 use Rattle.action_messages.specs.Platform.{PlatformValue, IsPlatform, platform_entry, platform_at}
 
--- the digest of the Command's encoding, whether the result may be kept, a salt that tells equal
--- actions apart, and what is asked of the machine
+-- the digest of the Command's encoding, whether the result is not to be kept for other builds, a
+-- salt that tells equal actions apart, and what is asked of the machine
 pub record FrameValue : Type 0 where
   pub command : DigestValue
   pub do_not_cache : Bool

@@ -115,6 +115,7 @@ fn check_outputs<A: Allocator>(
 }
 
 impl<A: Allocator> ActionResult<A> {
+    /// The result of these fields, as `new` answers.
     #[tactic(auto, unfolding(crate::specs::ActionResult::action_result_of))]
     fn checked(
         files: Vec<OutputFile<A>, A>,
@@ -284,6 +285,7 @@ fn ordered<A: Allocator>(read: Unordered<A>) -> Result<ActionResult<A>, MessageE
     sort_by_path(&mut symlinks);
     match ActionResult::checked(files, directories, symlinks, exit_code, stdout, stderr) {
         Ok(result) => Ok(result),
+        // Sorted paths are out of order only where two are equal, and equal ones overlap.
         Err(_) => Err(MessageError::SameName),
     }
 }

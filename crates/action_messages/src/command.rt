@@ -212,6 +212,7 @@ impl<A: Allocator> Command<A> {
         }
     }
 
+    /// The command of these fields, as `new` answers.
     #[tactic(auto, unfolding(crate::specs::Command::command_of))]
     fn checked(
         arguments: Vec<String<A>, A>,

@@ -1,6 +1,6 @@
--- Blobs that are held whole.
+-- Blobs that come in pieces and are held whole.
 use Rattle.std.specs.Prelude.{ℕ}
 
--- the most bytes that such a blob has
+-- the most bytes of them that are taken
 abbrev pub greatest_blob : ℕ
 greatest_blob = 16777216

@@ -7,7 +7,7 @@ use crate::hasher::Hasher;
 use std::alloc::{AllocError, Allocator};
 use std::marker::Model;
 
-/// The most bytes that a blob held whole may have.
+/// The most bytes that a [`Body`] takes.
 pub const GREATEST_BLOB: usize = 16_777_216;
 
 /// A blob that comes in pieces. Each piece is hashed once, as it is pushed.
@@ -94,7 +94,7 @@ impl<A: Allocator> Body<A> {
 }
 
 impl<A: Allocator> Sealed<A> {
-    /// These bytes, hashed.
+    /// These bytes, hashed. There may be more of them than a [`Body`] takes.
     pub fn of(bytes: Vec<u8, A>) -> Sealed<A>
         ensures { result ≡ bytes.items }
     {

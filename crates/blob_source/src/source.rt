@@ -15,6 +15,7 @@ pub enum FetchError {
     /// The source failed, and counted that. One whose count is full answers `Memory` instead.
     #[error("the blob source failed")]
     Failed,
+    /// No memory was left, or the count of failures is full.
     #[error("out of memory")]
     Memory,
 }

@@ -10,7 +10,7 @@ use thiserror::Error;
 /// Why bytes or values are no message.
 #[derive(Clone, Copy, Debug, PartialEq, Eq, Error)]
 pub enum MessageError {
-    /// The bytes are no canonical encoding of the message's fields.
+    /// The fields of the message break a rule of the encoding in which they are read.
     #[error("{0}")]
     Wire(CanonError),
     /// A name is absent or invalid.

@@ -21,6 +21,7 @@ pub trait Encode<A: Allocator>: Drop {
     /// The bytes that are written.
     ghost spells: { Self → List ℕ };
 
+    /// Writes the value, alone.
     fn write(&self, alloc: A) -> Result<Vec<u8, A>, AllocError>
         ensures { IfOk result (λ v. v.items ≡ spells self.now) };
 }
@@ -33,6 +34,7 @@ pub trait Message<A: Allocator>: Encode<A> {
     /// The rules of values.
     ghost keeps: { Self → Type 0 };
 
+    /// Reads a value, from all of the bytes.
     fn read(alloc: A, bytes: &[u8]) -> Result<Self, MessageError>
         ensures { GivesUnlessMemory (λ m. m) result (reads bytes.now) };
 
@@ -139,11 +141,11 @@ fn append_each<A: Allocator + Copy, M: Encode<A>>(
     Ok(())
 }
 
-/// The message whose canonical text the bytes are.
+/// The message whose canonical encoding the bytes are.
 pub fn decode<A: Allocator + Copy, M: Message<A>>(alloc: A, bytes: &[u8]) -> Result<M, MessageError>
-    // The bytes are the canonical text of what is answered.
+    // The bytes are the canonical encoding of what is answered.
     ensures found { IfOk result (λ m. M.keeps m × (bytes.now ≡ M.spells m)) }
-    // What the bytes are the canonical text of is answered, unless memory runs out.
+    // What the bytes are the canonical encoding of is answered, unless memory runs out.
     ensures only { (m : M) → M.keeps m → bytes.now ≡ M.spells m
         → GivesUnlessMemory (λ x. x) result (Ok m) }
     // Which refusal comes first.

@@ -12,16 +12,19 @@ use canonical::{Shape, check_any, read_elements};
 use std::alloc::Allocator;
 use wire::Field;
 
-/// What is read tolerantly, from the texts of its occurrences.
+/// What is read by protobuf's tolerant rules, from one text or more: the payloads of all records
+/// of its field, read one after another as if they were one message.
 pub trait Tolerant<A: Allocator>: Drop {
     /// What the texts say, or the first refusal.
     ghost says: { List (List ℕ) → Result Self MessageError };
 
+    /// Reads a value from the texts.
     fn read_any(alloc: A, texts: &[&[u8]]) -> Result<Self, MessageError>
         ensures { GivesUnlessMemory (λ m. m) result (says (slices texts.now)) };
 }
 
-/// The fields of a message of the shape, in which some numbers are skipped.
+/// The fields of a message of the shape, from the texts one after another. Fields with a skipped
+/// number aren't looked at.
 pub fn read_any_fields<'a, A: Allocator>(
     alloc: A,
     shape: &Shape<'_>,
@@ -49,7 +52,7 @@ fn read_any_all<A: Allocator + Copy, M: Tolerant<A>>(
     Ok(messages)
 }
 
-/// The messages of the repeated field of this number, in order.
+/// The messages of the repeated field of this number, in order, each from its own text.
 pub fn read_any_each<A: Allocator + Copy, M: Tolerant<A>>(
     alloc: A,
     fields: &[Field<'_>],
