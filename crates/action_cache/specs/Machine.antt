@@ -17,7 +17,8 @@ pub record Marked : Type 0 where
   pub bytes : List ℕ
   pub pinned : Bool
 
--- blobs and results under their hashes, most recently used first, and the limits on their costs
+-- blobs under their hashes and results under those of their actions, most recently used first, and
+-- the limits on their costs
 pub record CacheState : Type 0 where
   pub blobs : List (List ℕ × List ℕ)
   pub results : List (List ℕ × Marked)

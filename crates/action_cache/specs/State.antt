@@ -25,7 +25,7 @@ abbrev pub touched_each : Kept (List ℕ) → List DigestValue → Kept (List �
 touched_each s ds =
     record { entries = moved_each ds s.entries; limit = s.limit; overhead = s.overhead }
 
--- what the machine answers where a result is found, and where none is
+-- what the machine answers where bytes are found, and where none are
 abbrev pub answer_of : Option (List ℕ) → Answer
 answer_of None = nothing
 answer_of (Some b) = given b

@@ -29,8 +29,9 @@ use std::alloc::{AllocError, Allocator};
 use std::hash::RandomState;
 use std::marker::Model;
 
-/// Blobs and results, each most recently used first. Clauses see them without counts of pins: a
-/// result has a mark, and a blob is pinned where a marked result refers to it.
+/// Blobs under their hashes, and results under those of their actions, each most recently used
+/// first. Clauses see them without counts of pins: a result has a mark, and a blob is pinned where
+/// a marked result refers to it.
 #[derive(Drop)]
 pub struct ActionCache<A: Allocator> {
     blobs: BlobStore<A>,
@@ -112,7 +113,9 @@ impl<A: Allocator + Copy> ActionCache<A> {
         self.blobs.held_bytes()
     }
 
-    /// Puts a blob under its hash.
+    /// Puts a blob under its hash. What is held already stays, and moves to the front. Refusals,
+    /// the first of these: `TooLarge`, `HashDiffers`, and `Full` where it doesn't fit beside the
+    /// pinned blobs.
     pub fn put_blob(&mut self, hash: [u8; 32], bytes: Vec<u8, A>) -> Result<(), CacheError>
         ensures ok { OnOk result (blob_put by_messages self.old hash bytes.items
             ≡ (done, self.new)) }
@@ -173,8 +176,10 @@ impl<A: Allocator + Copy> ActionCache<A> {
         Ok(found)
     }
 
-    /// Puts a result under its hash. One that is pinned takes no other bytes. The bytes are read
-    /// first, which takes memory, so want of it may come before any refusal.
+    /// Puts a result under the hash of its action. Refusals, the first of these: `BadResult`,
+    /// `PinnedDiffers` where a pinned one has other bytes, and `Full` where it doesn't fit beside
+    /// the pinned results. The bytes are read first, which takes memory, so want of it may come
+    /// before any refusal.
     pub fn put_result(
         &mut self,
         alloc: A,
@@ -254,7 +259,7 @@ impl<A: Allocator + Copy> ActionCache<A> {
     }
 
     /// Pins a result that is held and complete, and once more each blob to which it refers. One
-    /// that is pinned already isn't pinned again.
+    /// that is pinned already isn't pinned again. Refusals: `NotHeld` and `Incomplete`.
     pub fn pin(&mut self, alloc: A, hash: &[u8; 32]) -> Result<(), CacheError>
         ensures ok { OnOk result (put_on by_messages self.old hash.now ≡ (done, self.new)) }
         ensures refused { IfErr result
@@ -281,7 +286,7 @@ impl<A: Allocator + Copy> ActionCache<A> {
     }
 
     /// Takes the pin off a result. Each blob to which it refers is pinned once less, and stays
-    /// pinned where another pinned result refers to it.
+    /// pinned where another pinned result refers to it. Refusal `NotPinned`.
     pub fn unpin(&mut self, alloc: A, hash: &[u8; 32]) -> Result<(), CacheError>
         ensures ok { OnOk result (take_off by_messages self.old hash.now ≡ (done, self.new)) }
         ensures refused { IfErr result

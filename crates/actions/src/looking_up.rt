@@ -106,6 +106,7 @@ fn descend<A: Allocator + Copy>(
     }
 }
 
+/// The node at the end of a text's names in a tree; without a text the node of its root.
 fn look_in_tree<A: Allocator + Copy>(
     alloc: A,
     tree: &Tree<A>,
@@ -122,6 +123,7 @@ fn look_in_tree<A: Allocator + Copy>(
     }
 }
 
+/// The node at the end of a text's names below an output; without a text that of the output.
 fn look_below<A: Allocator + Copy>(
     alloc: A,
     output: &Output<A>,

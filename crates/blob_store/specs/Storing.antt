@@ -29,7 +29,7 @@ refused_put s h b =
     else (if not (bytes_eq (sha256 b) h) then Some HashDiffers
     else (if is_none (blob_put s h b) then Some Full else None))
 
--- a put is refused as it must be; out of memory comes only where it need not be
+-- the refusal that must come; where none must, lack of memory alone may
 abbrev pub IsRefusal : Option BlobError → BlobError → Type 0
 IsRefusal None e = e ≡ Memory
 IsRefusal (Some f) e = e ≡ f

@@ -241,8 +241,8 @@ impl<A: Allocator + Copy> BlobStore<A> {
     }
 
     /// Pins each of the blobs once more; their hashes are distinct, and no count is at its
-    /// greatest. The digest of no bytes is left out. Refusal `NotHeld` where one isn't held. None
-    /// want no memory.
+    /// greatest. The digest of no bytes is left out. Refusal `NotHeld` where one isn't held. Where
+    /// all are left out it takes no memory.
     pub fn pin_all(&mut self, alloc: A, digests: &[Digest]) -> Result<(), BlobError>
         requires distinct { IsDistinct bytes_eq (hashes_of digests.now) }
         requires counts { CanPinMore bytes_eq self.old.entries (hashes_of digests.now) }
@@ -277,7 +277,7 @@ impl<A: Allocator + Copy> BlobStore<A> {
     }
 
     /// Pins each of the blobs, whose hashes are distinct, once less. The digest of no bytes is left
-    /// out. Refusal `NotPinned` where one isn't pinned. None want no memory.
+    /// out. Refusal `NotPinned` where one isn't pinned. Where all are left out it takes no memory.
     pub fn unpin(&mut self, alloc: A, digests: &[Digest]) -> Result<(), BlobError>
         requires { IsDistinct bytes_eq (hashes_of digests.now) }
         ensures ok { OnOk result

@@ -16,8 +16,9 @@ pub trait FolderWriter {
     /// That it was called for these paths, in this order, and for nothing else.
     ghost tried: { Self → List (List ℕ) → Type 0 };
 
-    /// Takes a folder in which nothing stands. Where nothing stands at the path, it is made. That a
-    /// writer is as it was says that it wasn't called.
+    /// Takes a folder in which nothing stands. Where nothing stands at the path, it is made. A
+    /// clause that a writer is as it was says that it wasn't called, of a writer that each call
+    /// changes.
     fn take(&mut self, path: &str) -> io::Result<Self::Folder>
         ensures taken { IfOk result (λ folder. works.has folder (empty_folder path.now)) }
         ensures refused { IfErr result (works.refuses path.now) }

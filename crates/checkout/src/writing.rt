@@ -1,5 +1,5 @@
-ghost use Rattle.std.specs.Prelude.{◌≡◌, ◌↔◌, ◌⊎◌, ◌+◌, ◌≤◌, [], ◌∷◌, IfErr, IfOk, IsErrOf, OnErr, OnOk};
-ghost use Rattle.std.specs.Prelude.{length, string_bytes};
+ghost use Rattle.std.specs.Prelude.{◌≡◌, ◌↔◌, ◌⊎◌, ◌+◌, ◌≤◌, [], ◌∷◌, IfErr, IfOk, IsErrOf};
+ghost use Rattle.std.specs.Prelude.{OnErr, OnOk, length, string_bytes};
 ghost use Rattle.blob_digest.specs.Digest.{DigestValue};
 ghost use Rattle.blob_source.specs.Called.{Called, Calls};
 ghost use Rattle.blob_source.specs.Source.{Asks, Blobs, IsBlobUnder};
@@ -185,7 +185,7 @@ fn write_entries<A: Allocator + Copy, S: BlobSource<A>, W: FolderWriter>(
 /// file with its content and whether it is a program, each symbolic link, and nothing else. A
 /// file's content is fetched when its turn comes: what was written before a refusal stays.
 /// Refusals, the first of these: `Missing`, `Wrong`, `Malformed` and `TooDeep` of the tree, `Place`
-/// where the folder isn't empty, and in the order of the paths `Missing` and `Wrong` of a file's
+/// where the folder can't be taken, and in the order of the paths `Missing` and `Wrong` of a file's
 /// content and `Place` where something can't be written.
 pub fn check_out<A: Allocator + Copy, S: BlobSource<A>, W: FolderWriter>(
     alloc: A,

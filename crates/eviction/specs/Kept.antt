@@ -64,7 +64,8 @@ module _ {K : Type 0} where
       pub distinct : IsDistinct eq (keys_of s.entries)
       pub fits : total_cost s.overhead s.entries ≤ s.limit
 
-  -- the sums that a store keeps beside its entries are theirs, and the costs fit
+  -- the sums that a store keeps beside its entries are theirs, the costs fit, and the limit is
+  -- below 2^63
   pub record IsTallied (es : List (K × Held)) (limit overhead held pinned : ℕ) : Type 0 where
     pub held_is : held ≡ total_cost overhead es
     pub pinned_is : pinned ≡ pinned_cost overhead es

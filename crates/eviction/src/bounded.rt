@@ -79,9 +79,9 @@ impl<K: Copy + Eq + Hash, A: Allocator + Copy> Bounded<K, A> {
     /// pinned others, the least recent unpinned others are evicted until all costs fit; else they
     /// are refused as `Full`.
     ///
-    /// It costs a look at each entry that is evicted, and at each pinned one that is less recent
-    /// than one of these, and that once. Where nothing needs to go it costs a look-up, and now and
-    /// then a doubling of the table.
+    /// It looks once at each entry that it evicts, and at each pinned one that is less recent than
+    /// the last of these. Where nothing needs to go it costs a look-up, and now and then a doubling
+    /// of the table.
     pub fn put(&mut self, key: K, bytes: Vec<u8, A>) -> Result<(), BoundedError>
         ensures ok { OnOk result (entered K.eq self.old key bytes.items ≡ Some self.new) }
         ensures full { (result ≡ Err BoundedError.Full)

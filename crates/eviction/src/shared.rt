@@ -27,7 +27,8 @@ impl<A: Allocator> Shared<A> {
         Ok(Shared { bytes })
     }
 
-    /// The same bytes for one holder more. Nothing is copied; an `Err` is a full count of holders.
+    /// The same bytes for one holder more. Nothing is copied. It is refused where the count of
+    /// holders is full, which no clause says.
     pub fn share(&self) -> Result<Shared<A>, AllocError>
         ensures { IfOk result (λ s. s ≡ self.now) }
     {
@@ -49,7 +50,7 @@ impl<A: Allocator> Shared<A> {
         self.bytes.len()
     }
 
-    /// The bytes as those who hold them count one another.
+    /// The counted reference by which the bytes are held.
     pub fn into_rc(self) -> Rc<Vec<u8, A>, A>
         ensures { result.value.items ≡ self }
     {

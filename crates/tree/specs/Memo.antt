@@ -51,7 +51,7 @@ known_by memo (result d) = option_map (λ v. v.items) (get digest_cmp memo.resul
 abbrev pub KnowsNothing : Known → Type 0
 KnowsNothing known = (a : Asked) → known a ≡ None
 
--- nothing is known that wasn't
+-- what is known is as it was
 abbrev pub IsSame : Known → Known → Type 0
 IsSame old new = (a : Asked) → new a ≡ old a
 
@@ -76,7 +76,7 @@ abbrev pub Covers : (Asked → Type 0) → List Asked → Type 0
 Covers Looks list = (a : Asked) → Looks a → Contains list a
 
 -- Calls that look at these alone. What was known stays known, and what is known is what the source
--- told. Nothing else is known then that wasn't; but the empty blob, which is always there, may be.
+-- told. Nothing else becomes known, but for the empty blob, which is always there and may.
 -- Of a list with all that they look at, the source is asked at most once for each that isn't known.
 -- What it was asked for is known then; where they are refused, all of it but the last.
 pub record Learns (Looks : Asked → Type 0) (refused : Type 0) (old new : Known)

@@ -26,7 +26,7 @@ pub struct Folded<A: Allocator> {
 /// Encodings in the order in which they were first inserted.
 type EncodingSet<A> = IndexSet<Vec<u8, A>, BuildHasherDefault<FoldHasher>, A>;
 
-/// The encodings, each once, where it first stands.
+/// The set of the encodings, in the order in which each first stands.
 fn distinct<A: Allocator + Copy>(
     alloc: A,
     encodings: Vec<Vec<u8, A>, A>,
@@ -40,7 +40,7 @@ fn distinct<A: Allocator + Copy>(
     Ok(set)
 }
 
-/// The encodings, each once, where it first stands.
+/// The list of the encodings, each once, where it first stands.
 pub(crate) fn each_once<A: Allocator + Copy>(
     alloc: A,
     encodings: Vec<Vec<u8, A>, A>,

@@ -21,6 +21,7 @@ enum NodeKey<A: Allocator> {
 }
 
 impl<A: Allocator + Copy> NodeKey<A> {
+    /// The node, over memory of its own.
     fn of(alloc: A, node: &Node<A>) -> Result<NodeKey<A>, AllocError>
         ensures { IfOk result (λ key. key_value key ≡ node_value node.now) }
     {
@@ -58,7 +59,7 @@ impl<A: Allocator + Copy> Given<A> {
         }
     }
 
-    /// Takes the node, unless it is there.
+    /// Takes the node unless it is there, and answers whether it took it.
     pub(crate) fn insert(&mut self, alloc: A, node: &Node<A>) -> Result<bool, AllocError>
         ensures taken { IfOk result
             (λ taken. taken ≡ not (list_any (same_node (node_value node.now)) self.old)) }

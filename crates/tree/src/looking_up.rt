@@ -43,6 +43,7 @@ pub fn lookup<A: Allocator + Copy, S: BlobSource<A>>(
     }
 }
 
+/// The node at a path of one name or more.
 fn look_up<A: Allocator + Copy, S: BlobSource<A>>(
     alloc: A,
     root: &Digest,

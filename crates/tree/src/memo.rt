@@ -126,6 +126,7 @@ impl<A: Allocator + Copy> Memo<A> {
         }
     }
 
+    /// Keeps this of the blob with the digest, in place of what was kept of it.
     fn keep(&mut self, digest: &Digest, kept: Kept<A>) -> Result<(), AllocError>
         ensures ok { OnOk result
             (KnowsToo (blob digest.now) (kept_bytes kept) (known_by self.old) (known_by self.new)) }

@@ -31,6 +31,7 @@ type ChildMap<A> = BTreeMap<Name<A>, Node<A>, A>;
 /// Entries, one after another.
 type Entries<A> = Vec<(Vec<Name<A>, A>, FlatEntry<A>), A>;
 
+/// Inserts the symbolic links, where nothing is yet.
 fn insert_symlinks<A: Allocator + Copy>(
     alloc: A,
     children: &mut ChildMap<A>,
@@ -47,6 +48,7 @@ fn insert_symlinks<A: Allocator + Copy>(
     Ok(())
 }
 
+/// Inserts the directories beside the symbolic links.
 fn insert_directories<A: Allocator + Copy>(
     alloc: A,
     children: &mut ChildMap<A>,
@@ -69,6 +71,7 @@ fn insert_directories<A: Allocator + Copy>(
     Ok(())
 }
 
+/// Inserts the files beside all others.
 fn insert_files<A: Allocator + Copy>(
     alloc: A,
     children: &mut ChildMap<A>,

@@ -35,6 +35,7 @@ pub(crate) struct Children<A: Allocator> {
 }
 
 impl<A: Allocator + Copy> Children<A> {
+    /// No children.
     pub(crate) fn new(alloc: A) -> Children<A>
         ensures directory { children_directory result ≡ no_children }
         ensures tops { tops_in result ≡ [] }

@@ -45,6 +45,7 @@ impl<A: Allocator + Copy> Memo<A> {
         }
     }
 
+    /// The node at a path of one name or more.
     fn look_up<S: BlobSource<A>>(
         &mut self,
         alloc: A,
