@@ -1,4 +1,4 @@
--- The status with which each refusal is told (RFC 9110, section 15.5).
+-- The status with which each refusal is told (RFC 9110, section 15.5; RFC 4918, section 11.5).
 use Rattle.std.specs.Prelude.{◌≡◌, ℕ, Some, Result, Ok, Err, option_map}
 use Rattle.action_cache.specs.declared.error.CacheError.{CacheError}
 use Rattle.action_cache.specs.declared.error.CacheError.TheVariants.{Memory}

@@ -1,4 +1,4 @@
--- Names of fields and options, which have no case (RFC 9110, sections 5.1 and 5.6.2).
+-- Names of fields and of connection options, which have no case (RFC 9110, sections 5.1 and 7.6.1).
 use Rattle.std.specs.Prelude.{ℕ, Bool, List, map}
 use Rattle.std.specs.Str.{bytes_eq}
 use Rattle.std.specs.Char.{to_ascii_lowercase}

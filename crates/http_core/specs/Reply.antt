@@ -1,4 +1,4 @@
--- The text of an answer (RFC 9112, sections 4 and 6.2; RFC 9110, section 15).
+-- The text of an answer (RFC 9112, sections 4, 6.2; RFC 9110, section 15; RFC 6585; RFC 4918).
 use Rattle.std.specs.Prelude.{ℕ, ◌==◌, Bool, List, [], ◌++◌, length, codes, if◌then◌else◌}
 use Rattle.std.specs.Fmt.{decimal}
 use Rattle.http_core.specs.declared.reply.Content.{Content}

@@ -7,7 +7,7 @@ pub enum Fault {
     /// The stream ended or failed within a request or a reply, or couldn't be opened anew.
     #[error("the connection failed, ended, or was silent too long")]
     Io,
-    /// What came is no valid reply.
+    /// What came isn't a reply that a client here reads: one of HTTP/1.1 with one `Content-Length`.
     #[error("the server's reply is none of HTTP/1.1")]
     BadReply,
     /// The reply has another status than those that answer.
@@ -23,7 +23,7 @@ pub enum Fault {
 pub(crate) enum Refusal {
     /// The stream ended or failed.
     Io,
-    /// What came is no reply.
+    /// What came isn't a reply that is read here.
     BadReply,
     /// No memory was left.
     Memory,

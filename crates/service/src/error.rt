@@ -6,12 +6,13 @@ use std::io;
 use std::io::ErrorKind;
 use thiserror::Error;
 
-/// No more connections could be accepted.
+/// No more connections are served: none can be accepted, a wait failed, or memory is wanting.
 #[derive(Debug, Drop, Error)]
 #[error("no connection could be accepted after {accepted}: {fault}")]
 pub struct NotAccepted {
-    /// How many were accepted and served before.
+    /// How many were accepted before. Each has ended.
     pub accepted: u64,
+    /// The last fault.
     pub fault: io::Error,
 }
 

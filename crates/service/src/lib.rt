@@ -1,5 +1,6 @@
-//! The cache over sockets: the connections of a listener are served one after another, none of them
-//! may be silent for too long, and each is told of in the log when it has ended.
+//! The cache over sockets: the connections of a listener are served one after another, or many at a
+//! time in one thread. None of them may be silent for too long, and each is told of in the log when
+//! it has ended.
 #![tactic(auto)]
 
 mod closing;

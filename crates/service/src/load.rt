@@ -64,7 +64,7 @@ impl Load {
 pub(crate) struct Leave {
     /// Another request may be answered.
     pub(crate) answers: bool,
-    /// So many bytes of a request may be kept before more are read.
+    /// More of a request is read only while no more bytes of it than these are kept.
     pub(crate) kept: u64,
 }
 

@@ -52,8 +52,8 @@ pub(crate) struct Together<S: Peer> {
 }
 
 /// Serves so many connections of the listener, up to `at_once` of them at a time, none of which
-/// waits for another: `serve_sockets` over epoll. Where standard error is a terminal, a line there
-/// says how many are open, and the hits so far.
+/// waits for another, but where all together hold too much: `serve_sockets` over epoll. Where
+/// standard error is a terminal, a line there says how many are open, and the hits so far.
 #[tactic(auto, using(crate::proofs::Whole::led_by_none, crate::proofs::Whole::led_by_served))]
 pub fn serve_together<R: AllocGlobal + Clock + ErrorTerminal + Log + Net>(
     rt: &R,
@@ -86,8 +86,9 @@ pub fn serve_together<R: AllocGlobal + Clock + ErrorTerminal + Log + Net>(
 }
 
 /// Serves so many connections of the sockets, up to `at_once` of them at a time, none of which
-/// waits for another. Each is read only while it has no answer that isn't sent. A line on the
-/// terminal, if there is one, says how many are open, and the hits so far.
+/// waits for another, but where all together hold too much. Each is read only while it has no
+/// answer that isn't sent. A line on the terminal, if there is one, says how many are open, and the
+/// hits so far.
 #[tactic(auto, using(crate::proofs::Whole::serves_all, crate::proofs::Whole::serves_cut, crate::proofs::Whole::serves_kept, crate::proofs::Whole::serves_none))]
 pub fn serve_sockets<R: AllocGlobal + Clock + Log, N: Sockets>(
     rt: &R,

@@ -11,7 +11,7 @@ pub(crate) enum Turn {
     Again,
     /// The system has nothing for it.
     Waits,
-    /// It may not answer before others have sent their answers.
+    /// It may not answer a request, or read more of one, before less is held.
     Held,
     /// It has ended.
     Ends(Result<(), ConnError>),
