@@ -17,12 +17,12 @@ use Rattle.wire.proofs.Steps.{bind_ok, ok_is}
 use Rattle.messages.specs.declared.error.MessageError.{MessageError}
 use Rattle.messages.specs.declared.error.MessageError.TheVariants as message
 use Rattle.messages.specs.Order.{bytes_cmp}
-use Rattle.messages.specs.Path.{path_text}
+use Rattle.messages.specs.Path.{AreApart, path_text}
 use Rattle.messages.proofs.Orders.{flipped, itself}
 use Rattle.action_messages.specs.Stream.{StreamValue, IsStream}
 use Rattle.action_messages.specs.Nested.{SaysOne}
 use Rattle.action_messages.specs.ActionResult.{ActionResultValue, IsActionResult, file_paths, directory_paths, symlink_paths, action_result_of}
-use Rattle.action_messages.specs.Overlaps.{ArePathsApart, texts_of}
+use Rattle.action_messages.specs.Overlaps.{texts_of}
 use Rattle.action_messages.specs.Reads.{Reads, SaysDigest, SaysStream}
 use Rattle.action_messages.specs.Refused.{IsRefusedResult}
 use Rattle.action_messages.specs.Unordered.{unordered, IsOrderingOf, output_paths}
@@ -129,7 +129,7 @@ ordered_in u = record {
 }
 
 -- what is said has no outputs that overlap
-said_apart : (bytes : List ℕ) (u m : ActionResultValue) → IsBytes bytes → unordered bytes ≡ Ok u → action_result_of (in_order u) ≡ Ok m → ArePathsApart (output_paths u)
+said_apart : (bytes : List ℕ) (u m : ActionResultValue) → IsBytes bytes → unordered bytes ≡ Ok u → action_result_of (in_order u) ≡ Ok m → AreApart (output_paths u)
 said_apart bytes u m fits read e =
     let r = in_order u in
     let o = ordered_in u in
@@ -141,7 +141,7 @@ said_apart bytes u m fits read e =
 not_said : (bytes : List ℕ) (u m : ActionResultValue) (e : MessageError) → IsBytes bytes → unordered bytes ≡ Ok u → action_result_of (in_order u) ≡ Ok m → IsRefusedResult e bytes → ⊥
 not_said bytes u m e fits read made (inl unread) = not_unread bytes u e read unread
 not_said bytes u m e fits read made (inr (v, also, overlap, is)) =
-    overlap (subst (λ (x : ActionResultValue). ArePathsApart (output_paths x)) (ok_is {E = MessageError} u v (sym read ∙ also)) (said_apart bytes u m fits read made))
+    overlap (subst (λ (x : ActionResultValue). AreApart (output_paths x)) (ok_is {E = MessageError} u v (sym read ∙ also)) (said_apart bytes u m fits read made))
 
 -- a stream that is said is one
 stream_valid : (number : ℕ) (s : StreamValue) (rs : List Record) → SaysStream number s rs → IsStream s

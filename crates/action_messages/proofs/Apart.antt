@@ -3,12 +3,12 @@ use Rattle.std.proofs.Common.{◌≡◌, ◌≢◌, ℕ, Bool, true, false, ◌|
 use Rattle.std.specs.List.{AllByRecursion}
 use Rattle.std.proofs.lemmas.List.{length-append}
 use Rattle.messages.specs.Order.{bytes_cmp, ShareNone, share_name}
-use Rattle.messages.specs.Path.{IsPath, LiesUnder, Overlap, parts_of, path_text}
+use Rattle.messages.specs.Path.{IsPath, LiesUnder, AreApart, IsApart, parts_of, path_text}
 use Rattle.messages.proofs.Choices.{or_false, or_neither}
 use Rattle.messages.proofs.Orders.{itself, ShareNone-from, share_name-from}
 use Rattle.messages.proofs.Paths.{Some_part, some_part, part_there, parts-seam, parts_of_path}
 use Rattle.action_messages.specs.Ascending.{IsAscendingBy}
-use Rattle.action_messages.specs.Overlaps.{ArePathsApart, is_under, lies_under_some, some_under, some_cross, texts_of}
+use Rattle.action_messages.specs.Overlaps.{is_under, lies_under_some, some_under, some_cross, texts_of}
 use Rattle.action_messages.proofs.Searches.{is_under-split, is_under-seam}
 
 -- ---- one path under another, by their texts
@@ -98,10 +98,7 @@ weaker P Q f (x ∷ xs) h = (f x h.0, weaker P Q f xs h.1)
 
 -- ---- the paths of one list
 
-abbrev pub Apart : List (List ℕ) → List (List ℕ) → Type 0
-Apart path other = Overlap path other → ⊥
-
-pub apart_of : (path other : List (List ℕ)) → path ≢ other → (LiesUnder path other → ⊥) → (LiesUnder other path → ⊥) → Apart path other
+pub apart_of : (path other : List (List ℕ)) → path ≢ other → (LiesUnder path other → ⊥) → (LiesUnder other path → ⊥) → IsApart path other
 apart_of path other differ over under (inl e) = differ e
 apart_of path other differ over under (inr (inl u)) = over u
 apart_of path other differ over under (inr (inr u)) = under u
@@ -111,11 +108,11 @@ differs path other less = λ e.
     let same : bytes_cmp (path_text path) (path_text other) ≡ Equal = ap (λ (p : List (List ℕ)). bytes_cmp (path_text path) (path_text p)) (sym e) ∙ itself (path_text path) in
     cc (sym less ∙ same)
 
-apart_row : (path : List (List ℕ)) (others : List (List (List ℕ))) → AllByRecursion (λ t. bytes_cmp (path_text path) t ≡ Less) (texts_of others) → AllByRecursion (λ other. LiesUnder path other → ⊥) others → AllByRecursion (λ other. LiesUnder other path → ⊥) others → AllByRecursion (Apart path) others
+apart_row : (path : List (List ℕ)) (others : List (List (List ℕ))) → AllByRecursion (λ t. bytes_cmp (path_text path) t ≡ Less) (texts_of others) → AllByRecursion (λ other. LiesUnder path other → ⊥) others → AllByRecursion (λ other. LiesUnder other path → ⊥) others → AllByRecursion (IsApart path) others
 apart_row path [] less over under = tt
 apart_row path (other ∷ others) less over under = (apart_of path other (differs path other less.0) over.0 under.0, apart_row path others less.1 over.1 under.1)
 
-pub apart_within : (paths : List (List (List ℕ))) → IsAscendingBy bytes_cmp (texts_of paths) → NoneUnder paths paths → ArePathsApart paths
+pub apart_within : (paths : List (List (List ℕ))) → IsAscendingBy bytes_cmp (texts_of paths) → NoneUnder paths paths → AreApart paths
 apart_within [] up h = tt
 apart_within (path ∷ paths) up h =
     let R = λ (p : List (List ℕ)) (q : List (List ℕ)). LiesUnder p q → ⊥ in
@@ -124,20 +121,20 @@ apart_within (path ∷ paths) up h =
 longer : (path : List (List ℕ)) → LiesUnder path path → ⊥
 longer path (name, rest, e) = let n = ap length e in let m = length-append path (name ∷ rest) in absurd (omega arith)
 
-pub within_apart : (paths : List (List (List ℕ))) → ArePathsApart paths → NoneUnder paths paths
+pub within_apart : (paths : List (List (List ℕ))) → AreApart paths → NoneUnder paths paths
 within_apart [] h = tt
 within_apart (path ∷ paths) h =
     let R = λ (p : List (List ℕ)) (q : List (List ℕ)). LiesUnder p q → ⊥ in
-    let over = weaker (Apart path) (λ other. LiesUnder path other → ⊥) (λ other apart u. apart (inr (inl u))) paths h.0 in
-    let under = weaker (Apart path) (λ other. LiesUnder other path → ⊥) (λ other apart u. apart (inr (inr u))) paths h.0 in
+    let over = weaker (IsApart path) (λ other. LiesUnder path other → ⊥) (λ other apart u. apart (inr (inl u))) paths h.0 in
+    let under = weaker (IsApart path) (λ other. LiesUnder other path → ⊥) (λ other apart u. apart (inr (inr u))) paths h.0 in
     ((longer path, over), beside R path paths paths under (within_apart paths h.1))
 
 -- ---- the paths of two lists
 
 abbrev pub AreApartFrom : List (List (List ℕ)) → List (List (List ℕ)) → Type 0
-AreApartFrom paths others = AllByRecursion (λ path. AllByRecursion (Apart path) others) paths
+AreApartFrom paths others = AllByRecursion (λ path. AllByRecursion (IsApart path) others) paths
 
-differ_row : (path : List (List ℕ)) (others : List (List (List ℕ))) → AllByRecursion (λ t. path_text path ≢ t) (texts_of others) → AllByRecursion (λ other. LiesUnder path other → ⊥) others → AllByRecursion (λ other. LiesUnder other path → ⊥) others → AllByRecursion (Apart path) others
+differ_row : (path : List (List ℕ)) (others : List (List (List ℕ))) → AllByRecursion (λ t. path_text path ≢ t) (texts_of others) → AllByRecursion (λ other. LiesUnder path other → ⊥) others → AllByRecursion (λ other. LiesUnder other path → ⊥) others → AllByRecursion (IsApart path) others
 differ_row path [] differ over under = tt
 differ_row path (other ∷ others) differ over under = (apart_of path other (λ e. differ.0 (ap path_text e)) over.0 under.0, differ_row path others differ.1 over.1 under.1)
 
@@ -155,7 +152,7 @@ apart_from paths others is all e =
 same_text : (path other : List (List ℕ)) → IsPath path → IsPath other → path_text path ≡ path_text other → path ≡ other
 same_text path other is over e = sym (parts_of_path path is) ∙ ap parts_of e ∙ parts_of_path other over
 
-text_row : (path : List (List ℕ)) (others : List (List (List ℕ))) → IsPath path → ArePaths others → AllByRecursion (Apart path) others → AllByRecursion (λ t. path_text path ≢ t) (texts_of others)
+text_row : (path : List (List ℕ)) (others : List (List (List ℕ))) → IsPath path → ArePaths others → AllByRecursion (IsApart path) others → AllByRecursion (λ t. path_text path ≢ t) (texts_of others)
 text_row path [] is all h = tt
 text_row path (other ∷ others) is all h = (λ e. h.0 (inl (same_text path other is all.0 e)), text_row path others is all.1 h.1)
 
@@ -165,8 +162,8 @@ text_rows (path ∷ paths) others is all h = (text_row path others is.0 all h.0,
 
 pub from_apart : (paths others : List (List (List ℕ))) → ArePaths paths → ArePaths others → AreApartFrom paths others → some_cross (texts_of paths) (texts_of others) ≡ false
 from_apart paths others is all h =
-    let over = weaker (λ path. AllByRecursion (Apart path) others) (λ path. AllByRecursion (λ other. LiesUnder path other → ⊥) others) (λ path row. weaker (Apart path) (λ other. LiesUnder path other → ⊥) (λ other apart u. apart (inr (inl u))) others row) paths h in
-    let under = weaker (λ path. AllByRecursion (Apart path) others) (λ path. AllByRecursion (λ other. LiesUnder other path → ⊥) others) (λ path row. weaker (Apart path) (λ other. LiesUnder other path → ⊥) (λ other apart u. apart (inr (inr u))) others row) paths h in
+    let over = weaker (λ path. AllByRecursion (IsApart path) others) (λ path. AllByRecursion (λ other. LiesUnder path other → ⊥) others) (λ path row. weaker (IsApart path) (λ other. LiesUnder path other → ⊥) (λ other apart u. apart (inr (inl u))) others row) paths h in
+    let under = weaker (λ path. AllByRecursion (IsApart path) others) (λ path. AllByRecursion (λ other. LiesUnder other path → ⊥) others) (λ path row. weaker (IsApart path) (λ other. LiesUnder other path → ⊥) (λ other apart u. apart (inr (inr u))) others row) paths h in
     or_neither (share_name (texts_of paths) (texts_of others) || some_under (texts_of paths) (texts_of others)) (some_under (texts_of others) (texts_of paths))
     (or_neither (share_name (texts_of paths) (texts_of others)) (some_under (texts_of paths) (texts_of others))
     (share_name-from (texts_of paths) (texts_of others) (text_rows paths others is all h)) (under_none paths others is all over))
@@ -186,18 +183,18 @@ all_back : {X : Type 0} (P : X → Type 0) (xs ys : List X) → AllByRecursion P
 all_back P [] ys h = h
 all_back P (x ∷ xs) ys h = all_back P xs ys h.1
 
-pub apart_join : (paths others : List (List (List ℕ))) → ArePathsApart paths → ArePathsApart others → AreApartFrom paths others → ArePathsApart (paths ++ others)
+pub apart_join : (paths others : List (List (List ℕ))) → AreApart paths → AreApart others → AreApartFrom paths others → AreApart (paths ++ others)
 apart_join [] others h k from = k
-apart_join (path ∷ paths) others h k from = (all_both (Apart path) paths others h.0 from.0, apart_join paths others h.1 k from.1)
+apart_join (path ∷ paths) others h k from = (all_both (IsApart path) paths others h.0 from.0, apart_join paths others h.1 k from.1)
 
-pub apart_parts : (paths others : List (List (List ℕ))) → ArePathsApart (paths ++ others) → ArePathsApart paths × ArePathsApart others × AreApartFrom paths others
+pub apart_parts : (paths others : List (List (List ℕ))) → AreApart (paths ++ others) → AreApart paths × AreApart others × AreApartFrom paths others
 apart_parts [] others h = (tt, h, tt)
 apart_parts (path ∷ paths) others h =
     let p = apart_parts paths others h.1 in
-    ((all_front (Apart path) paths others h.0, p.0), p.1, (all_back (Apart path) paths others h.0, p.2))
+    ((all_front (IsApart path) paths others h.0, p.0), p.1, (all_back (IsApart path) paths others h.0, p.2))
 
 pub from_join : (paths more others : List (List (List ℕ))) → AreApartFrom paths others → AreApartFrom more others → AreApartFrom (paths ++ more) others
-from_join paths more others h k = all_both (λ path. AllByRecursion (Apart path) others) paths more h k
+from_join paths more others h k = all_both (λ path. AllByRecursion (IsApart path) others) paths more h k
 
 pub from_parts : (paths more others : List (List (List ℕ))) → AreApartFrom (paths ++ more) others → AreApartFrom paths others × AreApartFrom more others
-from_parts paths more others h = (all_front (λ path. AllByRecursion (Apart path) others) paths more h, all_back (λ path. AllByRecursion (Apart path) others) paths more h)
+from_parts paths more others h = (all_front (λ path. AllByRecursion (IsApart path) others) paths more h, all_back (λ path. AllByRecursion (IsApart path) others) paths more h)

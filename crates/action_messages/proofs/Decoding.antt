@@ -15,11 +15,11 @@ use Rattle.messages.specs.declared.error.MessageError.{MessageError}
 use Rattle.messages.specs.declared.error.MessageError.TheVariants.{SameName, Memory}
 use Rattle.messages.specs.Gives.{FailsUnlessMemory, GivesUnlessMemory}
 use Rattle.messages.specs.Order.{bytes_cmp}
-use Rattle.messages.specs.Path.{IsPath, Overlap, parts_of, path_text, text_cmp}
+use Rattle.messages.specs.Path.{IsPath, Overlap, AreApart, IsApart, parts_of, path_text, text_cmp}
 use Rattle.messages.proofs.Orders.{flipped}
 use Rattle.messages.proofs.Paths.{parts_of_path}
 use Rattle.action_messages.specs.Ascending.{IsSortedByText}
-use Rattle.action_messages.specs.Overlaps.{ArePathsApart, texts_of}
+use Rattle.action_messages.specs.Overlaps.{texts_of}
 use Rattle.action_messages.specs.OutputFile.{OutputFileValue, IsOutputFile}
 use Rattle.action_messages.specs.OutputDirectory.{OutputDirectoryValue, IsOutputDirectory}
 use Rattle.action_messages.specs.OutputSymlink.{OutputSymlinkValue, IsOutputSymlink}
@@ -38,27 +38,24 @@ use Rattle.action_messages.proofs.SameOrder.{AscendBy}
 
 -- ---- paths apart, in any order
 
-abbrev Apart : List (List ℕ) → List (List ℕ) → Type 0
-Apart path other = Overlap path other → ⊥
-
 overlaps_back : (path other : List (List ℕ)) → Overlap path other → Overlap other path
 overlaps_back path other (inl e) = inl (sym e)
 overlaps_back path other (inr (inl u)) = inr (inr u)
 overlaps_back path other (inr (inr u)) = inr (inl u)
 
-apart_symmetric : IsSymmetric Apart
+apart_symmetric : IsSymmetric IsApart
 apart_symmetric path other h o = h (overlaps_back other path o)
 
-pairs_of : (paths : List (List (List ℕ))) → ArePathsApart paths → ByPairs Apart paths
+pairs_of : (paths : List (List (List ℕ))) → AreApart paths → ByPairs IsApart paths
 pairs_of [] h = tt
 pairs_of (path ∷ paths) h = (h.0, pairs_of paths h.1)
 
-of_pairs : (paths : List (List (List ℕ))) → ByPairs Apart paths → ArePathsApart paths
+of_pairs : (paths : List (List (List ℕ))) → ByPairs IsApart paths → AreApart paths
 of_pairs [] h = tt
 of_pairs (path ∷ paths) h = (h.0, of_pairs paths h.1)
 
-pub apart_permuted : (paths others : List (List (List ℕ))) → IsPermutation paths others → ArePathsApart paths → ArePathsApart others
-apart_permuted paths others p h = of_pairs others (pairs_permuted Apart apart_symmetric paths others p (pairs_of paths h))
+pub apart_permuted : (paths others : List (List (List ℕ))) → IsPermutation paths others → AreApart paths → AreApart others
+apart_permuted paths others p h = of_pairs others (pairs_permuted IsApart apart_symmetric paths others p (pairs_of paths h))
 
 pub paths_permuted : (u r : ActionResultValue) → IsOrderingOf u r → IsPermutation (output_paths u) (output_paths r)
 paths_permuted u r o =
@@ -70,15 +67,15 @@ paths_permuted u r o =
 
 -- ---- sorted, and so in a strict order
 
-apart_front : (xs ys : List (List (List ℕ))) → ArePathsApart (xs ++ ys) → ArePathsApart xs × ArePathsApart ys
+apart_front : (xs ys : List (List (List ℕ))) → AreApart (xs ++ ys) → AreApart xs × AreApart ys
 apart_front [] ys h = (tt, h)
 apart_front (x ∷ xs) ys h = let rest = apart_front xs ys h.1 in ((all_front xs ys h.0, rest.0), rest.1)
   where
-    all_front : (cs bs : List (List (List ℕ))) → AllByRecursion (Apart x) (cs ++ bs) → AllByRecursion (Apart x) cs
+    all_front : (cs bs : List (List (List ℕ))) → AllByRecursion (IsApart x) (cs ++ bs) → AllByRecursion (IsApart x) cs
     all_front [] bs k = tt
     all_front (c ∷ cs) bs k = (k.0, all_front cs bs k.1)
 
-less_than : (x y : List (List ℕ)) → IsPath x → IsPath y → is_lt (text_cmp y x) ≡ false → Apart x y → bytes_cmp (path_text x) (path_text y) ≡ Less
+less_than : (x y : List (List ℕ)) → IsPath x → IsPath y → is_lt (text_cmp y x) ≡ false → IsApart x y → bytes_cmp (path_text x) (path_text y) ≡ Less
 less_than x y k l not_below apart = by (bytes_cmp (path_text x) (path_text y)) refl
   where
     by : (o : Ordering) → bytes_cmp (path_text x) (path_text y) ≡ o → o ≡ Less
@@ -92,13 +89,13 @@ sorted_rest path x xs h k d lo hi =
     subst (λ (n : ℕ). is_lt (text_cmp (path (get_or (x ∷ xs) n d)) (path (get_or (x ∷ xs) (suc k) d))) ≡ false) next (h (suc k) d (omega arith) (omega (arith, hi)))
 
 -- the first before the others
-first_before : {A : Type 0} (path : A → List (List ℕ)) (x : A) (xs : List A) → IsPath (path x) → ArePaths (map path xs) → ((j : ℕ) (d : A) → j < length xs → is_lt (text_cmp (path (get_or xs j d)) (path x)) ≡ false) → AllByRecursion (Apart (path x)) (map path xs)
+first_before : {A : Type 0} (path : A → List (List ℕ)) (x : A) (xs : List A) → IsPath (path x) → ArePaths (map path xs) → ((j : ℕ) (d : A) → j < length xs → is_lt (text_cmp (path (get_or xs j d)) (path x)) ≡ false) → AllByRecursion (IsApart (path x)) (map path xs)
     → AllByRecursion (λ t. bytes_cmp (path_text (path x)) t ≡ Less) (texts_of (map path xs))
 first_before path x [] k ks far apart = tt
 first_before path x (y ∷ xs) k ks far apart =
     (less_than (path x) (path y) k ks.0 (far 0 y (omega arith)) apart.0, first_before path x xs k ks.1 (λ j d lt. far (suc j) d (omega (arith, lt))) apart.1)
 
-strict_order : {A : Type 0} (path : A → List (List ℕ)) (xs : List A) → ArePaths (map path xs) → IsSortedByText path xs → ArePathsApart (map path xs) → AscendBy path xs
+strict_order : {A : Type 0} (path : A → List (List ℕ)) (xs : List A) → ArePaths (map path xs) → IsSortedByText path xs → AreApart (map path xs) → AscendBy path xs
 strict_order path [] k s h = tt
 strict_order {A} path (x ∷ xs) k s h =
     let lt : A → A → Bool = λ a b. is_lt (text_cmp (path a) (path b)) in
@@ -122,7 +119,7 @@ valid_permuted u r o k = record {
 abbrev paths_of_result : ActionResultValue → Result (Unit {0}) MessageError
 paths_of_result r = paths_checked (file_paths r.files) (directory_paths r.directories) (symlink_paths r.symlinks)
 
-sorted_checked : (u r : ActionResultValue) → IsOrderingOf u r → IsSortedResult r → AreOutputsValid u → ArePathsApart (output_paths u) → paths_of_result r ≡ Ok tt
+sorted_checked : (u r : ActionResultValue) → IsOrderingOf u r → IsSortedResult r → AreOutputsValid u → AreApart (output_paths u) → paths_of_result r ≡ Ok tt
 sorted_checked u r o s k h =
     let l = valid_permuted u r o k in
     let f = file_paths_valid r.files l.files in
@@ -139,7 +136,7 @@ sorted_checked u r o s k h =
     } in
     paths_given (file_paths r.files) (directory_paths r.directories) (symlink_paths r.symlinks) f d y rules
 
-pub overlapping : (u r : ActionResultValue) (e : MessageError) → IsOrderingOf u r → IsSortedResult r → action_result_of r ≡ Err e → AreOutputsValid u → ArePathsApart (output_paths u) → ⊥
+pub overlapping : (u r : ActionResultValue) (e : MessageError) → IsOrderingOf u r → IsSortedResult r → action_result_of r ≡ Err e → AreOutputsValid u → AreApart (output_paths u) → ⊥
 unfolding action_result_of
 overlapping u r e o s refused k h = let no = sym refused ∙ ap (λ (x : Result (Unit {0}) MessageError). x >>= λ _. Ok r) (sorted_checked u r o s k h) in cc
 
@@ -165,7 +162,7 @@ abbrev IsMade : ActionResultValue → ActionResultValue → Type 0
 IsMade u r = IsActionResult r × IsOrderingOf u r
 
 abbrev IsOverlap : ActionResultValue → MessageError → Type 0
-IsOverlap u e = (e ≡ SameName) × (AreOutputsValid u → ArePathsApart (output_paths u) → ⊥)
+IsOverlap u e = (e ≡ SameName) × (AreOutputsValid u → AreApart (output_paths u) → ⊥)
 
 pub found_is : (bytes : List ℕ) (u : ActionResultValue) (r : Result ActionResultValue MessageError) → IsBytes bytes → unordered bytes ≡ Ok u → IfOk r (IsMade u) → IfOk r (λ x. Reads x bytes)
 found_is bytes u (Ok x) fits read made =
@@ -191,7 +188,7 @@ refused_is bytes u (Ok x) fits read h = tt
 refused_is bytes u (Err e) fits read h = let s = unordered_found bytes u fits read in inr (inr (u, read, h.1 (valid_said u s.0 s.2), h.0))
 
 -- what is read as a result is said, and no two of its outputs overlap
-reads_said : (m : ActionResultValue) (bytes : List ℕ) → IsBytes bytes → Reads m bytes → (u : ActionResultValue) × (unordered bytes ≡ Ok u) × ArePathsApart (output_paths u)
+reads_said : (m : ActionResultValue) (bytes : List ℕ) → IsBytes bytes → Reads m bytes → (u : ActionResultValue) × (unordered bytes ≡ Ok u) × AreApart (output_paths u)
 reads_said m bytes fits (rs, spelled, s) =
     let u : ActionResultValue = record { files = s.files.read; directories = s.directories.read; symlinks = s.symlinks.read; exit_code = m.exit_code; stdout = m.stdout; stderr = m.stderr } in
     let o : IsOrderingOf m u = record {
@@ -229,7 +226,7 @@ pub not_refused : (m : ActionResultValue) (bytes : List ℕ) (e : MessageError) 
 not_refused m bytes e fits reads (inl h) = let s = reads_said m bytes fits reads in not_unread bytes s.0 e s.1 h
 not_refused m bytes e fits reads (inr (u, read, overlap, is)) =
     let s = reads_said m bytes fits reads in
-    overlap (subst (λ (x : ActionResultValue). ArePathsApart (output_paths x)) (same_read s.0 u (unordered bytes) s.1 read) s.2)
+    overlap (subst (λ (x : ActionResultValue). AreApart (output_paths x)) (same_read s.0 u (unordered bytes) s.1 read) s.2)
 
 pub refused_once : (d e : MessageError) (bytes : List ℕ) → IsRefusedResult d bytes → IsRefusedResult e bytes → d ≡ e
 refused_once d e bytes (inl (inl h)) (inl (inl k)) = err_is {A = List Record} d e (sym h ∙ k)

@@ -15,8 +15,9 @@ use Rattle.messages.specs.declared.error.MessageError.TheVariants.{SameName}
 use Rattle.messages.specs.Order.{bytes_cmp, IsAscending}
 use Rattle.messages.specs.Shapes.{single, repeated}
 use Rattle.messages.specs.DigestMessage.{digest_bytes}
+use Rattle.messages.specs.Path.{AreApart}
 use Rattle.action_messages.specs.Ascending.{ascending_behind}
-use Rattle.action_messages.specs.Overlaps.{ArePathsApart, some_under, some_cross, texts_of}
+use Rattle.action_messages.specs.Overlaps.{some_under, some_cross, texts_of}
 use Rattle.action_messages.specs.Fields.{refused_unless}
 use Rattle.action_messages.specs.Stream.{StreamValue, IsStream}
 use Rattle.action_messages.specs.OutputFile.{OutputFileValue, IsOutputFile, output_file_bytes}
@@ -48,7 +49,7 @@ pub record AreOutputPaths (files directories symlinks : List (List (List ℕ))) 
   pub files_ascend : IsAscending (texts_of files)
   pub directories_ascend : IsAscending (texts_of directories)
   pub symlinks_ascend : IsAscending (texts_of symlinks)
-  pub apart : ArePathsApart (files ++ directories ++ symlinks)
+  pub apart : AreApart (files ++ directories ++ symlinks)
 
 pub record IsActionResult (r : ActionResultValue) : Type 0 where
   pub files : AllByRecursion IsOutputFile r.files

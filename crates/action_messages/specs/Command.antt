@@ -15,12 +15,12 @@ use Rattle.canonical.specs.Told.{each}
 use Rattle.messages.specs.declared.error.MessageError.{MessageError}
 use Rattle.messages.specs.declared.error.MessageError.TheVariants.{MissingField, BadText, SameName}
 use Rattle.messages.specs.Order.{bytes_cmp, IsAscending, ordered_behind}
-use Rattle.messages.specs.Path.{IsPath, path_of, path_text}
+use Rattle.messages.specs.Path.{IsPath, AreApart, path_of, path_text}
 use Rattle.messages.specs.Shapes.{single, repeated}
 use Rattle.messages.specs.Told.{shape_checked}
 use Rattle.action_messages.specs.Fields.{string_of, refused_unless}
 use Rattle.action_messages.specs.Ascending.{ascending_behind}
-use Rattle.action_messages.specs.Overlaps.{ArePathsApart, some_under, texts_of}
+use Rattle.action_messages.specs.Overlaps.{some_under, texts_of}
 use Rattle.action_messages.specs.Setting.{SettingValue, setting_bytes, decoded_setting}
 
 pub record CommandValue : Type 0 where
@@ -57,7 +57,7 @@ pub record IsCommand (c : CommandValue) : Type 0 where
   pub working_directory : IfSome c.working_directory IsPath
   pub output_paths : AllByRecursion IsPath c.output_paths
   pub outputs_ascend : IsAscending (texts_of c.output_paths)
-  pub outputs_apart : ArePathsApart c.output_paths
+  pub outputs_apart : AreApart c.output_paths
 
 abbrev pub command_shape : List Entry
 command_shape =

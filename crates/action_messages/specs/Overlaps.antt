@@ -1,18 +1,10 @@
--- Paths that stand side by side: none equals another or lies under it.
+-- Whether paths overlap, by their texts; and where a path stands in a list.
 use Rattle.std.specs.Prelude.{◌≡◌, ℕ, ◌≤◌, Bool, false, ◌==◌, ◌&&◌, ◌||◌, List, [], ◌∷◌, map}
 use Rattle.std.specs.Prelude.{length, take, drop, Some, slice_get, Result, Ok, Err}
 use Rattle.std.specs.List.{AllByRecursion, list_any}
 use Rattle.std.specs.declared.cmp.Ordering.TheVariants.{Less, Greater}
 use Rattle.messages.specs.Order.{bytes_cmp, share_name}
-use Rattle.messages.specs.Path.{Overlap, begins_with_slash, path_text}
-
--- no two paths of the list overlap
-abbrev pub ArePathsApart : List (List (List ℕ)) → Type 0
-ArePathsApart [] = Unit {0}
-ArePathsApart (path ∷ paths) =
-    AllByRecursion (λ other. Overlap path other → ⊥) paths × ArePathsApart paths
-
--- ---- the test, by the texts of the paths
+use Rattle.messages.specs.Path.{begins_with_slash, path_text}
 
 -- the text begins with the other, and goes on with a slash
 abbrev pub is_under : List ℕ → List ℕ → Bool

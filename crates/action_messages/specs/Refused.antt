@@ -11,8 +11,8 @@ use Rattle.canonical.specs.Told.{each}
 use Rattle.messages.specs.declared.error.MessageError.{MessageError}
 use Rattle.messages.specs.declared.error.MessageError.TheVariants.{SameName}
 use Rattle.messages.specs.Tolerant.{in_occurrences, alone, any_digest}
+use Rattle.messages.specs.Path.{AreApart}
 use Rattle.action_messages.specs.ActionResult.{ActionResultValue}
-use Rattle.action_messages.specs.Overlaps.{ArePathsApart}
 use Rattle.action_messages.specs.Unordered.{any_output_file, any_output_directory}
 use Rattle.action_messages.specs.Unordered.{any_output_symlink, known_fields, unordered}
 use Rattle.action_messages.specs.Unordered.{output_paths}
@@ -75,7 +75,7 @@ IsUnreadResult e bytes =
 abbrev pub IsOverlapping : MessageError → List ℕ → Type 0
 IsOverlapping e bytes =
     (u : ActionResultValue) × (unordered bytes ≡ Ok u)
-    × (ArePathsApart (output_paths u) → ⊥) × (e ≡ SameName)
+    × (AreApart (output_paths u) → ⊥) × (e ≡ SameName)
 
 abbrev pub IsRefusedResult : MessageError → List ℕ → Type 0
 IsRefusedResult e bytes = IsUnreadResult e bytes ⊎ IsOverlapping e bytes

@@ -8,10 +8,11 @@ ghost use Rattle.messages.specs.DigestMessage.{digest_bytes};
 ghost use Rattle.messages.specs.Gives.{GivesUnlessMemory};
 ghost use Rattle.messages.specs.Order.{IsAscending};
 ghost use Rattle.messages.specs.declared.error.MessageError.TheVariants.{SameName, Memory};
+ghost use Rattle.messages.specs.Path.{AreApart};
 ghost use Rattle.action_messages.specs.Reads.{Reads};
 ghost use Rattle.action_messages.specs.Unordered.{IsOrderingOf, AreOutputsValid, output_paths};
 ghost use Rattle.action_messages.specs.Refused.{IsRefusedResult};
-ghost use Rattle.action_messages.specs.Overlaps.{ArePathsApart, texts_of};
+ghost use Rattle.action_messages.specs.Overlaps.{texts_of};
 ghost use Rattle.action_messages.specs.OutputFile.{IsOutputFile};
 ghost use Rattle.action_messages.specs.OutputDirectory.{IsOutputDirectory};
 ghost use Rattle.action_messages.specs.OutputSymlink.{IsOutputSymlink};
@@ -270,7 +271,7 @@ impl<A: Allocator + Copy> Encode<A> for ActionResult<A> {
 fn ordered<A: Allocator>(read: Unordered<A>) -> Result<ActionResult<A>, MessageError>
     ensures found { IfOk result (λ r. IsActionResult r × IsOrderingOf read r) }
     ensures refused { IfErr result (λ e. (e ≡ SameName)
-        × (AreOutputsValid read → ArePathsApart (output_paths read) → ⊥)) }
+        × (AreOutputsValid read → AreApart (output_paths read) → ⊥)) }
 {
     let Unordered {
         mut files,

@@ -4,10 +4,10 @@ use Rattle.std.specs.Prelude.{ℤ, Contains}
 use Rattle.std.specs.List.{AllByRecursion, insert}
 use Rattle.std.proofs.lemmas.List.{map-append, take-map, drop-map, take-append-drop}
 use Rattle.messages.specs.Order.{bytes_cmp}
-use Rattle.messages.specs.Path.{IsPath}
+use Rattle.messages.specs.Path.{IsPath, AreApart}
 use Rattle.actions.specs.declared.outcome.Output.{Output}
 use Rattle.action_messages.specs.Ascending.{IsAscendingBy}
-use Rattle.action_messages.specs.Overlaps.{ArePathsApart, texts_of}
+use Rattle.action_messages.specs.Overlaps.{texts_of}
 use Rattle.actions.specs.Outcome.{OutcomeValue, IsOutcome, AddsOutput, LeavesNoRoom, output_value, outputs_in, paths_of_outputs}
 use Rattle.actions.specs.Parts.{HasRoom}
 use Rattle.actions.proofs.OutcomeLookups.{paths_in, same_paths, paths_of}
@@ -24,7 +24,7 @@ module _ {A : Type 0} where
       record {
         paths = subst (AllByRecursion IsPath) (sym same) h.1;
         ascend = subst (λ ps. IsAscendingBy bytes_cmp (texts_of ps)) (sym same) h.2;
-        apart = subst ArePathsApart (sym same) h.3;
+        apart = subst AreApart (sym same) h.3;
       }
 
   -- the outcome before and behind, as the code has them

@@ -8,7 +8,7 @@ use Rattle.messages.specs.declared.node.Node.TheVariants.{File, Link, Dir}
 use Rattle.messages.specs.DirectoryRules.{DirectoryValue}
 use Rattle.messages.specs.Directory.{directory_bytes}
 use Rattle.messages.specs.Order.{bytes_cmp}
-use Rattle.messages.specs.Path.{Overlap, path_text}
+use Rattle.messages.specs.Path.{Overlap, AreApart, path_text}
 use Rattle.messages.specs.Node.{child}
 use Rattle.messages.specs.Tree.{TreeValue, IsTree, tree_bytes}
 use Rattle.messages.proofs.Orders.{itself}
@@ -19,7 +19,6 @@ use Rattle.tree.specs.Lookup.{Looked, LooksFrom}
 use Rattle.tree.proofs.LookupOnce.{told_or_fault, fault_once}
 use Rattle.actions.specs.declared.outcome.Output.TheVariants as outputs
 use Rattle.action_messages.specs.Ascending.{IsAscendingBy}
-use Rattle.action_messages.specs.Overlaps.{ArePathsApart}
 use Rattle.action_messages.specs.OutputFile.{OutputFileValue}
 use Rattle.action_messages.specs.OutputSymlink.{OutputSymlinkValue}
 use Rattle.action_messages.specs.OutputDirectory.{OutputDirectoryValue}
@@ -207,7 +206,7 @@ same_rest : (a q r : List (List ℕ)) → a ++ q ≡ a ++ r → q ≡ r
 same_rest [] q r e = e
 same_rest (n ∷ a) q r e = let tails : a ++ q ≡ a ++ r = cc in same_rest a q r tails
 
-one_output : (es : List (List (List ℕ) × OutputValue)) (e f : List (List ℕ) × OutputValue) → ArePathsApart (paths_of_outputs es) → Contains es e → Contains es f → Overlap e.0 f.0 → e ≡ f
+one_output : (es : List (List (List ℕ) × OutputValue)) (e f : List (List ℕ) × OutputValue) → AreApart (paths_of_outputs es) → Contains es e → Contains es f → Overlap e.0 f.0 → e ≡ f
 one_output [] e f apart (k, lt, is) g o = absurd (omega arith)
 one_output (x ∷ es) e f apart (zero, lt, is) (zero, mt, at) o = sym is ∙ at
 one_output (x ∷ es) e f apart (zero, lt, is) (suc j, mt, at) o =

@@ -2,9 +2,9 @@
 use Rattle.std.proofs.Common.{◌≡◌, ℕ, List, [], ◌∷◌, ◌++◌, map, refl, sym, ap, subst, ◌∙◌, inl, inr}
 use Rattle.std.specs.Prelude.{ℤ}
 use Rattle.std.specs.List.{AllByRecursion}
-use Rattle.messages.specs.Path.{IsPath}
+use Rattle.messages.specs.Path.{IsPath, AreApart, IsApart}
 use Rattle.blob_source.specs.Source.{Blobs}
-use Rattle.action_messages.specs.Overlaps.{ArePathsApart, texts_of}
+use Rattle.action_messages.specs.Overlaps.{texts_of}
 use Rattle.messages.specs.Order.{bytes_cmp}
 use Rattle.action_messages.specs.Ascending.{IsAscendingBy}
 use Rattle.action_messages.specs.OutputFile.{IsOutputFile}
@@ -14,9 +14,9 @@ use Rattle.action_messages.specs.ActionResult.{ActionResultValue, IsActionResult
 use Rattle.actions.specs.Outcome.{OutputValue, OutcomeValue, IsOutcome, paths_of_outputs}
 use Rattle.action_messages.specs.Outputs.{RecordedValue, file, directory, link, recorded_path, files_among, directories_among, links_among, AreOutputs}
 use Rattle.actions.specs.Recorded.{StandForAll, IsRecorded}
-use Rattle.action_messages.proofs.Apart.{Apart, AreApartFrom, firsts, rests, weaker, apart_parts, from_parts}
+use Rattle.action_messages.proofs.Apart.{AreApartFrom, firsts, rests, weaker, apart_parts, from_parts}
 
-pub apart_back : (p q : List (List ℕ)) → Apart p q → Apart q p
+pub apart_back : (p q : List (List ℕ)) → IsApart p q → IsApart q p
 apart_back p q h (inl e) = h (inl (sym e))
 apart_back p q h (inr (inl u)) = h (inr (inr u))
 apart_back p q h (inr (inr u)) = h (inr (inl u))
@@ -28,28 +28,28 @@ valid_paths (directory x ∷ xs) f d l = (d.0.path, valid_paths xs f d.1 l)
 valid_paths (link x ∷ xs) f d l = (l.0.path, valid_paths xs f d l.1)
 
 -- a path apart from those of each kind
-row : (p : List (List ℕ)) (xs : List RecordedValue) → AllByRecursion (Apart p) (file_paths (files_among xs)) → AllByRecursion (Apart p) (directory_paths (directories_among xs)) → AllByRecursion (Apart p) (symlink_paths (links_among xs)) → AllByRecursion (Apart p) (map recorded_path xs)
+row : (p : List (List ℕ)) (xs : List RecordedValue) → AllByRecursion (IsApart p) (file_paths (files_among xs)) → AllByRecursion (IsApart p) (directory_paths (directories_among xs)) → AllByRecursion (IsApart p) (symlink_paths (links_among xs)) → AllByRecursion (IsApart p) (map recorded_path xs)
 row p [] f d l = tt
 row p (file x ∷ xs) f d l = (f.0, row p xs f.1 d l)
 row p (directory x ∷ xs) f d l = (d.0, row p xs f d.1 l)
 row p (link x ∷ xs) f d l = (l.0, row p xs f d l.1)
 
-column : (p : List (List ℕ)) (ps others : List (List (List ℕ))) → AreApartFrom others (p ∷ ps) → AllByRecursion (Apart p) others
-column p ps others h = weaker (λ q. Apart q p) (Apart p) (λ q a. apart_back q p a) others (firsts Apart p ps others h)
+column : (p : List (List ℕ)) (ps others : List (List (List ℕ))) → AreApartFrom others (p ∷ ps) → AllByRecursion (IsApart p) others
+column p ps others h = weaker (λ q. IsApart q p) (IsApart p) (λ q a. apart_back q p a) others (firsts IsApart p ps others h)
 
-all_apart : (xs : List RecordedValue) → ArePathsApart (file_paths (files_among xs)) → ArePathsApart (directory_paths (directories_among xs)) → ArePathsApart (symlink_paths (links_among xs))
-    → AreApartFrom (file_paths (files_among xs)) (directory_paths (directories_among xs)) → AreApartFrom (file_paths (files_among xs)) (symlink_paths (links_among xs)) → AreApartFrom (directory_paths (directories_among xs)) (symlink_paths (links_among xs)) → ArePathsApart (map recorded_path xs)
+all_apart : (xs : List RecordedValue) → AreApart (file_paths (files_among xs)) → AreApart (directory_paths (directories_among xs)) → AreApart (symlink_paths (links_among xs))
+    → AreApartFrom (file_paths (files_among xs)) (directory_paths (directories_among xs)) → AreApartFrom (file_paths (files_among xs)) (symlink_paths (links_among xs)) → AreApartFrom (directory_paths (directories_among xs)) (symlink_paths (links_among xs)) → AreApart (map recorded_path xs)
 all_apart [] f d l fd fl dl = tt
 all_apart (file x ∷ xs) f d l fd fl dl = (row x.path xs f.0 fd.0 fl.0, all_apart xs f.1 d l fd.1 fl.1 dl)
 all_apart (directory x ∷ xs) f d l fd fl dl =
     let F = file_paths (files_among xs) in
     let D = directory_paths (directories_among xs) in
-    (row x.path xs (column x.path D F fd) d.0 dl.0, all_apart xs f d.1 l (rests Apart x.path D F fd) fl dl.1)
+    (row x.path xs (column x.path D F fd) d.0 dl.0, all_apart xs f d.1 l (rests IsApart x.path D F fd) fl dl.1)
 all_apart (link x ∷ xs) f d l fd fl dl =
     let F = file_paths (files_among xs) in
     let D = directory_paths (directories_among xs) in
     let L = symlink_paths (links_among xs) in
-    (row x.path xs (column x.path L F fl) (column x.path L D dl) l.0, all_apart xs f d l.1 fd (rests Apart x.path L F fl) (rests Apart x.path L D dl))
+    (row x.path xs (column x.path L F fl) (column x.path L D dl) l.0, all_apart xs f d l.1 fd (rests IsApart x.path L F fl) (rests IsApart x.path L D dl))
 
 -- the paths are those of the result
 same_paths : (B : Blobs) (xs : List RecordedValue) (es : List (List (List ℕ) × OutputValue)) → StandForAll B xs es → paths_of_outputs es ≡ map recorded_path xs
@@ -70,10 +70,10 @@ valid_outcome B r xs es code k all stand =
     record {
       paths = subst (AllByRecursion IsPath) (sym same) (valid_paths xs (subst (AllByRecursion IsOutputFile) (sym all.files) k.files) (subst (AllByRecursion IsOutputDirectory) (sym all.directories) k.directories) (subst (AllByRecursion IsOutputSymlink) (sym all.symlinks) k.symlinks));
       ascend = subst (λ ps. IsAscendingBy bytes_cmp (texts_of ps)) (sym same) all.ascend;
-      apart = subst ArePathsApart (sym same) (all_apart xs
-          (subst (λ ys. ArePathsApart (file_paths ys)) (sym all.files) both.0)
-          (subst (λ ys. ArePathsApart (directory_paths ys)) (sym all.directories) both.1)
-          (subst (λ ys. ArePathsApart (symlink_paths ys)) (sym all.symlinks) whole.1)
+      apart = subst AreApart (sym same) (all_apart xs
+          (subst (λ ys. AreApart (file_paths ys)) (sym all.files) both.0)
+          (subst (λ ys. AreApart (directory_paths ys)) (sym all.directories) both.1)
+          (subst (λ ys. AreApart (symlink_paths ys)) (sym all.symlinks) whole.1)
           (rw (all.files, all.directories) both.2) (rw (all.files, all.symlinks) crossed.0) (rw (all.directories, all.symlinks) crossed.1));
     }
 

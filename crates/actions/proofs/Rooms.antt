@@ -12,14 +12,14 @@ use Rattle.std.specs.Cmp.{nat_cmp_total}
 use Rattle.std.proofs.lemmas.Cmp.{tied_itself}
 use Rattle.std.proofs.lemmas.Bool.{eqb-true, eq-eqb}
 use Rattle.messages.specs.Order.{bytes_cmp, has_name}
-use Rattle.messages.specs.Path.{IsPath, LiesUnder, path_text, parts_of}
+use Rattle.messages.specs.Path.{IsPath, LiesUnder, AreApart, IsApart, path_text, parts_of}
 use Rattle.messages.proofs.Choices.{or_false}
 use Rattle.messages.proofs.Orders.{flipped}
 use Rattle.messages.proofs.Paths.{parts_of_path}
 use Rattle.action_messages.specs.Ascending.{IsAscendingBy}
-use Rattle.action_messages.specs.Overlaps.{ArePathsApart, IsPlace, is_under, lies_under_some, texts_of}
+use Rattle.action_messages.specs.Overlaps.{IsPlace, is_under, lies_under_some, texts_of}
 use Rattle.actions.specs.Parts.{HasRoom}
-use Rattle.action_messages.proofs.Apart.{Apart, ArePaths, weaker, row_none, text_under, under_text, apart_of}
+use Rattle.action_messages.proofs.Apart.{ArePaths, weaker, row_none, text_under, under_text, apart_of}
 use Rattle.actions.proofs.Outcomes.{apart_back}
 use Rattle.actions.proofs.PathLookups.{path_at, not_listed, row_same}
 use Rattle.action_messages.proofs.Searches.{texts_in, AllCompare, is_under-split, is_under-seam}
@@ -172,9 +172,9 @@ inserted_ascends t [] back up before after = (weaker (λ u. bytes_cmp u t ≡ Gr
 inserted_ascends t (s ∷ front) back up before after =
     (all_between (λ u. bytes_cmp s u ≡ Less) front back t up.0 before.0, inserted_ascends t front back up.1 before.1 after)
 
-pub inserted_apart : (p : List (List ℕ)) (front back : List (List (List ℕ))) → ArePathsApart (front ++ back) → AllByRecursion (Apart p) (front ++ back) → ArePathsApart (front ++ p ∷ back)
+pub inserted_apart : (p : List (List ℕ)) (front back : List (List (List ℕ))) → AreApart (front ++ back) → AllByRecursion (IsApart p) (front ++ back) → AreApart (front ++ p ∷ back)
 inserted_apart p [] back apart all = (all, apart)
-inserted_apart p (q ∷ front) back apart all = (all_between (Apart q) front back p apart.0 (apart_back p q all.0), inserted_apart p front back apart.1 all.1)
+inserted_apart p (q ∷ front) back apart all = (all_between (IsApart q) front back p apart.0 (apart_back p q all.0), inserted_apart p front back apart.1 all.1)
 
 inserted_texts : (p : List (List ℕ)) (n : ℕ) (paths : List (List (List ℕ))) → texts_of (insert paths n p) ≡ take n (texts_of paths) ++ path_text p ∷ drop n (texts_of paths)
 inserted_texts p n paths =
@@ -202,7 +202,7 @@ none_above path (other ∷ paths) is h =
     let o = or_false (is_under (path_text other) (path_text path)) (list_any (λ t. is_under t (path_text path)) (texts_of paths)) h in
     ((λ u. let yes = under_text other path is u in let no_one = o.0 in cc), none_above path paths is o.1)
 
-apart_all : (path : List (List ℕ)) (paths : List (List (List ℕ))) → AllByRecursion (λ other. path ≢ other) paths → AllByRecursion (λ other. LiesUnder path other → ⊥) paths → AllByRecursion (λ other. LiesUnder other path → ⊥) paths → AllByRecursion (Apart path) paths
+apart_all : (path : List (List ℕ)) (paths : List (List (List ℕ))) → AllByRecursion (λ other. path ≢ other) paths → AllByRecursion (λ other. LiesUnder path other → ⊥) paths → AllByRecursion (λ other. LiesUnder other path → ⊥) paths → AllByRecursion (IsApart path) paths
 apart_all path [] differ over under = tt
 apart_all path (other ∷ paths) differ over under = (apart_of path other differ.0 over.0 under.0, apart_all path paths differ.1 over.1 under.1)
 
@@ -213,7 +213,7 @@ module _ (paths : List (List (List ℕ))) (path : List (List ℕ)) (text : List 
       let same : parts_of text ≡ path = ap parts_of value ∙ parts_of_path path is in
       (path, holds_at paths n path (at ∙ ap Some same), inl refl)
 
-  pub room : (n : ℕ) (over below : Bool) → IsAscendingBy bytes_cmp (texts_of paths) → ArePathsApart paths → IsPlace (texts_of paths) text (Err n) → over ≡ lies_under_some (texts_of paths) text → below ≡ list_any (λ t. is_under t text) (texts_of paths) → HasRoom paths path (cond (over || below) None (Some n))
+  pub room : (n : ℕ) (over below : Bool) → IsAscendingBy bytes_cmp (texts_of paths) → AreApart paths → IsPlace (texts_of paths) text (Err n) → over ≡ lies_under_some (texts_of paths) text → below ≡ list_any (λ t. is_under t text) (texts_of paths) → HasRoom paths path (cond (over || below) None (Some n))
   room n true below up apart place o b =
       let w = witness (λ t. is_under text t) paths (sym o) in
       let lies : LiesUnder path w.0 = text_under path w.0 is (all_at IsPath paths w.0 all w.1) (subst (λ t. is_under t (path_text w.0) ≡ true) value w.2) in
@@ -232,5 +232,5 @@ module _ (paths : List (List (List ℕ))) (path : List (List ℕ)) (text : List 
         omega (arith, place.0, length-map paths path_text),
         all_between IsPath (take n paths) (drop n paths) path (subst ArePaths (sym whole_list) all) is,
         subst (IsAscendingBy bytes_cmp) (sym (inserted_texts path n paths)) ascends,
-        inserted_apart path (take n paths) (drop n paths) (subst ArePathsApart (sym whole_list) apart) (subst (AllByRecursion (Apart path)) (sym whole_list) free),
+        inserted_apart path (take n paths) (drop n paths) (subst AreApart (sym whole_list) apart) (subst (AllByRecursion (IsApart path)) (sym whole_list) free),
       )

@@ -5,7 +5,7 @@ use Rattle.std.specs.Prelude.{Contains}
 use Rattle.std.specs.List.{AllByRecursion}
 use Rattle.blob_digest.specs.Digest.{digest_of}
 use Rattle.messages.specs.Order.{bytes_cmp}
-use Rattle.messages.specs.Path.{IsPath, Overlap as OverlapEachOther}
+use Rattle.messages.specs.Path.{IsPath, Overlap as OverlapEachOther, AreApart}
 use Rattle.messages.specs.declared.node.Node.TheVariants as nodes
 use Rattle.messages.specs.Directory.{directory_bytes}
 use Rattle.messages.specs.Tree.{TreeValue}
@@ -15,7 +15,7 @@ use Rattle.tree.specs.declared.error.AddError.TheVariants.{Overlap, Memory}
 use Rattle.actions.specs.declared.outcome.Output.{Output}
 use Rattle.actions.specs.declared.outcome.Output.TheVariants.{File, Link, Tree}
 use Rattle.action_messages.specs.Ascending.{IsAscendingBy}
-use Rattle.action_messages.specs.Overlaps.{ArePathsApart, texts_of}
+use Rattle.action_messages.specs.Overlaps.{texts_of}
 
 -- an output, whatever allocator holds it
 abbrev pub OutputValue : Type 0
@@ -42,7 +42,7 @@ paths_of_outputs outputs = map (λ e. e.0) outputs
 pub record IsOutcome (o : OutcomeValue) : Type 0 where
   pub paths : AllByRecursion IsPath (paths_of_outputs o.outputs)
   pub ascend : IsAscendingBy bytes_cmp (texts_of (paths_of_outputs o.outputs))
-  pub apart : ArePathsApart (paths_of_outputs o.outputs)
+  pub apart : AreApart (paths_of_outputs o.outputs)
 
 -- ---- by digests
 

@@ -6,14 +6,14 @@ use Rattle.std.specs.List.{AllByRecursion, insert}
 use Rattle.blob_digest.specs.Digest.{DigestValue}
 use Rattle.messages.specs.DirectoryRules.{DirectoryValue}
 use Rattle.messages.specs.Order.{bytes_cmp}
-use Rattle.messages.specs.Path.{IsPath, Overlap, parts_of}
+use Rattle.messages.specs.Path.{IsPath, Overlap, AreApart, parts_of}
 use Rattle.messages.specs.declared.node.Node.{Node}
 use Rattle.messages.specs.declared.node.Node.TheVariants.{Dir}
 use Rattle.messages.specs.Tree.{TreeValue, child_digests}
 use Rattle.messages.specs.Node.{child}
 use Rattle.tree.specs.Lookup.{Looked, LooksFrom}
 use Rattle.action_messages.specs.Ascending.{IsAscendingBy}
-use Rattle.action_messages.specs.Overlaps.{ArePathsApart, texts_of}
+use Rattle.action_messages.specs.Overlaps.{texts_of}
 use Rattle.actions.specs.declared.looking_up.Over.{Over}
 use Rattle.actions.specs.OutcomeLookup.{IsFirstChild, NoFault, StandsOver}
 
@@ -51,4 +51,4 @@ HasRoom paths path None =
 HasRoom paths path (Some place) =
     (place ≤ length paths) × AllByRecursion IsPath (insert paths place path)
     × IsAscendingBy bytes_cmp (texts_of (insert paths place path))
-    × ArePathsApart (insert paths place path)
+    × AreApart (insert paths place path)

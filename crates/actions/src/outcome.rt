@@ -1,9 +1,9 @@
 ghost use Rattle.std.specs.Prelude.{◌≡◌, [], map, IfOk, IfErr, IfSome, IsErrOf, OnOk, OnErr};
 ghost use Rattle.std.specs.List.{AllByRecursion, list_any};
 ghost use Rattle.messages.specs.Order.{bytes_cmp};
-ghost use Rattle.messages.specs.Path.{IsPath};
+ghost use Rattle.messages.specs.Path.{IsPath, AreApart};
 ghost use Rattle.action_messages.specs.Ascending.{IsAscendingBy};
-ghost use Rattle.action_messages.specs.Overlaps.{ArePathsApart, is_under, texts_of};
+ghost use Rattle.action_messages.specs.Overlaps.{is_under, texts_of};
 ghost use Rattle.actions.specs.Outcome.{IsOutcome, AddsOutput, ExplainsAdd, output_value};
 ghost use Rattle.actions.specs.Outcome.{outputs_in};
 ghost use Rattle.actions.specs.OutcomeLookup.{StandsOver};
@@ -115,7 +115,7 @@ fn room_for<A: Allocator + Copy>(
 ) -> Result<Option<usize>, AllocError>
     requires ascend { IsAscendingBy bytes_cmp (texts_of (map (λ e. e.0) outputs.now)) }
     requires valid { AllByRecursion IsPath (map (λ e. e.0) outputs.now) }
-    requires apart { ArePathsApart (map (λ e. e.0) outputs.now) }
+    requires apart { AreApart (map (λ e. e.0) outputs.now) }
     ensures room { IfOk result (HasRoom (map (λ e. e.0) outputs.now) path.now) }
     ensures above { IfOk result (λ o. IfSome o (λ _.
         AllByRecursion (λ above. ¬ StandsOver above path.now) (map (λ e. e.0) outputs.now))) }

@@ -32,6 +32,15 @@ LiesUnder path above = (name : List ℕ) × (rest : List (List ℕ)) × (path �
 abbrev pub Overlap : List (List ℕ) → List (List ℕ) → Type 0
 Overlap path other = (path ≡ other) ⊎ (LiesUnder path other ⊎ LiesUnder other path)
 
+-- paths that do not overlap
+abbrev pub IsApart : List (List ℕ) → List (List ℕ) → Type 0
+IsApart path other = Overlap path other → ⊥
+
+-- no two paths of the list overlap
+abbrev pub AreApart : List (List (List ℕ)) → Type 0
+AreApart [] = Unit {0}
+AreApart (path ∷ paths) = AllByRecursion (λ other. IsApart path other) paths × AreApart paths
+
 -- The order of paths as text: that of the bytes of their texts, not that of their names.
 abbrev pub text_cmp : List (List ℕ) → List (List ℕ) → Ordering
 text_cmp path other = bytes_cmp (path_text path) (path_text other)

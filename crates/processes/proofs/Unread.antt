@@ -4,7 +4,6 @@ use Rattle.std.specs.Prelude.{◌⊎◌, Contains, map}
 use Rattle.std.specs.List.{AllByRecursion}
 use Rattle.std.specs.declared.vec.Vec.{Vec}
 use Rattle.std.proofs.lemmas.List.{map-append, take-append-le}
-use Rattle.action_messages.specs.Overlaps.{ArePathsApart}
 use Rattle.actions.specs.Outcome.{ExplainsAdd, LeavesNoRoom, OutcomeValue, paths_of_outputs}
 use Rattle.std.specs.declared.io.Error.{Error}
 use Rattle.std.specs.declared.io.ErrorKind.TheVariants.{InvalidData}
@@ -13,7 +12,7 @@ use Rattle.actions.proofs.TreeLookups.{all_at}
 use Rattle.messages.specs.Directory.{directory_bytes}
 use Rattle.messages.specs.DirectoryRules.{DirectoryValue, IsDirectory}
 use Rattle.messages.specs.Gives.{FailsUnlessMemory}
-use Rattle.messages.specs.Path.{Overlap}
+use Rattle.messages.specs.Path.{Overlap, AreApart}
 use Rattle.messages.specs.Tree.{IsTree, TreeValue, tree_with}
 use Rattle.messages.specs.declared.error.MessageError.{MessageError}
 use Rattle.messages.specs.declared.error.MessageError.TheVariants as messages
@@ -113,7 +112,7 @@ none_made root children bs e t valid bytes (inr other) only = inr (λ m tree sam
 
 -- ---- paths that overlap
 
-pub not_apart : (paths : List (List Name)) (i : ℕ) (path other : List Name) → i < length paths → path ≡ get_or paths i path → Contains (take i paths) other → Overlap other path → ArePathsApart paths → ⊥
+pub not_apart : (paths : List (List Name)) (i : ℕ) (path other : List Name) → i < length paths → path ≡ get_or paths i path → Contains (take i paths) other → Overlap other path → AreApart paths → ⊥
 not_apart [] i path other lt is among over apart = omega (arith, lt)
 not_apart (p ∷ ps) zero path other lt is (k, less, at) over apart = omega (arith, less)
 not_apart (p ∷ ps) (suc i) path other lt is (zero, less, at) over apart =

@@ -7,9 +7,8 @@ use Rattle.std.specs.declared.io.ErrorKind.TheVariants.{InvalidData}
 use Rattle.std.specs.List.{AllByRecursion}
 use Rattle.blob_digest.specs.Digest.{DigestValue, digest_of}
 use Rattle.messages.specs.Name.{IsName}
-use Rattle.messages.specs.Path.{path_text}
+use Rattle.messages.specs.Path.{AreApart, path_text}
 use Rattle.messages.specs.Tree.{IsTree, TreeValue}
-use Rattle.action_messages.specs.Overlaps.{ArePathsApart}
 use Rattle.messages.specs.declared.node.Node.TheVariants as nodes
 use Rattle.tree.specs.Tree.{Name, Standing, nothing, a_leaf, a_directory, Tree, IsOrdered}
 use Rattle.tree.specs.Tree.{stands_at}
@@ -201,7 +200,7 @@ IsUnreadFolder works ended error = works.unread ended error
 -- overlap, as those of no command do.
 abbrev pub IsUnread : {R C E : Type 0} → Works R C E → E → List (List (List ℕ)) → Error → Type 0
 IsUnread works ended paths error = IsUnreadFolder works ended error
-    ⊎ ((error_kind error ≡ InvalidData) × (ArePathsApart paths → ⊥))
+    ⊎ ((error_kind error ≡ InvalidData) × (AreApart paths → ⊥))
 
 -- ---- one path more
 

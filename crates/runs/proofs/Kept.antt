@@ -5,7 +5,7 @@ use Rattle.std.specs.List.{AllByRecursion}
 use Rattle.std.specs.declared.cmp.Ordering.TheVariants.{Less}
 use Rattle.blob_digest.specs.Digest.{DigestValue, digest_of}
 use Rattle.messages.specs.Order.{bytes_cmp}
-use Rattle.messages.specs.Path.{IsPath, path_text}
+use Rattle.messages.specs.Path.{IsPath, AreApart, IsApart, path_text}
 use Rattle.messages.specs.Tree.{TreeValue, tree_bytes}
 use Rattle.actions.specs.declared.outcome.Output.{Output}
 use Rattle.actions.specs.declared.outcome.Output.TheVariants as outputs
@@ -15,11 +15,10 @@ use Rattle.actions.specs.Outcome.{OutputValue, OutcomeValue, IsOutcome, paths_of
 use Rattle.action_messages.specs.OutputDirectory.{OutputDirectoryValue}
 use Rattle.action_messages.specs.OutputFile.{OutputFileValue}
 use Rattle.action_messages.specs.OutputSymlink.{OutputSymlinkValue}
-use Rattle.action_messages.specs.Overlaps.{ArePathsApart, texts_of}
+use Rattle.action_messages.specs.Overlaps.{texts_of}
 use Rattle.action_messages.specs.Stream.{StreamValue}
 use Rattle.action_messages.specs.Outputs.{RecordedValue, file, directory, link, recorded_path, files_among, directories_among, links_among}
 use Rattle.actions.specs.Recorded.{StandForAll, IsRecorded}
-use Rattle.action_messages.proofs.Apart.{Apart}
 use Rattle.action_messages.proofs.Results.{paths_given}
 use Rattle.actions.proofs.TreeLookups.{behind}
 use Rattle.actions.proofs.Rooms.{inserted_apart}
@@ -101,17 +100,17 @@ by_kind P xs h =
     all_join P (file_paths (files_among xs) ++ directory_paths (directories_among xs)) (symlink_paths (links_among xs))
     (all_join P (file_paths (files_among xs)) (directory_paths (directories_among xs)) (files_in P xs h) (directories_in P xs h)) (links_in P xs h)
 
-kinds_apart : (xs : List RecordedValue) → ArePathsApart (map recorded_path xs) → ArePathsApart (paths_by_kind xs)
+kinds_apart : (xs : List RecordedValue) → AreApart (map recorded_path xs) → AreApart (paths_by_kind xs)
 kinds_apart [] h = tt
-kinds_apart (file x ∷ xs) h = (by_kind (Apart x.path) xs h.0, kinds_apart xs h.1)
+kinds_apart (file x ∷ xs) h = (by_kind (IsApart x.path) xs h.0, kinds_apart xs h.1)
 kinds_apart (directory x ∷ xs) h =
     let f = file_paths (files_among xs) in
     let d = directory_paths (directories_among xs) in
     let l = symlink_paths (links_among xs) in
     let back = append_assoc f d l in
-    subst ArePathsApart (sym (append_assoc f (x.path ∷ d) l))
-    (inserted_apart x.path f (d ++ l) (subst ArePathsApart back (kinds_apart xs h.1)) (subst (AllByRecursion (Apart x.path)) back (by_kind (Apart x.path) xs h.0)))
-kinds_apart (link x ∷ xs) h = inserted_apart x.path (file_paths (files_among xs) ++ directory_paths (directories_among xs)) (symlink_paths (links_among xs)) (kinds_apart xs h.1) (by_kind (Apart x.path) xs h.0)
+    subst AreApart (sym (append_assoc f (x.path ∷ d) l))
+    (inserted_apart x.path f (d ++ l) (subst AreApart back (kinds_apart xs h.1)) (subst (AllByRecursion (IsApart x.path)) back (by_kind (IsApart x.path) xs h.0)))
+kinds_apart (link x ∷ xs) h = inserted_apart x.path (file_paths (files_among xs) ++ directory_paths (directories_among xs)) (symlink_paths (links_among xs)) (kinds_apart xs h.1) (by_kind (IsApart x.path) xs h.0)
 
 -- ---- the result of an outcome
 
@@ -133,7 +132,7 @@ kept_paths o is =
       files_ascend = files_ascend xs up;
       directories_ascend = directories_ascend xs up;
       symlinks_ascend = links_ascend xs up;
-      apart = kinds_apart xs (subst ArePathsApart same is.apart);
+      apart = kinds_apart xs (subst AreApart same is.apart);
     }
 
 -- the paths of each kind are valid

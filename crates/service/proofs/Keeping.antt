@@ -10,7 +10,7 @@ use Rattle.std.specs.Prelude.{Ok, Err, option_map, ⊤}
 use Rattle.cache_server.specs.Server.{ServerValue, ServerStands, IsOpenAt, session_at}
 use Rattle.cache_server.specs.declared.error.ConnError.TheVariants.{Memory, ReadFault}
 use Rattle.service.specs.Sockets.{Cause, EndsAs, Failed, Finished, Shut, Silent, Why}
-use Rattle.service.specs.Talks.{entry_number, AreApart, IsShut, IsReason, OrCutOff, HasEnded, AreBelow, ServesEach}
+use Rattle.service.specs.Talks.{entry_number, AreOfOthers, IsShut, IsReason, OrCutOff, HasEnded, AreBelow, ServesEach}
 use Rattle.service.specs.Talks as talks
 use Rattle.service.specs.Member.{MemberValue, TalksOn, MayEndNow, AreOf, HasMovedOn, let_go, new_member, marked_by}
 use Rattle.service.specs.Together.{member_at, TalksOrEnded, KeepsTogether, GoesOnTogether, AreSame, AreSameButHeld, AreMarkedBy, OthersAreSame, MovesOnAt, MayEndAt, EntersAt, EndsAt, EndsIfAny}
@@ -19,7 +19,7 @@ use Rattle.service.proofs.Talking.{apart_from_own, holds_apart, ended_before, an
 
 -- ---- numbers below a count
 
-apart_from_below : (k : ℕ) (entries : List HistoryEntry) → AreBelow k entries → AreApart k entries
+apart_from_below : (k : ℕ) (entries : List HistoryEntry) → AreBelow k entries → AreOfOthers k entries
 apart_from_below k [] t = tt
 apart_from_below k (e ∷ es) (b, bs) = (λ (x : entry_number e ≡ k). let c : k < k = subst (λ (z : ℕ). z < k) x b in absurd (omega arith), apart_from_below k es bs)
 
@@ -153,7 +153,7 @@ module _ {S : Type 0} (cut : Bool) (spoke : ℕ → S → List ℕ → List ℕ 
     holds_at members accepted server k m keeps e =
         subst (TalksOrEnded cut spoke ended lost prefix opening history keeps.entries k) e (keeps.each k (is_open members accepted server k m keeps e))
 
-    either_apart : (j : ℕ) (o : Option (MemberValue S)) (more entries : List HistoryEntry) → AreApart j more
+    either_apart : (j : ℕ) (o : Option (MemberValue S)) (more entries : List HistoryEntry) → AreOfOthers j more
         → TalksOrEnded cut spoke ended lost prefix opening history entries j o → TalksOrEnded cut spoke ended lost prefix opening history (entries ++ more) j o
     either_apart j None more entries ns h = ended_before prefix opening history cut ended lost j more entries ns h
     either_apart j (Some m) more entries ns h = holds_apart prefix opening history spoke j more entries m ns h

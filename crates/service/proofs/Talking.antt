@@ -20,7 +20,7 @@ use Rattle.cache_server.specs.declared.error.ConnError.TheVariants.{ReadFault, W
 use Rattle.cache_server.specs.declared.error.ConnError.{ConnError}
 use Rattle.service.specs.Sockets.{Cause, Failed, Finished, IsBroken, ReadsFrom, SendsTo, Shut, Stays, Why}
 use Rattle.std.specs.declared.io.Error.{Error}
-use Rattle.service.specs.Talks.{entry_number, fault_of_silence, AreApart, Answered, Talks, IsShut, IsReason, HasEnded}
+use Rattle.service.specs.Talks.{entry_number, fault_of_silence, AreOfOthers, Answered, Talks, IsShut, IsReason, HasEnded}
 use Rattle.service.specs.Talks as talks
 use Rattle.service.specs.Member.{MemberValue, unsent_of, TalksOn, MayEndNow, FailsFor, GoesAfter, EndsWell, TalksOnUnless, AreOf, HasMovedOn, MovesOn, Passes, PassesSent, end_of}
 use Rattle.service.specs.declared.turn.Turn.{Turn}
@@ -31,23 +31,23 @@ not_both b e f = let g : false ≡ true = sym e ∙ f in cc
 
 -- ---- entries of other connections
 
-pub apart_from_own : (k j : ℕ) (entries : List HistoryEntry) → (j ≡ k → ⊥) → AreOf k entries → AreApart j entries
+pub apart_from_own : (k j : ℕ) (entries : List HistoryEntry) → (j ≡ k → ⊥) → AreOf k entries → AreOfOthers j entries
 apart_from_own k j [] n t = tt
 apart_from_own k j (e ∷ es) n (o, os) = (λ (x : entry_number e ≡ j). n (sym x ∙ o), apart_from_own k j es n os)
 
-both_apart : (k : ℕ) (some more : List HistoryEntry) → AreApart k some → AreApart k more → AreApart k (some ++ more)
+both_apart : (k : ℕ) (some more : List HistoryEntry) → AreOfOthers k some → AreOfOthers k more → AreOfOthers k (some ++ more)
 both_apart k [] more t ns = ns
 both_apart k (e ∷ some) more (n, ts) ns = (n, both_apart k some more ts ns)
 
 module _ (prefix : List ℕ) (opening : CacheValue) (history : List HistoryEntry) where
-  pub answered_apart : (j : ℕ) (more entries : List HistoryEntry) (came earlier last : List ℕ) → AreApart j more
+  pub answered_apart : (j : ℕ) (more entries : List HistoryEntry) (came earlier last : List ℕ) → AreOfOthers j more
       → Answered prefix opening history j entries came earlier last → Answered prefix opening history j (entries ++ more) came earlier last
   answered_apart j [] entries came earlier last t a = subst (λ (z : List HistoryEntry). Answered prefix opening history j z came earlier last) (sym (append-nil entries)) a
   answered_apart j (e ∷ more) entries came earlier last (n, ns) a =
       subst (λ (z : List HistoryEntry). Answered prefix opening history j z came earlier last) (append_assoc entries (e ∷ []) more)
       (answered_apart j more (entries ++ e ∷ []) came earlier last ns (talks.other entries came earlier last e a n))
 
-  pub talks_apart : (j : ℕ) (more entries : List HistoryEntry) (read sent left unsent : List ℕ) → AreApart j more
+  pub talks_apart : (j : ℕ) (more entries : List HistoryEntry) (read sent left unsent : List ℕ) → AreOfOthers j more
       → Talks prefix opening history entries j read sent left unsent → Talks prefix opening history (entries ++ more) j read sent left unsent
   talks_apart j more entries read sent left unsent ns t = record {
     came = t.came;
@@ -58,7 +58,7 @@ module _ (prefix : List ℕ) (opening : CacheValue) (history : List HistoryEntry
     answered = answered_apart j more entries t.came t.earlier (t.part ++ unsent) ns t.answered;
   }
 
-  pub holds_apart : {S : Type 0} (spoke : ℕ → S → List ℕ → List ℕ → Type 0) (j : ℕ) (more entries : List HistoryEntry) (m : MemberValue S) → AreApart j more
+  pub holds_apart : {S : Type 0} (spoke : ℕ → S → List ℕ → List ℕ → Type 0) (j : ℕ) (more entries : List HistoryEntry) (m : MemberValue S) → AreOfOthers j more
       → TalksOn spoke prefix opening history entries j m → TalksOn spoke prefix opening history (entries ++ more) j m
   holds_apart spoke j more entries m ns h = record {
     read = h.read;
@@ -68,7 +68,7 @@ module _ (prefix : List ℕ) (opening : CacheValue) (history : List HistoryEntry
   }
 
   -- whatever comes after its end
-  pub ended_before : (cut : Bool) (ended : ℕ → List ℕ → List ℕ → Why → Type 0) (lost : ℕ → Cause → Type 0) (j : ℕ) (more entries : List HistoryEntry) → AreApart j more
+  pub ended_before : (cut : Bool) (ended : ℕ → List ℕ → List ℕ → Why → Type 0) (lost : ℕ → Cause → Type 0) (j : ℕ) (more entries : List HistoryEntry) → AreOfOthers j more
       → HasEnded cut ended lost prefix opening history entries j → HasEnded cut ended lost prefix opening history (entries ++ more) j
   ended_before cut ended lost j more entries ns h = record {
     before = h.before;

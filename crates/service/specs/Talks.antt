@@ -29,8 +29,8 @@ IsShut prefix k history =
     ⊎ ((events : List EventValue) × Cuts prefix (stream_of k history) events None)
 
 -- no entry is of the connection
-abbrev pub AreApart : ℕ → List HistoryEntry → Type 0
-AreApart k entries = AllByRecursion (λ entry. entry_number entry ≡ k → ⊥) entries
+abbrev pub AreOfOthers : ℕ → List HistoryEntry → Type 0
+AreOfOthers k entries = AllByRecursion (λ entry. entry_number entry ≡ k → ⊥) entries
 
 -- In the entries after the history these bytes came over the connection, one request at a time and
 -- as long as more could be answered; the answers to all but the last are `earlier`, and `last` is
@@ -95,7 +95,7 @@ pub record HasEnded
   pub before : List HistoryEntry
   pub after : List HistoryEntry
   pub whole : entries ≡ before ++ End k ∷ after
-  pub last : AreApart k after
+  pub last : AreOfOthers k after
   pub read : List ℕ
   pub sent : List ℕ
   pub left : List ℕ
@@ -138,7 +138,7 @@ pub record ComesToEnd
   pub before : List HistoryEntry
   pub after : List HistoryEntry
   pub whole : entries ≡ before ++ End k ∷ after
-  pub last : AreApart k after
+  pub last : AreOfOthers k after
   pub came : List ℕ
   pub earlier : List ℕ
   pub answer : List ℕ

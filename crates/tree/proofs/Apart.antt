@@ -1,9 +1,9 @@
 -- Paths that don't overlap, name by name.
 use Rattle.std.proofs.Common.{◌≡◌, ◌≢◌, List, [], ◌∷◌, refl, sym, inl, inr}
 use Rattle.std.specs.List.{AllByRecursion}
-use Rattle.messages.specs.Path.{Overlap}
+use Rattle.messages.specs.Path.{Overlap, IsApart}
 use Rattle.tree.specs.Tree.{Name}
-use Rattle.tree.specs.Graft.{IsApart, HaveApartTargets}
+use Rattle.tree.specs.Graft.{HaveApartTargets}
 
 -- paths apart, name by name: neither equals the other or lies under it
 abbrev pub Apart : List Name → List Name → Type 0

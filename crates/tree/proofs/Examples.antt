@@ -5,6 +5,7 @@ use Rattle.std.specs.Str.{is_utf8, chars}
 use Rattle.blob_digest.specs.Digest.{NoClash, digest_of, empty_digest}
 use Rattle.messages.specs.Name.{IsName}
 use Rattle.messages.proofs.Names.{IsName-from}
+use Rattle.messages.specs.Path.{IsApart}
 use Rattle.blob_source.specs.Source.{Blobs}
 use Rattle.blob_source.specs.Told.{missing, FailsDirectory}
 use Rattle.tree.specs.Tree.{Name, Tree, empty, leaf, Leaf, file, IsOrdered}
@@ -13,7 +14,7 @@ use Rattle.tree.specs.FlatTree.{IsListOf, IsFoldOfList, listed}
 use Rattle.tree.specs.Folded.{IsFoldOf}
 use Rattle.tree.specs.Form.{form, top, root, directory_of, no_children, IsBlobOf}
 use Rattle.tree.specs.Difference.{Finds, FindsFirst, unread}
-use Rattle.tree.specs.Graft.{IsApart, HaveApartTargets}
+use Rattle.tree.specs.Graft.{HaveApartTargets}
 use Rattle.tree.specs.Unfolded.{IsUnfolded}
 use Rattle.tree.proofs.DirectoryBytes.{directory_bytes_injective}
 use Rattle.tree.proofs.MergeExample.{no_bytes}

@@ -4,10 +4,11 @@ use Rattle.std.specs.Prelude.{◌⊎◌, Option, Some, None}
 use Rattle.std.specs.List.{AllByRecursion}
 use Rattle.std.specs.Ordering.{eq_by_cmp, is_eq}
 use Rattle.std.specs.declared.cmp.Ordering.TheVariants.{Less}
+use Rattle.messages.specs.Path.{IsApart}
 use Rattle.blob_source.specs.Source.{Blobs}
 use Rattle.tree.specs.Tree.{Name, name_cmp, Tree, empty, Entry, single, whole, entry_of, IsBelowAll, IsOrdered, IsOrderedEntry}
 use Rattle.tree.specs.Form.{NodeValue}
-use Rattle.tree.specs.Graft.{put, graft, with_entry, IsApart, HaveApartTargets}
+use Rattle.tree.specs.Graft.{put, graft, with_entry, HaveApartTargets}
 use Rattle.tree.proofs.Apart.{Apart, apart_from}
 use Rattle.tree.specs.Memo.{Asked}
 use Rattle.tree.specs.Stage.{Stage, ◌and_then◌}
@@ -34,9 +35,9 @@ lines_nodes n (l ∷ ls) = by l.0 (lines_nodes n ls)
     ]
 
 -- no target equals a later one or lies under it, or above it
-abbrev pub AreApart : MergeLines → Type 0
-AreApart [] = Unit {0}
-AreApart (l ∷ ls) = AllByRecursion (λ (k : List Name × NodeWithin). Apart l.0 k.0) ls × AreApart ls
+abbrev pub AreLinesApart : MergeLines → Type 0
+AreLinesApart [] = Unit {0}
+AreLinesApart (l ∷ ls) = AllByRecursion (λ (k : List Name × NodeWithin). Apart l.0 k.0) ls × AreLinesApart ls
 
 abbrev HasNames : List Name → Type 0
 HasNames [] = ⊥
@@ -62,16 +63,16 @@ module _ (n : Name) where
         | inr other ↦ subst (λ b. AllByRecursion (λ (l : List Name × NodeWithin). Q l.0) (cond b ((p, l.1) ∷ lines_at n ls) (lines_at n ls))) (sym (apart_cmp n m other)) rest
       ]
 
-  apart_at : (ls : MergeLines) → AreApart ls → AreApart (lines_at n ls)
+  apart_at : (ls : MergeLines) → AreLinesApart ls → AreLinesApart (lines_at n ls)
   apart_at [] h = tt
   apart_at (l ∷ ls) h = by l.0 h.0 (apart_at ls h.1)
     where
-      by : (p : List Name) → AllByRecursion (λ (k : List Name × NodeWithin). Apart p k.0) ls → AreApart (lines_at n ls) → AreApart (under_name n p l.1 (lines_at n ls))
+      by : (p : List Name) → AllByRecursion (λ (k : List Name × NodeWithin). Apart p k.0) ls → AreLinesApart (lines_at n ls) → AreLinesApart (under_name n p l.1 (lines_at n ls))
       by [] here rest = rest
       by (m ∷ p) here rest = elim (one_or_two n m) [
-        | inl same ↦ subst (λ b. AreApart (cond b ((p, l.1) ∷ lines_at n ls) (lines_at n ls))) (sym (ap (λ k. eq_by_cmp name_cmp n k) (sym same) ∙ ap is_eq (name_itself n)))
+        | inl same ↦ subst (λ b. AreLinesApart (cond b ((p, l.1) ∷ lines_at n ls) (lines_at n ls))) (sym (ap (λ k. eq_by_cmp name_cmp n k) (sym same) ∙ ap is_eq (name_itself n)))
             (at_name (Apart (m ∷ p)) (Apart p) (λ q a. a (sym same)) ls here, rest)
-        | inr other ↦ subst (λ b. AreApart (cond b ((p, l.1) ∷ lines_at n ls) (lines_at n ls))) (sym (apart_cmp n m other)) rest
+        | inr other ↦ subst (λ b. AreLinesApart (cond b ((p, l.1) ∷ lines_at n ls) (lines_at n ls))) (sym (apart_cmp n m other)) rest
       ]
 
   shorter_at : (k : ℕ) (ls : MergeLines) → AllWithin (suc k) ls → AllWithin k (lines_at n ls)
@@ -167,7 +168,7 @@ data Kind (us : MergeLines) : Type 0 where
   alone : (g : NodeWithin) → us ≡ ([], g) ∷ [] → Kind us
   further : AllNamed us → us ≢ [] → Kind us
 
-kind : (us : MergeLines) → us ≢ [] → AreApart us → Kind us
+kind : (us : MergeLines) → us ≢ [] → AreLinesApart us → Kind us
 kind [] some apart = absurd (some refl)
 kind (l ∷ us) some apart = by l.0 refl
   where
@@ -188,7 +189,7 @@ kind (l ∷ us) some apart = by l.0 refl
     by (n ∷ p) is = further (subst HasNames (sym is) tt, named n p us (subst (λ q. AllByRecursion (λ (k : List Name × NodeWithin). Apart q k.0) us) is apart.0)) (λ e. cc)
 
 module _ (B : Blobs) where
-  entry_passes : (k : ℕ) (path : List Name) (us : MergeLines) → us ≢ [] → AreApart us → AllWithin k us → (AllNamed us → (merged_in B k path us).passes (graft (nodes_in us)))
+  entry_passes : (k : ℕ) (path : List Name) (us : MergeLines) → us ≢ [] → AreLinesApart us → AllWithin k us → (AllNamed us → (merged_in B k path us).passes (graft (nodes_in us)))
       → (entry_merged B (merged_in B k path) k path (counted [] us)).passes (entry_made us)
   entry_passes k path us some apart within below = by us some within below (kind us some apart)
     where
@@ -273,7 +274,7 @@ module _ (B : Blobs) where
       by [] h le = h
       by (n ∷ p) h le = omega (arith, le)
 
-  pub graft_passes : (k : ℕ) (path : List Name) (ls : MergeLines) → AllNamed ls → AreApart ls → AllWithin k ls → (merged_in B k path ls).passes (graft (nodes_in ls))
+  pub graft_passes : (k : ℕ) (path : List Name) (ls : MergeLines) → AllNamed ls → AreLinesApart ls → AllWithin k ls → (merged_in B k path ls).passes (graft (nodes_in ls))
   graft_passes zero path ls named apart within = subst (λ vs. (merged_in B zero path vs).passes (graft (nodes_in vs))) (sym (no_lines ls named within)) refl
   graft_passes (suc k) path ls named apart within =
       subst (merged_in B (suc k) path ls).passes (built_is ls)
@@ -298,7 +299,7 @@ module _ (B : Blobs) where
   met_nothing k path us named a below (can, inr h) =
       below (subst (λ l. MergeLooksIn B k path l a) ((once_opened B us).value h.0 us h.1 (opened_named B us named)) h.2)
 
-  entry_nothing : (k : ℕ) (path : List Name) (us : MergeLines) → us ≢ [] → AreApart us → (a : Asked) → (AllNamed us → MergeLooksIn B k path us a → ⊥)
+  entry_nothing : (k : ℕ) (path : List Name) (us : MergeLines) → us ≢ [] → AreLinesApart us → (a : Asked) → (AllNamed us → MergeLooksIn B k path us a → ⊥)
       → StandsOrLooksAt (lone (counted [] us)) (MetLooksAt B (MergeLooksIn B k path) k (counted [] us) a) → ⊥
   entry_nothing k path us some apart a below = by (kind us some apart)
     where
@@ -317,7 +318,7 @@ module _ (B : Blobs) where
   each_nothing at look ls (n ∷ ns) h a none (inl is) = none n h.0 is
   each_nothing at look ls (n ∷ ns) h a none (inr is) = each_nothing at look ls ns h.1 a none is.2
 
-  pub looks_at_nothing : (k : ℕ) (path : List Name) (ls : MergeLines) → AreApart ls → (a : Asked) → MergeLooksIn B k path ls a → ⊥
+  pub looks_at_nothing : (k : ℕ) (path : List Name) (ls : MergeLines) → AreLinesApart ls → (a : Asked) → MergeLooksIn B k path ls a → ⊥
   looks_at_nothing zero path ls apart a h = h
   looks_at_nothing (suc k) path ls apart a h =
       each_nothing (λ n given. entry_merged B (merged_in B k (path ++ n ∷ [])) k (path ++ n ∷ []) (counted [] given))
@@ -335,7 +336,7 @@ all_named (l ∷ ls) h = (by l.0 h.0, all_named ls h.2)
     by [] some = absurd (some refl)
     by (n ∷ p) some = tt
 
-pub are_apart : (ls : MergeLines) → HaveApartTargets ls → AreApart ls
+pub are_apart : (ls : MergeLines) → HaveApartTargets ls → AreLinesApart ls
 are_apart [] h = tt
 are_apart (l ∷ ls) h = (each ls h.1, are_apart ls h.2)
   where

@@ -3,9 +3,9 @@ use Rattle.std.proofs.Common.{◌≡◌, ◌≤◌, List, [], ◌∷◌, ◌++�
 use Rattle.std.specs.Prelude.{◌⊎◌, Some}
 use Rattle.std.specs.List.{AllByRecursion}
 use Rattle.std.specs.Ordering.{eq_by_cmp, is_eq}
-use Rattle.messages.specs.Path.{Overlap}
+use Rattle.messages.specs.Path.{Overlap, IsApart}
 use Rattle.tree.specs.Tree.{Name, name_cmp, Tree, Entry, whole, below_entry, tree_at, IsOrderedEntry, Standing, nothing, a_directory, standing, stands_at}
-use Rattle.tree.specs.Graft.{graft, expand, IsApart, HaveApartTargets}
+use Rattle.tree.specs.Graft.{graft, expand, HaveApartTargets}
 use Rattle.tree.specs.Merge.{gives_at, GivesOnly, IsMergeOf}
 use Rattle.tree.proofs.GraftMap.{graft-IsGraftOf}
 use Rattle.tree.proofs.SameMap.{same_map}

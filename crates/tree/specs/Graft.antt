@@ -2,7 +2,7 @@
 use Rattle.std.specs.Prelude.{◌≡◌, ◌≢◌, List, [], ◌∷◌, ◌++◌, Some, None}
 use Rattle.std.specs.FinMap.Entries.{by_order}
 use Rattle.std.specs.List.{AllByRecursion}
-use Rattle.messages.specs.Path.{Overlap}
+use Rattle.messages.specs.Path.{IsApart}
 use Rattle.tree.specs.Tree.{Name, name_cmp, Tree, empty, leaf, folder, Entry, single, whole}
 use Rattle.tree.specs.Tree.{tree_at, below_entry, IsOrdered, IsOrderedEntry}
 
@@ -38,10 +38,6 @@ abbrev pub expand : {L : Type 0} → Tree (Entry L) → Tree L
 expand empty = empty
 expand (leaf n e rest) = with_entry n e (expand rest)
 expand (folder n below rest) = folder n (expand below) (expand rest)
-
--- neither path equals the other or lies under it
-abbrev pub IsApart : List Name → List Name → Type 0
-IsApart p q = Overlap p q → ⊥
 
 -- no target is empty, equals another or lies under it
 abbrev pub HaveApartTargets : {X : Type 0} → List (List Name × X) → Type 0

@@ -14,8 +14,9 @@ ghost use Rattle.blob_source.specs.Told.{Fault, TellsDirectory, FailsDirectory};
 ghost use Rattle.tree.specs.Lookup.{AgreesWith, IsValue, Looked, Looks};
 ghost use Rattle.tree.specs.TrueDifference.{IsTrueDifference};
 ghost use Rattle.messages.specs.Directory.{directory_bytes};
+ghost use Rattle.messages.specs.Path.{IsApart};
 ghost use Rattle.tree.specs.Difference.{Differing, FindsFirst};
-ghost use Rattle.tree.specs.Graft.{graft, expand, HaveApartTargets, IsApart, IsGraftOf};
+ghost use Rattle.tree.specs.Graft.{graft, expand, HaveApartTargets, IsGraftOf};
 
 use std::alloc::Allocator;
 

@@ -8,7 +8,7 @@ use Rattle.messages.specs.declared.node.Node.TheVariants.{File, Link, Dir}
 use Rattle.messages.specs.DirectoryRules.{DirectoryValue, IsDirectory}
 use Rattle.messages.specs.Directory.{directory_bytes}
 use Rattle.messages.specs.Node.{child}
-use Rattle.messages.specs.Path.{Overlap}
+use Rattle.messages.specs.Path.{Overlap, IsApart}
 use Rattle.messages.specs.Tree.{TreeValue, IsTree}
 use Rattle.actions.specs.declared.outcome.Output.TheVariants as outputs
 use Rattle.actions.specs.Outcome as recorded
@@ -17,7 +17,7 @@ use Rattle.actions.specs.OutcomeLookup.{IsFirstChild, NoFault, LooksBelow, Looks
 use Rattle.actions.proofs.TreeLookups.{behind, holds_mapped, all_at}
 use Rattle.tree.specs.Tree.{Name, Tree, Leaf, file, link, Entry, single, whole, entry_of, below_entry, IsOrderedEntry}
 use Rattle.tree.specs.Form.{NodeValue, entry_node, form, directory_of, top, root}
-use Rattle.tree.specs.Graft.{IsApart, HaveApartTargets}
+use Rattle.tree.specs.Graft.{HaveApartTargets}
 use Rattle.tree.specs.Lookup.{found, LooksFrom}
 use Rattle.tree.proofs.Children.{child-directory_of}
 use Rattle.tree.proofs.DirectoryBytes.{directory_bytes_injective}

@@ -4,12 +4,12 @@ use Rattle.std.specs.Prelude.{◌==◌, option_map, option_and_then, slice_get}
 use Rattle.std.specs.List.{AllByRecursion}
 use Rattle.std.specs.Map.{lookup}
 use Rattle.blob_digest.specs.Digest.{DigestValue}
-use Rattle.messages.specs.Path.{IsPath, Overlap}
+use Rattle.messages.specs.Path.{IsPath, Overlap, IsApart}
 use Rattle.plan.specs.declared.version.Version.TheVariants.{One}
 use Rattle.plan.specs.Values.{source, output, OriginValue, LineValue, StepValue, PlanValue, IsLine}
 use Rattle.plan.specs.Plan.{NoTargetsOverlap, AreSteps, AllKeepApart, IsPlan}
 use Rattle.tree.specs.Tree.{Name, Tree, Leaf, Entry, whole, IsOrdered, IsOrderedEntry}
-use Rattle.tree.specs.Graft.{graft, expand, HaveApartTargets, IsApart}
+use Rattle.tree.specs.Graft.{graft, expand, HaveApartTargets}
 use Rattle.tree.specs.Merge.{AreMergeable, merge}
 use Rattle.tree.specs.Merging.{MergeLines}
 use Rattle.tree.proofs.MergeLaws.{graft_merges}

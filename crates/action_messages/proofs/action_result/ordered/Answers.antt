@@ -1,8 +1,8 @@
 use Rattle.std.proofs.Common.{refl, subst}
 use Rattle.std.specs.Int.{w32}
 use Rattle.std.proofs.lemmas.Int.{to_z-of_z}
+use Rattle.messages.specs.Path.{AreApart}
 use Rattle.action_messages.specs.ActionResult.{ActionResultValue, IsActionResult}
-use Rattle.action_messages.specs.Overlaps.{ArePathsApart}
 use Rattle.action_messages.specs.Unordered.{IsOrderingOf, AreOutputsValid, output_paths}
 use Rattle.action_messages.proofs.Decoding.{IsSortedResult, ordered_made, overlapping}
 use Rattle.action_messages.proofs.action_result.ordered.Goals as goal
@@ -68,4 +68,4 @@ returns-in-Err-clause-refused g c =
       directories = c.sort_by_path-2.ensures.sorted;
       symlinks = c.sort_by_path-3.ensures.sorted;
     } in
-    (refl, subst (λ (x : ActionResultValue). AreOutputsValid x → ArePathsApart (output_paths x) → ⊥) c.read.view_is (overlapping u s c.in-Err.field-0 o sorted (rw code at c.in-Err.ensures.exact)))
+    (refl, subst (λ (x : ActionResultValue). AreOutputsValid x → AreApart (output_paths x) → ⊥) c.read.view_is (overlapping u s c.in-Err.field-0 o sorted (rw code at c.in-Err.ensures.exact)))

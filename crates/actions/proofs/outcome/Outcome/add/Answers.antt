@@ -1,7 +1,7 @@
 use Rattle.std.proofs.Common.{◌≡◌, Some, None, refl, ap, subst}
 use Rattle.std.specs.Prelude.{IfSome}
 use Rattle.std.specs.List.{AllByRecursion, insert}
-use Rattle.action_messages.specs.Overlaps.{ArePathsApart}
+use Rattle.messages.specs.Path.{AreApart}
 use Rattle.actions.specs.Outcome.{OutcomeValue, outputs_in}
 use Rattle.actions.specs.Parts.{HasRoom}
 use Rattle.actions.specs.OutcomeLookup.{StandsOver}
@@ -22,7 +22,7 @@ room_for-requires-clause-valid g c =
 pub room_for-requires-clause-apart : goal.room_for-requires-clause-apart
 room_for-requires-clause-apart g c =
     let o : OutcomeValue = record { exit_code = c.self.inside.exit_code; outputs = outputs_in c.self.inside.outputs.items } in
-    rw c.deref.ensures.value (subst ArePathsApart (paths_of o c.self.inside.outputs.items refl) c.self.invariant.apart)
+    rw c.deref.ensures.value (subst AreApart (paths_of o c.self.inside.outputs.items refl) c.self.invariant.apart)
 
 pub invariant_of-self-in-Some : goal.invariant_of-self-in-Some
 invariant_of-self-in-Some g c =
