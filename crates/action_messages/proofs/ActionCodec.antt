@@ -12,10 +12,9 @@ use Rattle.canonical.proofs.Codec.{IsMessage, codec, codec_as}
 use Rattle.canonical.proofs.FieldKinds.{message_column, bool_column, bytes_column, message_again, bool_again, bytes_again, message_is, bool_is, bytes_is}
 use Rattle.canonical.proofs.Sound.{option_sound}
 use Rattle.messages.specs.declared.error.MessageError.{MessageError}
-use Rattle.messages.specs.Told.{told}
+use Rattle.messages.specs.Told.{told, required}
 use Rattle.messages.specs.Shapes.{single}
 use Rattle.messages.specs.DigestMessage.{digest_bytes, decoded_digest}
-use Rattle.action_messages.specs.Fields.{required}
 use Rattle.action_messages.specs.Platform.{platform_entry, platform_at}
 use Rattle.action_messages.specs.Frame.{FrameValue}
 use Rattle.action_messages.specs.Action.{ActionValue, IsAction, with_input, action_shape, action_bytes, action_in, decoded_action}

@@ -19,7 +19,7 @@ use Rattle.canonical.proofs.KnownFields.{known_found, known_only}
 use Rattle.canonical.proofs.Sound.{SoundValue, AreSound}
 use Rattle.blob_digest.specs.DigestValue.{DigestValue}
 use Rattle.messages.specs.declared.error.MessageError.{MessageError}
-use Rattle.messages.specs.Told.{told}
+use Rattle.messages.specs.Told.{told, required}
 use Rattle.messages.specs.DigestMessage.{digest_shape, hash_of, size_of, digest_in}
 use Rattle.messages.specs.Path.{path_of}
 use Rattle.messages.specs.Target.{target_of}
@@ -28,7 +28,6 @@ use Rattle.messages.proofs.DigestCodec.{size_found, size_small}
 use Rattle.messages.proofs.Hashes.{hash_found, hash_again}
 use Rattle.messages.proofs.Paths.{path_found, path_given}
 use Rattle.messages.proofs.Targets.{target_found, target_given}
-use Rattle.action_messages.specs.Fields.{required}
 use Rattle.action_messages.specs.Stream.{StreamValue}
 use Rattle.action_messages.specs.OutputFile.{OutputFileValue, output_file_shape}
 use Rattle.action_messages.specs.OutputDirectory.{OutputDirectoryValue, output_directory_shape}

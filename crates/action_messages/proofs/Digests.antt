@@ -11,7 +11,7 @@ use Rattle.canonical.proofs.Sound.{AreSound, option_sound}
 use Rattle.blob_digest.specs.DigestValue.{DigestValue, IsDigest}
 use Rattle.messages.specs.DigestMessage.{digest_bytes, decoded_digest}
 use Rattle.messages.proofs.DigestCodec.{digest_codec}
-use Rattle.action_messages.specs.Fields.{required}
+use Rattle.messages.specs.Told.{required}
 use Rattle.action_messages.proofs.Strings.{required_found}
 
 pub optional_found : (n : ℕ) (rs : List Record) (o : Option DigestValue) → AreSound rs → column n rs ≡ message_field n (message_at n rs) → in_option decoded_digest (message_at n rs) ≡ Ok o

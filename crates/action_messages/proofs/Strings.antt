@@ -16,12 +16,12 @@ use Rattle.canonical.specs.Told.{or_told}
 use Rattle.canonical.proofs.FieldKinds.{string_found, string_again}
 use Rattle.messages.specs.declared.error.MessageError.{MessageError}
 use Rattle.messages.specs.declared.error.MessageError.TheVariants.{Wire}
-use Rattle.messages.specs.Told.{told}
+use Rattle.messages.specs.Told.{told, required}
 use Rattle.messages.specs.Path.{IsPath, path_of, path_text}
 use Rattle.messages.proofs.Choices.{chosen_ok}
 use Rattle.messages.proofs.Names.{utf8_test}
 use Rattle.messages.proofs.Paths.{path_given, path_found, text_utf8}
-use Rattle.action_messages.specs.Fields.{text_at, string_of, required}
+use Rattle.action_messages.specs.Fields.{text_at, string_of}
 
 -- a text of UTF-8
 abbrev pub IsString : List ℕ → Type 0

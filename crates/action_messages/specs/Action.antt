@@ -12,9 +12,8 @@ use Rattle.canonical.specs.Told.{in_option}
 use Rattle.blob_digest.specs.DigestValue.{DigestValue, IsDigest}
 use Rattle.messages.specs.declared.error.MessageError.{MessageError}
 use Rattle.messages.specs.Shapes.{single}
-use Rattle.messages.specs.Told.{shape_checked}
+use Rattle.messages.specs.Told.{shape_checked, required}
 use Rattle.messages.specs.DigestMessage.{digest_bytes, decoded_digest}
-use Rattle.action_messages.specs.Fields.{required}
 use Rattle.action_messages.specs.Platform.{platform_entry, platform_at}
 use Rattle.action_messages.specs.Frame.{FrameValue, IsFrame}
 

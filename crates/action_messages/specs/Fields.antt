@@ -1,12 +1,12 @@
--- Fields of a message: strings, fields that have to be there, and refusals by a test.
-use Rattle.std.specs.Prelude.{ℕ, Bool, List, Option, Some, None, Result, Ok, Err, if◌then◌else◌}
+-- Fields of a message: strings, and refusals by a test.
+use Rattle.std.specs.Prelude.{ℕ, Bool, List, Result, Ok, Err, if◌then◌else◌}
 use Rattle.std.specs.Str.{is_utf8}
 use Rattle.wire.specs.Record.{Record}
 use Rattle.canonical.specs.declared.error.CanonError.TheVariants.{BadUtf8}
 use Rattle.canonical.specs.Fields.{string_at}
 use Rattle.canonical.specs.Told.{or_told}
 use Rattle.messages.specs.declared.error.MessageError.{MessageError}
-use Rattle.messages.specs.declared.error.MessageError.TheVariants.{Wire, MissingField}
+use Rattle.messages.specs.declared.error.MessageError.TheVariants.{Wire}
 use Rattle.messages.specs.Told.{told}
 
 -- the string of a single field
@@ -16,11 +16,6 @@ text_at number rs = or_told told (string_at number rs)
 -- an element of a repeated field of strings
 abbrev pub string_of : List ℕ → Result (List ℕ) MessageError
 string_of text = if is_utf8 text then Ok text else Err (Wire BadUtf8)
-
--- the value of the field of this number, which has to be there
-abbrev pub required : {X : Type 0} → ℕ → Option X → Result X MessageError
-required number None = Err (MissingField number)
-required number (Some x) = Ok x
 
 abbrev pub refused_unless : Bool → MessageError → Result (Unit {0}) MessageError
 refused_unless valid e = if valid then Ok tt else Err e

@@ -9,7 +9,7 @@ use Rattle.messages.specs.declared.error.MessageError.{MessageError}
 use Rattle.messages.specs.Path.{path_of}
 use Rattle.messages.specs.Target.{target_of}
 use Rattle.messages.specs.Tolerant.{known_checked, in_occurrences, alone, any_digest}
-use Rattle.action_messages.specs.Fields.{required}
+use Rattle.messages.specs.Told.{required}
 use Rattle.action_messages.specs.Stream.{StreamValue}
 use Rattle.action_messages.specs.OutputFile.{OutputFileValue, IsOutputFile, output_file_shape}
 use Rattle.action_messages.specs.OutputDirectory.{OutputDirectoryValue, IsOutputDirectory}

@@ -3,7 +3,6 @@ ghost use Rattle.messages.specs.Gives.{GivesUnlessMemory};
 ghost use Rattle.action_messages.specs.Action.{ActionValue, IsAction, with_input, action_bytes};
 ghost use Rattle.action_messages.specs.Action.{decoded_action};
 
-use crate::fields::required;
 use crate::frame::Frame;
 use crate::platform::{Platform, read_platform};
 use crate::shapes::action_shape;
@@ -142,11 +141,11 @@ impl<A: Allocator + Copy> Message<A> for Action<A> {
 
     fn read(alloc: A, bytes: &[u8]) -> Result<Action<A>, MessageError> {
         let fields = read_fields(alloc, &action_shape(), bytes)?;
-        let command_digest = read_optional(alloc, read_message(&fields, 1))?;
-        let input_root_digest = read_optional(alloc, read_message(&fields, 2))?;
+        let command_digest: Option<Digest> = read_optional(alloc, read_message(&fields, 1))?;
+        let input_root_digest: Option<Digest> = read_optional(alloc, read_message(&fields, 2))?;
         let platform = read_platform(alloc, read_message(&fields, 10))?;
-        let command_digest = required(1, command_digest)?;
-        let input_root_digest = required(2, input_root_digest)?;
+        let command_digest = command_digest.ok_or(MessageError::MissingField(1))?;
+        let input_root_digest = input_root_digest.ok_or(MessageError::MissingField(2))?;
         let salt = Vec::from_slice(alloc, read_bytes(&fields, 9))?;
         Ok(Action::new(
             command_digest,

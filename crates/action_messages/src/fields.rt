@@ -1,30 +1,19 @@
 ghost use Rattle.std.specs.Prelude.{◌≡◌, ◌++◌, [], IsOk, OnOk, map};
 ghost use Rattle.std.specs.String.{string_bytes};
 ghost use Rattle.wire.specs.Spelling.{spelling};
-ghost use Rattle.wire.specs.Steps.{Gives};
 ghost use Rattle.wire.specs.Record.{IsFieldNumber, records_of};
 ghost use Rattle.canonical.specs.Fields.{element_fields, elements_at};
 ghost use Rattle.canonical.specs.Told.{each};
 ghost use Rattle.canonical.specs.View.{slices};
 ghost use Rattle.messages.specs.Gives.{GivesUnlessMemory, RefusesBeforeMemory};
 ghost use Rattle.messages.specs.Path.{path_of};
-ghost use Rattle.action_messages.specs.Fields.{string_of, required};
+ghost use Rattle.action_messages.specs.Fields.{string_of};
 ghost use Rattle.action_messages.specs.Overlaps.{texts_of};
 
 use canonical::{CanonError, read_elements, write_element};
 use messages::{MessageError, Path};
 use std::alloc::{AllocError, Allocator};
 use wire::Field;
-
-/// The value of the field of this number, which has to be there.
-pub(crate) fn required<T>(number: u32, value: Option<T>) -> Result<T, MessageError>
-    ensures { Gives (λ x. x) result (required number value) }
-{
-    match value {
-        Some(value) => Ok(value),
-        None => Err(MessageError::MissingField(number)),
-    }
-}
 
 fn copy_text<A: Allocator>(alloc: A, bytes: &[u8]) -> Result<String<A>, MessageError>
     ensures exact { GivesUnlessMemory (λ t. string_bytes t) result (string_of bytes.now) }

@@ -7,7 +7,6 @@ ghost use Rattle.action_messages.specs.Frame.{FrameValue, IsFrame, frame_bytes, 
 ghost use Rattle.action_messages.specs.Action.{with_input};
 
 use crate::action::Action;
-use crate::fields::required;
 use crate::platform::{Platform, read_platform, write_platform};
 use crate::shapes::frame_shape;
 use blob_digest::Digest;
@@ -167,9 +166,9 @@ impl<A: Allocator + Copy> Message<A> for Frame<A> {
 
     fn read(alloc: A, bytes: &[u8]) -> Result<Frame<A>, MessageError> {
         let fields = read_fields(alloc, &frame_shape(), bytes)?;
-        let command_digest = read_optional(alloc, read_message(&fields, 1))?;
+        let command_digest: Option<Digest> = read_optional(alloc, read_message(&fields, 1))?;
         let platform = read_platform(alloc, read_message(&fields, 10))?;
-        let command_digest = required(1, command_digest)?;
+        let command_digest = command_digest.ok_or(MessageError::MissingField(1))?;
         let salt = Vec::from_slice(alloc, read_bytes(&fields, 9))?;
         Ok(Frame::new(command_digest, read_bool(&fields, 7), salt, platform))
     }

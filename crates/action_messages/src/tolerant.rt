@@ -6,7 +6,6 @@ ghost use Rattle.action_messages.specs.Unordered.{any_stream_at, unordered_in, u
 ghost use Rattle.action_messages.specs.Refused.{element_checked, digest_checked, begun_at};
 ghost use Rattle.action_messages.specs.Refused.{NoneRefused, IsFirstRefused, IsUnreadResult};
 
-use crate::fields::required;
 use crate::output::{OutputDirectory, OutputFile, OutputSymlink};
 use crate::shapes::{
     action_result_shape, output_directory_shape, output_file_shape, output_symlink_shape,
@@ -29,8 +28,8 @@ impl<A: Allocator + Copy> Tolerant<A> for OutputFile<A> {
 
     fn read_any(alloc: A, texts: &[&[u8]]) -> Result<OutputFile<A>, MessageError> {
         let fields = read_any_fields(alloc, &output_file_shape(), &[], texts)?;
-        let digest = read_any_optional(alloc, &fields, 2)?;
-        let digest = required(2, digest)?;
+        let digest: Option<Digest> = read_any_optional(alloc, &fields, 2)?;
+        let digest = digest.ok_or(MessageError::MissingField(2))?;
         let path = Path::new(alloc, read_bytes(&fields, 1))?;
         Ok(OutputFile {
             path,
@@ -48,8 +47,8 @@ impl<A: Allocator + Copy> Tolerant<A> for OutputDirectory<A> {
 
     fn read_any(alloc: A, texts: &[&[u8]]) -> Result<OutputDirectory<A>, MessageError> {
         let fields = read_any_fields(alloc, &output_directory_shape(), &[4], texts)?;
-        let tree_digest = read_any_optional(alloc, &fields, 3)?;
-        let tree_digest = required(3, tree_digest)?;
+        let tree_digest: Option<Digest> = read_any_optional(alloc, &fields, 3)?;
+        let tree_digest = tree_digest.ok_or(MessageError::MissingField(3))?;
         let path = Path::new(alloc, read_bytes(&fields, 1))?;
         Ok(OutputDirectory { path, tree_digest })
     }

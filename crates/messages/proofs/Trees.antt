@@ -20,11 +20,11 @@ use Rattle.blob_digest.specs.DigestValue.{DigestValue}
 use Rattle.messages.specs.declared.error.MessageError.{MessageError}
 use Rattle.messages.specs.declared.error.MessageError.TheVariants.{BadTree}
 use Rattle.messages.specs.Gives.{GivesUnlessMemory}
-use Rattle.messages.specs.Told.{told}
+use Rattle.messages.specs.Told.{told, required}
 use Rattle.messages.specs.Shapes.{single, repeated}
 use Rattle.messages.specs.DirectoryRules.{DirectoryValue, IsDirectory}
 use Rattle.messages.specs.Directory.{directory_bytes, decoded_directory}
-use Rattle.messages.specs.Tree.{TreeValue, IsTree, AreAmong, digests_of, named_in, child_digests, is_among, all_among, children_checked, tree_of, required_root, tree_shape, tree_bytes, tree_in, decoded_tree}
+use Rattle.messages.specs.Tree.{TreeValue, IsTree, AreAmong, digests_of, named_in, child_digests, is_among, all_among, children_checked, tree_of, tree_shape, tree_bytes, tree_in, decoded_tree}
 use Rattle.messages.proofs.Choices.{chosen_ok, and_first, and_second, and_both}
 use Rattle.messages.proofs.DigestSets.{among_found, among_given}
 use Rattle.messages.proofs.DirectoryCodec.{directory_codec, no_texts}
@@ -76,7 +76,7 @@ tree_there t (Err e) given h = tt
 pub hashed_more : (directories : List DirectoryValue) (directory : DirectoryValue) (digests : List DigestValue) (digest : DigestValue) → digests ≡ digests_of (map directory_bytes directories) → digest ≡ digest_of (directory_bytes directory) → digests ++ digest ∷ [] ≡ digests_of (map directory_bytes (directories ++ directory ∷ []))
 hashed_more directories directory digests digest e f = rw (e, f) (sym (ap (map digest_of) (map-append directory_bytes directories (directory ∷ [])) ∙ map-append digest_of (map directory_bytes directories) (map directory_bytes (directory ∷ []))))
 
-root_found : (found : Option DirectoryValue) (root : DirectoryValue) → required_root found ≡ Ok root → found ≡ Some root
+root_found : (found : Option DirectoryValue) (root : DirectoryValue) → required 1 found ≡ Ok root → found ≡ Some root
 root_found None root e = absurd cc
 root_found (Some d) root e = let same : d ≡ root = ok_is {E = MessageError} d root e in ap Some same
 
@@ -91,7 +91,7 @@ tree_message = record {
   found = λ rs x s shape e.
       let a = bind_ok (in_option decoded_directory (message_at 1 rs)) _ x e in
       let b = bind_ok (each decoded_directory (elements_at 2 rs)) _ x a.2 in
-      let d = bind_ok (required_root a.0) _ x b.2 in
+      let d = bind_ok (required 1 a.0) _ x b.2 in
       let made : TreeValue = record { root = d.0; children = b.0 } in
       let k = tree_found made x d.2 in
       let m1 : column 1 rs ≡ message_field 1 (message_at 1 rs) = message_column (single 1 kinds.Message) rs shape.kept.0 refl refl in

@@ -2,8 +2,8 @@
 -- has to be there. Its `children` are those whose digests a DirectoryNode in it names, in any
 -- order, and equal ones may come again. Fields: 1 `root` (Directory); 2 `children` (repeated
 -- Directory).
-use Rattle.std.specs.Prelude.{ℕ, Bool, ◌==◌, ◌&&◌, bytes_eq, List, [], ◌∷◌, ◌++◌, map, Option, Some}
-use Rattle.std.specs.Prelude.{None, Result, Ok, Err, if◌then◌else◌}
+use Rattle.std.specs.Prelude.{ℕ, Bool, ◌==◌, ◌&&◌, bytes_eq, List, [], ◌∷◌, ◌++◌, map, Some}
+use Rattle.std.specs.Prelude.{Result, Ok, Err, if◌then◌else◌}
 use Rattle.std.specs.List.{AllByRecursion, Contains, list_any, list_all}
 use Rattle.wire.specs.Record.{Record}
 use Rattle.wire.specs.Spelling.{spelling}
@@ -15,9 +15,9 @@ use Rattle.canonical.specs.Told.{each, in_option}
 use Rattle.blob_digest.specs.Digest.{digest_of}
 use Rattle.blob_digest.specs.DigestValue.{DigestValue}
 use Rattle.messages.specs.declared.error.MessageError.{MessageError}
-use Rattle.messages.specs.declared.error.MessageError.TheVariants.{BadTree, MissingField}
+use Rattle.messages.specs.declared.error.MessageError.TheVariants.{BadTree}
 use Rattle.messages.specs.Shapes.{single, repeated}
-use Rattle.messages.specs.Told.{shape_checked}
+use Rattle.messages.specs.Told.{shape_checked, required}
 use Rattle.messages.specs.DirectoryNode.{DirectoryNodeValue}
 use Rattle.messages.specs.DirectoryRules.{DirectoryValue, IsDirectory}
 use Rattle.messages.specs.Directory.{directory_bytes, decoded_directory}
@@ -90,15 +90,11 @@ children_checked named held =
 unfoldable pub tree_of : TreeValue → Result TreeValue MessageError
 tree_of t = children_checked (named_in t) (child_digests t) >>= λ _. Ok t
 
-abbrev pub required_root : Option DirectoryValue → Result DirectoryValue MessageError
-required_root None = Err (MissingField 1)
-required_root (Some root) = Ok root
-
 abbrev pub tree_in : List Record → Result TreeValue MessageError
 tree_in rs =
     in_option decoded_directory (message_at 1 rs) >>= λ found.
     each decoded_directory (elements_at 2 rs) >>= λ children.
-    required_root found >>= λ root.
+    required 1 found >>= λ root.
     tree_of (record { root = root; children = children })
 
 unfoldable pub decoded_tree : List ℕ → Result TreeValue MessageError

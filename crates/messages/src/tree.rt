@@ -263,16 +263,6 @@ impl<A: Allocator> Tree<A> {
     }
 }
 
-/// The root, which has to be there.
-fn required_root<A: Allocator>(root: Option<Directory<A>>) -> Result<Directory<A>, MessageError>
-    ensures { Gives (λ d. d) result (required_root root) }
-{
-    match root {
-        Some(root) => Ok(root),
-        None => Err(MessageError::MissingField(1)),
-    }
-}
-
 #[tactic(auto, using(crate::proofs::Spellings::spelled_parts), unfolding(crate::specs::Tree::tree_bytes))]
 impl<A: Allocator + Copy> Encode<A> for Tree<A> {
     ghost use Rattle.messages.specs.Tree.{tree_bytes};
@@ -300,12 +290,13 @@ impl<A: Allocator + Copy> Message<A> for Tree<A> {
 
     fn read(alloc: A, bytes: &[u8]) -> Result<Tree<A>, MessageError> {
         let fields = read_fields(alloc, &tree_shape(), bytes)?;
-        let root = read_optional(alloc, read_message(&fields, 1))?;
+        let root: Option<Directory<A>> = read_optional(alloc, read_message(&fields, 1))?;
         let Hashed {
             directories,
             digests,
         } = read_each_hashed(alloc, &read_elements(alloc, &fields, 2)?)?;
-        checked_tree(alloc, required_root(root)?, directories, digests)
+        let root = root.ok_or(MessageError::MissingField(1))?;
+        checked_tree(alloc, root, directories, digests)
     }
 }
 
@@ -332,6 +323,3 @@ impl<A: Allocator + Copy> Tree<A> {
         self.write(alloc)
     }
 }
-
-ghost use Rattle.wire.specs.Steps.{Gives};
-ghost use Rattle.messages.specs.Tree.{required_root};
