@@ -6,12 +6,11 @@ ghost use Rattle.std.specs.Option.{option_copied};
 ghost use Rattle.std.specs.String.{string_bytes};
 ghost use Rattle.wire.specs.Steps.{Gives};
 ghost use Rattle.messages.specs.Gives.{GivesUnlessMemory};
-ghost use Rattle.messages.specs.Order.{ordered_behind};
 ghost use Rattle.messages.specs.Path.{IsPath};
 ghost use Rattle.action_messages.specs.Setting.{IsSetting};
 ghost use Rattle.action_messages.specs.Command.{CommandValue, IsCommand, are_arguments};
 ghost use Rattle.action_messages.specs.Command.{is_argument, is_variable_name, is_variable};
-ghost use Rattle.action_messages.specs.Command.{variable_names, directory_text};
+ghost use Rattle.action_messages.specs.Command.{directory_text};
 ghost use Rattle.action_messages.specs.Command.{working_directory_of, texts_checked, lists_checked};
 ghost use Rattle.action_messages.specs.Command.{command_of, command_bytes, decoded_command};
 
@@ -21,9 +20,10 @@ use crate::listed::{check_paths, has_text, some_under};
 use crate::setting::{EnvironmentVariable, Setting};
 use crate::shapes::command_shape;
 use canonical::{read_bytes, write_bytes};
-use messages::{Encode, Message, MessageError, Path, decode, read_each, read_fields, write_each};
+use messages::{
+    Encode, Message, MessageError, Path, check_order, decode, read_each, read_fields, write_each,
+};
 use std::alloc::{AllocError, Allocator};
-use std::cmp::Ordering;
 use std::marker::Model;
 
 /// What is run: arguments, of which the first names the program; an environment, strictly
@@ -122,25 +122,6 @@ fn check_texts<A: Allocator>(
     Ok(())
 }
 
-/// Whether the names strictly ascend.
-fn check_names<A: Allocator>(environment: &[Setting<A>]) -> Result<(), MessageError>
-    ensures { Gives (λ x. x) result (ordered_behind None (variable_names environment.now)) }
-{
-    let mut before: Option<&[u8]> = None;
-    for variable in environment {
-        let name = variable.name().as_bytes();
-        if let Some(before) = before {
-            match before.cmp(name) {
-                Ordering::Less => {}
-                Ordering::Equal => return Err(MessageError::SameName),
-                Ordering::Greater => return Err(MessageError::Unsorted),
-            }
-        }
-        before = Some(name);
-    }
-    Ok(())
-}
-
 /// Whether the names of the environment and the output paths ascend, and no output path lies
 /// under another.
 #[tactic(auto, unfolding(crate::specs::Command::lists_checked))]
@@ -151,7 +132,7 @@ fn check_lists<A: Allocator>(
     ensures exact { Gives (λ x. x) result (lists_checked environment.now output_paths.now) }
     ensures kept { OnOk result (AllByRecursion IsPath output_paths.now) }
 {
-    check_names(environment)?;
+    check_order(environment)?;
     check_paths(output_paths)?;
     if some_under(output_paths, output_paths) {
         return Err(MessageError::SameName);

@@ -5,7 +5,7 @@ ghost use Rattle.action_messages.specs.Platform.{setting_cmp};
 
 use crate::shapes::setting_shape;
 use canonical::{read_string, write_string};
-use messages::{Encode, Message, MessageError, read_fields};
+use messages::{Encode, Message, MessageError, Named, read_fields};
 use std::alloc::{AllocError, Allocator};
 use std::cmp::Ordering;
 use std::marker::Model;
@@ -70,6 +70,19 @@ impl<A: Allocator> Setting<A> {
     {
         let names = self.name.as_bytes().cmp(other.name.as_bytes());
         names.then(self.value.as_bytes().cmp(other.value.as_bytes()))
+    }
+}
+
+impl<A: Allocator> Named for Setting<A> {
+    ghost use Rattle.action_messages.specs.Setting.{IsSetting};
+
+    ghost name_in = { λ s. s.name };
+
+    ghost keeps = { IsSetting };
+
+    fn name(&self) -> &[u8] {
+        let _ = self.value();
+        self.name.as_bytes()
     }
 }
 

@@ -27,6 +27,7 @@ pub use message::{
 };
 pub use name::Name;
 pub use node::{DirectoryNode, FileNode, Node, SymlinkNode};
+pub use order::{Named, check_order};
 pub use path::{Path, is_path};
 pub use target::Target;
 pub use tolerant::{Tolerant, read_any_each, read_any_fields, read_any_optional};

@@ -8,21 +8,23 @@ ghost use Rattle.messages.specs.Order.{IsAscending, ordered_behind, share_name};
 use crate::error::MessageError;
 use std::cmp::Ordering;
 
-/// What has a name in a directory.
-pub(crate) trait Named {
+/// What stands in a list by its name.
+pub trait Named {
     /// Its name.
     ghost name_in: { Self → List ℕ };
 
     /// The rules of its values.
     ghost keeps: { Self → Type 0 };
 
+    /// The bytes of the name.
     fn name(&self) -> &[u8]
         ensures text { result.now ≡ name_in self.now }
         ensures kept { keeps self.now };
 }
 
-/// Whether the names strictly ascend. If not, the first pair of neighbours that doesn't decides.
-pub(crate) fn check_order<N: Named>(nodes: &[N]) -> Result<(), MessageError>
+/// Whether the names strictly ascend. If not, the first pair of neighbours that doesn't decides:
+/// `SameName` where it is equal, `Unsorted` where it descends.
+pub fn check_order<N: Named>(nodes: &[N]) -> Result<(), MessageError>
     ensures exact { Gives (λ x. x) result (ordered_behind None (map N.name_in nodes.now)) }
     ensures kept { OnOk result (AllByRecursion N.keeps nodes.now) }
 {
