@@ -92,9 +92,9 @@ module _ (read files directories symlinks : List (List ℕ)) (n : List ℕ) (so_
           files_ascend = ascends_on files n names.files_ascend (so_far.files_before n was.1);
           directories_ascend = names.directories_ascend;
           symlinks_ascend = names.symlinks_ascend;
-          files_apart = apart_last files directories n names.files_apart (so_far.directories_before n was.1);
-          links_apart = apart_last files symlinks n names.links_apart (so_far.symlinks_before n was.1);
-          symlinks_apart = names.symlinks_apart;
+          files_and_directories = apart_last files directories n names.files_and_directories (so_far.directories_before n was.1);
+          files_and_symlinks = apart_last files symlinks n names.files_and_symlinks (so_far.symlinks_before n was.1);
+          directories_and_symlinks = names.directories_and_symlinks;
         };
   }
 
@@ -110,9 +110,9 @@ module _ (read files directories symlinks : List (List ℕ)) (n : List ℕ) (so_
           files_ascend = names.files_ascend;
           directories_ascend = ascends_on directories n names.directories_ascend (so_far.directories_before n was.1);
           symlinks_ascend = names.symlinks_ascend;
-          files_apart = last_apart files directories n names.files_apart (so_far.files_before n was.1);
-          links_apart = names.links_apart;
-          symlinks_apart = apart_last directories symlinks n names.symlinks_apart (so_far.symlinks_before n was.1);
+          files_and_directories = last_apart files directories n names.files_and_directories (so_far.files_before n was.1);
+          files_and_symlinks = names.files_and_symlinks;
+          directories_and_symlinks = apart_last directories symlinks n names.directories_and_symlinks (so_far.symlinks_before n was.1);
         };
   }
 
@@ -128,9 +128,9 @@ module _ (read files directories symlinks : List (List ℕ)) (n : List ℕ) (so_
           files_ascend = names.files_ascend;
           directories_ascend = names.directories_ascend;
           symlinks_ascend = ascends_on symlinks n names.symlinks_ascend (so_far.symlinks_before n was.1);
-          files_apart = names.files_apart;
-          links_apart = last_apart files symlinks n names.links_apart (so_far.files_before n was.1);
-          symlinks_apart = last_apart directories symlinks n names.symlinks_apart (so_far.directories_before n was.1);
+          files_and_directories = names.files_and_directories;
+          files_and_symlinks = last_apart files symlinks n names.files_and_symlinks (so_far.files_before n was.1);
+          directories_and_symlinks = last_apart directories symlinks n names.directories_and_symlinks (so_far.directories_before n was.1);
         };
   }
 
@@ -159,7 +159,7 @@ nothing_follows = record {
   files_before = λ m all. all;
   directories_before = λ m all. all;
   symlinks_before = λ m all. all;
-  named = λ up. record { files_ascend = tt; directories_ascend = tt; symlinks_ascend = tt; files_apart = tt; links_apart = tt; symlinks_apart = tt };
+  named = λ up. record { files_ascend = tt; directories_ascend = tt; symlinks_ascend = tt; files_and_directories = tt; files_and_symlinks = tt; directories_and_symlinks = tt };
 }
 
 -- texts in order are so by their bytes

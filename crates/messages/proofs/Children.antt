@@ -50,13 +50,13 @@ module _ (A : Type 0) (name : List ℕ) (d : DirectoryValue) where
   child_found names (Some (File digest executable)) there = rw (there_found (λ x. x.name) name d.files (record { name = name; digest = digest; executable = executable }) names.files_ascend there refl) refl
   child_found names (Some (Dir digest)) there =
       let node : DirectoryNodeValue = record { name = name; digest = digest } in
-      let no_file = none_found (λ x. x.name) name d.files (apart_from (λ x. x.name) (file_names d.files) d.directories node names.files_apart there) in
+      let no_file = none_found (λ x. x.name) name d.files (apart_from (λ x. x.name) (file_names d.files) d.directories node names.files_and_directories there) in
       let found = there_found (λ x. x.name) name d.directories node names.directories_ascend there refl in
       rw (no_file, found) refl
   child_found names (Some (Link target)) there =
       let node : SymlinkNodeValue = record { name = name; target = target } in
-      let no_file = none_found (λ x. x.name) name d.files (apart_from (λ x. x.name) (file_names d.files) d.symlinks node names.links_apart there) in
-      let no_directory = none_found (λ x. x.name) name d.directories (apart_from (λ x. x.name) (directory_names d.directories) d.symlinks node names.symlinks_apart there) in
+      let no_file = none_found (λ x. x.name) name d.files (apart_from (λ x. x.name) (file_names d.files) d.symlinks node names.files_and_symlinks there) in
+      let no_directory = none_found (λ x. x.name) name d.directories (apart_from (λ x. x.name) (directory_names d.directories) d.symlinks node names.directories_and_symlinks there) in
       let found = there_found (λ x. x.name) name d.symlinks node names.symlinks_ascend there refl in
       rw (no_file, no_directory, found) refl
   child_found names None none =

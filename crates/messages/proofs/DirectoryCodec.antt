@@ -57,9 +57,9 @@ names_of_ordered files directories symlinks e =
       files_ascend = ascending files a.1;
       directories_ascend = ascending directories b.1;
       symlinks_ascend = ascending symlinks c.1;
-      files_apart = ShareNone-from files directories n1.0;
-      links_apart = ShareNone-from files symlinks n1.1;
-      symlinks_apart = ShareNone-from directories symlinks n2.1;
+      files_and_directories = ShareNone-from files directories n1.0;
+      files_and_symlinks = ShareNone-from files symlinks n1.1;
+      directories_and_symlinks = ShareNone-from directories symlinks n2.1;
     }
 
 pub ordered_of_names : (files directories symlinks : List (List ℕ)) → AreNames files directories symlinks → names_ordered files directories symlinks ≡ Ok tt
@@ -67,9 +67,9 @@ ordered_of_names files directories symlinks h =
     let a = ordered_behind-from files h.files_ascend in
     let b = ordered_behind-from directories h.directories_ascend in
     let c = ordered_behind-from symlinks h.symlinks_ascend in
-    let n1 = share_name-from files directories h.files_apart in
-    let n2 = share_name-from files symlinks h.links_apart in
-    let n3 = share_name-from directories symlinks h.symlinks_apart in
+    let n1 = share_name-from files directories h.files_and_directories in
+    let n2 = share_name-from files symlinks h.files_and_symlinks in
+    let n3 = share_name-from directories symlinks h.directories_and_symlinks in
     rw (a, b, c, n1, n2, n3) refl
 
 -- what the names' rules answer

@@ -35,9 +35,9 @@ pub record AreNames (files directories symlinks : List (List ℕ)) : Type 0 wher
   pub files_ascend : IsAscending files
   pub directories_ascend : IsAscending directories
   pub symlinks_ascend : IsAscending symlinks
-  pub files_apart : ShareNone files directories
-  pub links_apart : ShareNone files symlinks
-  pub symlinks_apart : ShareNone directories symlinks
+  pub files_and_directories : ShareNone files directories
+  pub files_and_symlinks : ShareNone files symlinks
+  pub directories_and_symlinks : ShareNone directories symlinks
 
 pub record IsDirectory (d : DirectoryValue) : Type 0 where
   pub files : AllByRecursion IsFileNode d.files

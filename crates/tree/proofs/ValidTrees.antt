@@ -57,9 +57,9 @@ valid_child n (File d executable) m name node later h =
         files_ascend = (files, h.names.files_ascend);
         directories_ascend = h.names.directories_ascend;
         symlinks_ascend = h.names.symlinks_ascend;
-        files_apart = (all_other n (map (λ c. c.name) m.directories) directories, h.names.files_apart);
-        links_apart = (all_other n (map (λ l. l.name) m.symlinks) symlinks, h.names.links_apart);
-        symlinks_apart = h.names.symlinks_apart;
+        files_and_directories = (all_other n (map (λ c. c.name) m.directories) directories, h.names.files_and_directories);
+        files_and_symlinks = (all_other n (map (λ l. l.name) m.symlinks) symlinks, h.names.files_and_symlinks);
+        directories_and_symlinks = h.names.directories_and_symlinks;
       };
     }
 valid_child n (Link target) m name node later h =
@@ -74,9 +74,9 @@ valid_child n (Link target) m name node later h =
         files_ascend = h.names.files_ascend;
         directories_ascend = h.names.directories_ascend;
         symlinks_ascend = (symlinks, h.names.symlinks_ascend);
-        files_apart = h.names.files_apart;
-        links_apart = apart_more n (map (λ f. f.name) m.files) (map (λ l. l.name) m.symlinks) files h.names.links_apart;
-        symlinks_apart = apart_more n (map (λ c. c.name) m.directories) (map (λ l. l.name) m.symlinks) directories h.names.symlinks_apart;
+        files_and_directories = h.names.files_and_directories;
+        files_and_symlinks = apart_more n (map (λ f. f.name) m.files) (map (λ l. l.name) m.symlinks) files h.names.files_and_symlinks;
+        directories_and_symlinks = apart_more n (map (λ c. c.name) m.directories) (map (λ l. l.name) m.symlinks) directories h.names.directories_and_symlinks;
       };
     }
 valid_child n (Dir d) m name node later h =
@@ -91,9 +91,9 @@ valid_child n (Dir d) m name node later h =
         files_ascend = h.names.files_ascend;
         directories_ascend = (directories, h.names.directories_ascend);
         symlinks_ascend = h.names.symlinks_ascend;
-        files_apart = apart_more n (map (λ f. f.name) m.files) (map (λ c. c.name) m.directories) files h.names.files_apart;
-        links_apart = h.names.links_apart;
-        symlinks_apart = (all_other n (map (λ l. l.name) m.symlinks) symlinks, h.names.symlinks_apart);
+        files_and_directories = apart_more n (map (λ f. f.name) m.files) (map (λ c. c.name) m.directories) files h.names.files_and_directories;
+        files_and_symlinks = h.names.files_and_symlinks;
+        directories_and_symlinks = (all_other n (map (λ l. l.name) m.symlinks) symlinks, h.names.directories_and_symlinks);
       };
     }
 
@@ -102,7 +102,7 @@ valid_directory empty o h = record {
   files = tt;
   directories = tt;
   symlinks = tt;
-  names = record { files_ascend = tt; directories_ascend = tt; symlinks_ascend = tt; files_apart = tt; links_apart = tt; symlinks_apart = tt };
+  names = record { files_ascend = tt; directories_ascend = tt; symlinks_ascend = tt; files_and_directories = tt; files_and_symlinks = tt; directories_and_symlinks = tt };
 }
 valid_directory (leaf n x rest) o h = valid_child n x (directory_of rest) h.0.0 h.0.1 (later_names n rest o.0) (valid_directory rest o.1 h.1)
 valid_directory (folder n below rest) o h = valid_child n (Dir (root below)) (directory_of rest) h.0.0 (IsDigest-digest_of (top below)) (later_names n rest o.0) (valid_directory rest o.2 h.1)

@@ -78,7 +78,7 @@ directory_valid = record {
   files = tt;
   directories = (record { name = data_name; digest = IsDigest-digest_of (top (form data_directory)) }, tt);
   symlinks = tt;
-  names = record { files_ascend = tt; directories_ascend = (tt, tt); symlinks_ascend = tt; files_apart = tt; links_apart = tt; symlinks_apart = (tt, tt) };
+  names = record { files_ascend = tt; directories_ascend = (tt, tt); symlinks_ascend = tt; files_and_directories = tt; files_and_symlinks = tt; directories_and_symlinks = (tt, tt) };
 }
 
 kept : blobs two.input_digest ≡ Some (top (form tree))

@@ -109,7 +109,7 @@ gen_tree_valid = record {
     files = (record { name = a_name; digest = IsDigest-digest_of (codes "123456789") }, tt);
     directories = tt;
     symlinks = tt;
-    names = record { files_ascend = (tt, tt); directories_ascend = tt; symlinks_ascend = tt; files_apart = (tt, tt); links_apart = (tt, tt); symlinks_apart = tt };
+    names = record { files_ascend = (tt, tt); directories_ascend = tt; symlinks_ascend = tt; files_and_directories = (tt, tt); files_and_symlinks = (tt, tt); directories_and_symlinks = tt };
   };
   children = tt;
   held = tt;

@@ -79,7 +79,7 @@ no_bytes = refl
 
 empty_told : TellsDirectory blobs (root empty) no_children
 empty_told = record {
-  valid = record { files = tt; directories = tt; symlinks = tt; names = record { files_ascend = tt; directories_ascend = tt; symlinks_ascend = tt; files_apart = tt; links_apart = tt; symlinks_apart = tt } };
+  valid = record { files = tt; directories = tt; symlinks = tt; names = record { files_ascend = tt; directories_ascend = tt; symlinks_ascend = tt; files_and_directories = tt; files_and_symlinks = tt; directories_and_symlinks = tt } };
   blob = record { held = inl (ap digest_of no_bytes, ap Some no_bytes); right = refl };
 }
 
