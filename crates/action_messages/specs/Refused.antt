@@ -36,11 +36,11 @@ has_number number rs = list_any (λ r. r.number == number) rs
 -- stderr came before.
 unfoldable pub begun_at : List Record → Bool → Bool → Record
     → Result (Unit {0}) MessageError
-begun_at all out err r =
+begun_at all stdout_came stderr_came r =
     if r.number == 2 then element_checked any_output_file r.value
     else (if r.number == 3 then element_checked any_output_directory r.value
-    else (if r.number == 6 then digest_checked out 6 all
-    else (if r.number == 8 then digest_checked err 8 all
+    else (if r.number == 6 then digest_checked stdout_came 6 all
+    else (if r.number == 8 then digest_checked stderr_came 8 all
     else (if r.number == 12 then element_checked any_output_symlink r.value
     else Ok tt))))
 

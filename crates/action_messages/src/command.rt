@@ -64,12 +64,9 @@ impl<A: Allocator> Model for Command<A> {
 fn are_without_nul<A: Allocator>(arguments: &[String<A>]) -> bool
     ensures { result ≡ list_all is_argument (map string_bytes arguments.now) }
 {
-    for argument in arguments {
-        if argument.as_bytes().contains(&0) {
-            return false;
-        }
-    }
-    true
+    arguments
+        .iter()
+        .all(|argument| !argument.as_bytes().contains(&0))
 }
 
 /// Whether the bytes may name a variable.

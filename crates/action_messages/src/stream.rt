@@ -35,13 +35,9 @@ impl<A: Allocator> Stream<A> {
     pub fn new(raw: Vec<u8, A>, digest: Option<Digest>) -> Stream<A>
         ensures { result ≡ record { raw = raw.items; digest = digest } }
     {
-        let digest = match digest {
-            Some(digest) => {
-                let _ = digest.size();
-                Some(digest)
-            }
-            None => None,
-        };
+        if let Some(digest) = &digest {
+            let _ = digest.size();
+        }
         Stream { raw, digest }
     }
 

@@ -114,24 +114,24 @@ fn check_digest<A: Allocator + Copy>(
     Ok(())
 }
 
-/// The first refusal of the output or digest that begins with the field, among all fields; and
-/// whether fields of stdout's and stderr's digests came before.
+/// The first refusal of the output or digest that begins with the field, among all fields, where
+/// it is told whether fields of stdout's and stderr's digests came before.
 #[tactic(auto, unfolding(crate::specs::Refused::begun_at))]
 fn check_begun<A: Allocator + Copy>(
     alloc: A,
     fields: &[Field<'_>],
-    out: bool,
-    err: bool,
+    stdout_came: bool,
+    stderr_came: bool,
     field: &Field<'_>,
 ) -> Result<(), MessageError>
     ensures { GivesUnlessMemory (λ x. x) result
-        (begun_at (records_of fields.now) out err (record_of field.now)) }
+        (begun_at (records_of fields.now) stdout_came stderr_came (record_of field.now)) }
 {
     match field.number {
         2 => check_element::<A, OutputFile<A>>(alloc, &field.payload),
         3 => check_element::<A, OutputDirectory<A>>(alloc, &field.payload),
-        6 => check_digest(alloc, out, 6, fields),
-        8 => check_digest(alloc, err, 8, fields),
+        6 => check_digest(alloc, stdout_came, 6, fields),
+        8 => check_digest(alloc, stderr_came, 8, fields),
         12 => check_element::<A, OutputSymlink<A>>(alloc, &field.payload),
         _ => Ok(()),
     }
@@ -142,12 +142,12 @@ fn check_nested<A: Allocator + Copy>(alloc: A, fields: &[Field<'_>]) -> Result<(
     ensures refused { IfErr result (λ e. (e ≡ Memory) ⊎ IsFirstRefused e (records_of fields.now)) }
     ensures none { OnOk result (NoneRefused (records_of fields.now) (records_of fields.now)) }
 {
-    let mut out = false;
-    let mut err = false;
+    let mut stdout_came = false;
+    let mut stderr_came = false;
     for field in fields {
-        check_begun(alloc, fields, out, err, field)?;
-        out |= field.number == 6;
-        err |= field.number == 8;
+        check_begun(alloc, fields, stdout_came, stderr_came, field)?;
+        stdout_came |= field.number == 6;
+        stderr_came |= field.number == 8;
     }
     Ok(())
 }

@@ -9,7 +9,7 @@ loop-field-init g c = so_far_none (records_of c.args.fields.now)
 pub returns-in_err-check_begun-clause-refused : goal.returns-in_err-check_begun-clause-refused
 returns-in_err-check_begun-clause-refused g c =
     let p = err_from_is_err_and c.from_residual.result c.from_residual.ensures.1 in
-    rw (p.1, p.2) (refused_here c.in_err-check_begun.field-0.0 c.args.fields.now c.loop-field.field-index _ c.loop-field.out c.loop-field.err c.loop-field-test.true c.loop-field.invariant c.in_err-check_begun.ensures)
+    rw (p.1, p.2) (refused_here c.in_err-check_begun.field-0.0 c.args.fields.now c.loop-field.field-index _ c.loop-field.stdout_came c.loop-field.stderr_came c.loop-field-test.true c.loop-field.invariant c.in_err-check_begun.ensures)
 
 pub loop-field-preserved : goal.loop-field-preserved
-loop-field-preserved g c = so_far_next c.args.fields.now c.loop-field.field-index _ c.loop-field.out c.loop-field.err c.loop-field-test.true c.loop-field.invariant c.in_ok-check_begun.ensures
+loop-field-preserved g c = so_far_next c.args.fields.now c.loop-field.field-index _ c.loop-field.stdout_came c.loop-field.stderr_came c.loop-field-test.true c.loop-field.invariant c.in_ok-check_begun.ensures
