@@ -103,8 +103,8 @@ module _ (A : Type 0) (yields : Yields) (most : ℕ) (plan : PlanValue) (sources
     (old new : Seen) where
   -- A build of the plan: an engine was opened by what the store told as it was asked, for a frame
   -- and a command of each step; calls led from it to another, and then the store was only asked,
-  -- for what the root's lines need. The children that were started, the
-  -- results that were put and the numbers that the watcher was told are those of the calls.
+  -- for what the root's lines need. The children that were started, the results that were put and
+  -- the numbers that the watcher was told are those of the calls.
   pub record Ran (first last : EngineValue) : Type 0 where
     pub opening : Telling
     pub asked : Asks (2 * length plan.steps) old.store opening

@@ -84,7 +84,7 @@ fn take_target<A: Allocator + Copy>(
     }
 }
 
-/// What a text begins with.
+/// The steps that a text begins with.
 #[derive(Drop)]
 struct Front<'a, A: Allocator> {
     /// The steps before the root.

@@ -37,7 +37,7 @@ pub fn is_step_name(name: &[u8]) -> bool
 }
 
 impl<A: Allocator> StepName<A> {
-    /// The name of these bytes. `None` where they are none.
+    /// The name of these bytes. `None` where they are no name.
     pub fn new(alloc: A, name: &[u8]) -> Result<Option<StepName<A>>, AllocError>
         ensures found { IfOk result (λ read. IfSome read (λ n. IsStepName n × (n ≡ name.now))) }
         ensures none { IfOk result (λ read. IfNone read (¬ IsStepName name.now)) }

@@ -75,7 +75,8 @@ impl<A: Allocator> PartialOrd for Names<A> {
 
     ghost partial_cmp = { as_partial_cmp names_cmp };
 
-    ghost laws = { po (lists_total nat_list_cmp_total) (lists_ties (slice_cmp nat_cmp) texts_ties) };
+    ghost laws = { po (lists_total nat_list_cmp_total)
+        (lists_ties (slice_cmp nat_cmp) texts_ties) };
 
     fn partial_cmp(&self, other: &Names<A>) -> Option<Ordering> {
         Some(self.cmp(other))

@@ -26,8 +26,8 @@ use Rattle.processes.specs.Laying.{place_in}
 pub record AreKept (some all : List (List ℕ)) : Type 0 where
   pub kept : (b : List ℕ) → Contains some b → Contains all b
 
--- A file stands at a place, with its bit false. Its digest is that of the bytes that it was read to
--- have, which are among the blobs.
+-- A file stands at a place; its executable bit is false. Its digest is that of the bytes that it
+-- was read to have, which are among the blobs.
 abbrev pub IsFileAt : {R C E : Type 0} → Works R C E → E → List (List ℕ) → List ℕ → DigestValue
     → Bool → Type 0
 IsFileAt works ended blobs place d executable = (executable ≡ false)

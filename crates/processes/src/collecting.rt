@@ -47,7 +47,8 @@ fn take_output<A: Allocator + Copy, W: Workshop>(
     Ok(())
 }
 
-/// What stands at the paths below a folder, as the outcome of a program's exit code, and its blobs.
+/// The outcome of a program that ended with this exit code, with what stands at the paths below a
+/// folder as its outputs, and their blobs.
 pub(crate) fn collect<A: Allocator + Copy, W: Workshop>(
     alloc: A,
     workshop: &W,

@@ -57,7 +57,7 @@ pub struct NewFolder;
 #[derive(Drop)]
 pub struct HasEnded;
 
-/// The standing that metadata tell of.
+/// What stands at a path with this metadata.
 fn standing_of(metadata: &fs::Metadata) -> Standing {
     if metadata.is_dir() {
         Standing::Folder
@@ -68,7 +68,7 @@ fn standing_of(metadata: &fs::Metadata) -> Standing {
     }
 }
 
-/// How a process ended, as the status tells for which it was waited.
+/// How a process ended, as its exit status tells.
 fn exit_of(status: &ExitStatus) -> Exit
     ensures code { IfSome (exit_code status.now) (λ code. result ≡ Exit.Code code) }
     ensures signal { IfSome (exit_signal status.now) (λ number. result ≡ Exit.Signal number) }

@@ -12,8 +12,8 @@ use std::io;
 use std::io::ErrorKind;
 use worker::RunError;
 
-/// How many children haven't been waited for yet, and how often something failed. Only what starts
-/// a child and what waits for one change the first.
+/// How many children haven't been waited for yet, and how often something failed. Only `start` and
+/// `wait` change the first.
 #[derive(Drop)]
 pub(crate) struct Tally {
     alive: u64,

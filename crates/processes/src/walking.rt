@@ -86,7 +86,7 @@ fn list_names<A: Allocator + Copy, W: Workshop>(
 }
 
 /// Adds what stands in the folder at a place, at the path above in a tree, and keeps the contents
-/// of the files. A path below it has at most so many more names.
+/// of the files. A path below it has at most `most` more names.
 fn walk<A: Allocator + Copy, W: Workshop>(
     alloc: A,
     workshop: &W,

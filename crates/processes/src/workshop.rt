@@ -30,7 +30,7 @@ pub trait Workshop {
     /// A process that was started.
     type Child: Drop;
 
-    /// That a process has ended: only with this is looked at what it left.
+    /// That a process has ended. What it left is looked at only with this.
     type Ended: Drop;
 
     ghost use Rattle.processes.specs.Workshop.{Works, Becomes, StartsIn};

@@ -52,8 +52,8 @@ fn code_named<A: Allocator + Copy>(alloc: A, word: &str, code: i32) -> Result<St
     format!(in alloc; "{word} {code}")
 }
 
-#[tactic(auto, using(crate::proofs::Unbroken::none_seen))]
 /// The cause's word, and what it names: a digest, a path as plans spell it, or an exit code.
+#[tactic(auto, using(crate::proofs::Unbroken::none_seen))]
 pub fn cause_text<A: Allocator + Copy, B: Allocator>(
     alloc: A,
     cause: &Cause<B>,

@@ -1,4 +1,4 @@
-//! The line that tells a verdict: on what the verifier answered, in one line of text.
+//! A verdict as one line of text.
 #![tactic(auto)]
 
 mod cause;

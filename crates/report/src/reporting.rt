@@ -8,8 +8,8 @@ use blob_digest::Digest;
 use std::alloc::{AllocError, Allocator};
 use verifier::{Cause, Place, Verdict};
 
-#[tactic(auto, using(crate::proofs::Unbroken::none_seen, crate::proofs::Unbroken::none_named, crate::proofs::Unbroken::none_in_name))]
 /// Where a fault stands: `step`, a space and the step's name, or `root`.
+#[tactic(auto, using(crate::proofs::Unbroken::none_seen, crate::proofs::Unbroken::none_named, crate::proofs::Unbroken::none_in_name))]
 fn place_text<A: Allocator + Copy, B: Allocator>(
     alloc: A,
     place: &Place<B>,

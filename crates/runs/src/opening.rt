@@ -110,7 +110,7 @@ fn read_steps<A: Allocator + Copy, S: BlobSource<A>>(
     Ok(Meanings { frames, commands })
 }
 
-/// As many places as steps, of none of which anything is known.
+/// A place for each of so many steps, none of which has finished.
 fn none_finished<A: Allocator + Copy>(
     alloc: A,
     count: usize,

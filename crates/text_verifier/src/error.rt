@@ -7,19 +7,20 @@ use std::alloc::AllocError;
 use thiserror::Error;
 use verifier::VerifyError;
 
-/// Why texts have no answer. Those of the texts come in this order, and before the source is asked.
+/// Why texts have no answer. The faults of the texts come in this order, and before the source is
+/// asked.
 #[derive(Clone, Copy, Debug, PartialEq, Eq, Error)]
 pub enum TextError {
-    /// The text of the sources' digest is none.
+    /// The sources' text is no digest.
     #[error("sources: {0}")]
     Sources(DigestError),
-    /// The text of the claimed root's digest is none.
+    /// The claimed root's text is no digest.
     #[error("claim: {0}")]
     Claim(DigestError),
-    /// The plan's text is none.
+    /// The plan's text is no plan.
     #[error("plan: {0}")]
     Plan(PlanError),
-    /// The record's text is none of the plan.
+    /// The record's text is no record of the plan.
     #[error("record: {0}")]
     Record(PlanError),
     /// The source failed, and counted that.

@@ -174,8 +174,8 @@ pub fn a_build_meets_the_premises()
     ensures counted { IsDigest two.sources × (length two.recorded ≡ length two.plan.steps) }
 {}
 
-/// So can they with a plan of version 2 whose lines meet: by the same steps, where the root has a
-/// file put into a directory. A law: it does nothing.
+/// The premises of what a yes says can be met together by a plan of version 2 whose lines meet: by
+/// the same two steps, where the root has a file put into a directory. A law: it does nothing.
 pub fn a_merge_meets_the_premises()
     ensures plan { IsPlan two.meeting_plan }
     ensures meets { NoTargetsOverlap two.meeting_plan.root_lines → ⊥ }
@@ -185,16 +185,16 @@ pub fn a_merge_meets_the_premises()
     ensures complete { HasFinishedAll two.meeting_plan two.end }
 {}
 
-/// So can the premises of what is said of stages: by that build, and the same once more from what
-/// it made. A law: it does nothing.
+/// The premises of what is said of stages can be met together: by the build of two steps, and the
+/// same once more from what it made. A law: it does nothing.
 pub fn stages_meet_the_premises<A: Allocator>()
     ensures yes { AreYes A two.sources (two.stage ∷ two.stage ∷ []) }
     ensures runs { RunInTurn two.tree (two.stage ∷ two.stage ∷ []) (two.run ∷ two.run ∷ [])
         two.built }
 {}
 
-/// And so can those of what a no says: by that build, where the source has told nothing, and where
-/// another root is claimed. A law: it does nothing.
+/// The premises of what a no says can be met: by the build of two steps, where the source has told
+/// nothing, and where another root is claimed. A law: it does nothing.
 pub fn a_no_meets_the_premises<A: Allocator>()
     ensures step { IsVerdict {A = A} two.silent two.sources two.plan two.recorded two.claim
         (No (Step (codes "gen")) (BlobMissing two.gen_action_digest)) }

@@ -135,6 +135,7 @@ pub fn put_together<A: Allocator + Copy, O: Outcomes<A>, S: BlobSource<A>>(
         (known_by memo.old) (known_by memo.new) (S.tells source.old) (S.tells source.new) }
 {
     let nodes = resolve(alloc, sources, outcomes, lines, memo, source)?;
+    // A match for the prover: it tells the two answers apart.
     match merge(alloc, &nodes, memo, source) {
         Ok(made) => Ok(made),
         Err(error) => Err(error),

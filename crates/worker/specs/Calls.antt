@@ -24,8 +24,8 @@ running (None ∷ js) = running js
 running (Some j ∷ js) = suc (running js)
 
 -- A step is started as a job; a child is started for a job; a job finishes with what its child came
--- to, or with what the store has for its action; a job is lost. A job of an action whose child came
--- to something has its result put under the action.
+-- to, or with what the store has for its action; a job is lost. What a child came to may be put as
+-- the result of its action.
 pub data Call : Type 0 where
   started : (step id : ℕ) → Call
   launched : (id : ℕ) (action : DigestValue) (child : StartValue) → Call

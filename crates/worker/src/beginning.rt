@@ -135,7 +135,7 @@ pub(crate) fn begin<A: Allocator + Copy, S: BlobSink<A>, N: Runner<A>>(
         (N.starts runner.old) (N.starts runner.new) (S.tells sink.old) (S.tells sink.new) step
         engine.old engine.new children.old.items children.new.items)
         × HasPutAll remembered.new.put (items_of b.started.job.input.directories.items)) }
-    // What the store was asked for before it isn't asked for again.
+    // A Directory of the sources that is known isn't asked for again.
     ensures once { OnOk result ((b : IsBegun A (N.yields runner.old) N.may_give
         (N.starts runner.old) (N.starts runner.new) (S.tells sink.old) (S.tells sink.new) step
         engine.old engine.new children.old.items children.new.items)

@@ -8,8 +8,8 @@ use std::marker::Model;
 use thiserror::Error;
 use tree::TreeError;
 
-/// Folders and files with their contents, each list in the order of the texts of the paths: so a
-/// folder stands before what is in it.
+/// Folders and files with their contents. `layout` gives each list in the order of the texts of the
+/// paths: so a folder stands before what is in it.
 #[derive(Drop)]
 pub struct Layout<A: Allocator> {
     pub folders: Vec<Path<A>, A>,

@@ -24,7 +24,8 @@ use std::alloc::Allocator;
 use std::collections::BTreeSet;
 use tree::BlobSink;
 
-/// Puts blobs, each under its digest. Refusals: `Fetch` and `Memory`; those before it are put.
+/// Puts blobs, each under its digest. Refusals: `Fetch` and `Memory`. Any of them may have been put
+/// then.
 #[tactic(auto, using(crate::proofs::Keeping::kept_none, crate::proofs::Keeping::kept_trans, crate::proofs::Keeping::kept_blob))]
 pub fn put_all<A: Allocator + Copy, S: BlobSink<A>>(
     alloc: A,
