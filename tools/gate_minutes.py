@@ -16,7 +16,7 @@ import tempfile
 import threading
 import time
 
-from harness import fail, words_of
+from harness import TOP, fail, words_of
 
 TICKS = os.sysconf("SC_CLK_TCK")
 KINDS = ("proof", "tests", "mistakes")
@@ -73,17 +73,16 @@ def main(words):
 
 
 def timed(file, environment):
-    top = os.path.dirname(os.path.dirname(os.path.realpath(__file__)))
     try:
         log = open(file, "w", encoding="utf-8")
     except OSError as fault:
         fail(3, fault)
     seen, stopped, began = {}, threading.Event(), time.time()
-    watcher = threading.Thread(target=watch, args=(seen, stopped))
+    watcher = threading.Thread(target=watch, args=(seen, stopped), daemon=True)
     watcher.start()
     how = {"stdout": subprocess.PIPE, "stderr": subprocess.STDOUT, "text": True, "errors": "replace", "env": environment}
     with log:
-        gate = subprocess.Popen([f"{top}/.ci/run"], cwd=top, **how)
+        gate = subprocess.Popen([f"{TOP}/.ci/run"], cwd=TOP, **how)
         for line in gate.stdout:
             print(f"{(time.time() - began) / 60:6.1f} {line}", end="", file=log, flush=True)
             last = line.strip()

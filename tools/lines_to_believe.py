@@ -1,4 +1,4 @@
-#!/usr/bin/python3
+#!/usr/bin/env python3
 """Prints how much has to be believed, which docs/DEFINITIONS.md tells: a table of the lines of each crate's specs/, without
 blank lines, imports, comments and the files that ASIDE names. It takes no words."""
 

@@ -1,4 +1,4 @@
-#!/usr/bin/python3
+#!/usr/bin/env python3
 """Measures the program `verify` on builds of growing size: prints the rows of tables in docs/PERFORMANCE.md.
 
     ./measure_verify.py ../crates/buildcache/out/buildcache steps 1024 2048 4096

@@ -31,7 +31,10 @@ class FolderStore:
         if part not in self.parts_made:
             os.makedirs(os.path.join(self.folder, part), exist_ok=True)
             self.parts_made.add(part)
-        write_file(self.place(part, name), content)
+        # (whole or not at all: another program may read this store)
+        place = self.place(part, name)
+        write_file(f"{place}.new{os.getpid()}", content)
+        os.replace(f"{place}.new{os.getpid()}", place)
 
     def close(self):
         pass
@@ -42,10 +45,7 @@ class ServerStore:
 
     def __init__(self, address, prefix):
         self.address, self.prefix = address, prefix
-        try:
-            self.connection = http.client.HTTPConnection(address, timeout=60)
-        except http.client.InvalidURL as fault:
-            raise ValueError(f"{address!r} is no server's address, HOST:PORT ({fault})") from None
+        self.connection = http.client.HTTPConnection(address, timeout=60)
 
     def place(self, part, name):
         return f"http://{self.address}{self.prefix}/{part}/{name}"
@@ -75,6 +75,11 @@ class ServerStore:
         self.connection.close()
 
 
+def is_address(text):
+    """Whether a text is HOST:PORT, as the program takes it."""
+    return re.fullmatch(r"[^/\s]+:0*[0-9]{1,5}", text) is not None and int(text.rpartition(":")[2]) < 65536
+
+
 def is_prefix(text):
     """Whether a text may stand before /cas and /ac: nothing, or segments of plain characters, 256 bytes at most."""
     return len(text) <= 256 and re.fullmatch("(/[A-Za-z0-9._~-]+)*", text) is not None
@@ -100,10 +105,9 @@ def store_of(options):
         return FolderStore(options.store or os.path.join(options.folder, "store"))
     if not is_prefix(options.prefix):
         raise Refused(f"{options.prefix!r} is no prefix, as /cache/main")
-    try:
-        return ServerStore(options.server, options.prefix)
-    except ValueError as fault:
-        raise Refused(str(fault)) from None
+    if not is_address(options.server):
+        raise Refused(f"{options.server!r} is no server's address, HOST:PORT")
+    return ServerStore(options.server, options.prefix)
 
 
 def write_file(path, content):

@@ -25,11 +25,11 @@ ASKED = ("sources", "claim")
 
 
 class Fault(Exception):
-    """What is at fault, and the status that tells it."""
+    """What is at fault, the status that tells it, and beside a no the line of its note."""
 
-    def __init__(self, status, why):
+    def __init__(self, status, why, note=""):
         super().__init__(why)
-        self.status = status
+        self.status, self.note = status, note
 
 
 @dataclass
@@ -70,7 +70,10 @@ def verify(stage, program, place):
     """What `verify` prints on a stage, what it prints as an error, and its status."""
     words = [program, "verify", *place, "--sources", stage.sources, "--claim", stage.claim]
     words += ["--plan", os.path.join(stage.folder, "plan"), "--record", os.path.join(stage.folder, "record")]
-    ran = subprocess.run(words, stdin=subprocess.DEVNULL, capture_output=True, text=True, check=False)
+    try:
+        ran = subprocess.run(words, stdin=subprocess.DEVNULL, capture_output=True, text=True, check=False)
+    except OSError as fault:
+        raise Fault(3, fault) from None
     return ran.stdout.rstrip("\n"), ran.stderr.rstrip("\n"), ran.returncode
 
 
@@ -83,10 +86,10 @@ def judge(stages, program, place, jobs):
             for count, (stage, verdict) in enumerate(zip(stages, verdicts), 1):
                 line, told, status = verdict.result()
                 if status == 1:
-                    raise Fault(1, f"no stage {stage.name} {line.removeprefix('no ')}")
+                    raise Fault(1, f"no stage {stage.name} {line.removeprefix('no ')}", told)
                 found = re.fullmatch(f"yes {stage.claim} steps ([0-9]+)", line)
                 if status != 0 or not found:
-                    raise Fault(status or 3, f"stage {stage.name}: {told.removeprefix('error: ') or line}")
+                    raise Fault(2 if status == 2 else 3, f"stage {stage.name}: {told.removeprefix('error: ') or line}")
                 steps += int(found[1])
                 if is_shown:
                     print(f"\r{count} of {len(stages)} stages, {steps} steps", end="", file=sys.stderr, flush=True)
@@ -98,13 +101,34 @@ def judge(stages, program, place, jobs):
     return steps
 
 
+def program_here():
+    """The program that the variable BUILDCACHE names, or that is built; else the script that builds it, which is then run
+    once before the stages are."""
+    if "BUILDCACHE" in os.environ or os.path.exists(harness.PROGRAM):
+        return harness.PROGRAM
+    script = os.path.join(harness.TOP, "buildcache")
+    try:
+        ran = subprocess.run([script, "--version"], stdin=subprocess.DEVNULL, stdout=subprocess.DEVNULL, check=False)
+    except OSError as fault:
+        raise Fault(3, fault) from None
+    if ran.returncode != 0:
+        raise Fault(3, f'"{script}" ends with status {ran.returncode}')
+    return script
+
+
+def jobs_of(text):
+    if not text.isdecimal() or not 1 <= int(text) <= 64:
+        raise argparse.ArgumentTypeError(f"{text!r} is no number from 1 to 64")
+    return int(text)
+
+
 def parse(words):
     lines = __doc__.split("\n\n", 1)
     parser = argparse.ArgumentParser(
         prog="verify_stages.py", description=lines[0], epilog=lines[1], formatter_class=argparse.RawDescriptionHelpFormatter
     )
     parser.add_argument("folder", metavar="FOLDER", help="the folder with the stages")
-    parser.add_argument("--jobs", metavar="J", type=int, default=1, choices=range(1, 65), help="so many at once, 1 to 64")
+    parser.add_argument("--jobs", metavar="J", type=jobs_of, default=1, help="so many at once, 1 to 64")
     places = parser.add_mutually_exclusive_group()
     places.add_argument("--store", metavar="STORE", help="the store folder, in place of FOLDER/store")
     places.add_argument("--server", metavar="HOST:PORT", help="a cache over HTTP in place of a folder")
@@ -118,15 +142,19 @@ def main(words):
         place = ["--server", options.server, *(["--prefix", options.prefix] if options.prefix else [])]
     else:
         place = ["--store", options.store or os.path.join(options.folder, "store")]
-    program = harness.PROGRAM if os.path.exists(harness.PROGRAM) else os.path.join(harness.TOP, "buildcache")
     try:
         if options.prefix and not options.server:
             raise Fault(2, "--prefix is for --server")
         stages = read_stages(options.folder)
-        steps = judge(stages, program, place, options.jobs)
+        steps = judge(stages, program_here(), place, options.jobs)
     except Fault as fault:
-        print(fault if fault.status == 1 else f"error: {fault}", file=sys.stdout if fault.status == 1 else sys.stderr)
-        return fault.status
+        if fault.status != 1:
+            print(f"error: {fault}", file=sys.stderr)
+            return fault.status
+        print(fault)
+        if fault.note:
+            print(fault.note, file=sys.stderr)
+        return 1
     print(f"yes {stages[-1].claim} stages {len(stages)} steps {steps}")
     return 0
 

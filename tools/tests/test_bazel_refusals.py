@@ -57,7 +57,8 @@ class Servers(Case):
 
     def test_words_of_servers(self):
         text = log(spawn({}, ["a"]))
-        self.refuse("'127.0.0.1:x' is no server's address", text, "--server", "127.0.0.1:x")
+        for address in ("127.0.0.1:x", "127.0.0.1", ":1", "127.0.0.1:65536", "http://127.0.0.1:1"):
+            self.refuse(f"{address!r} is no server's address", text, "--server", address)
         self.refuse("'cache/' is no prefix", text, *self.words, "--prefix", "cache/")
         self.refuse("--prefix is for --server", text, "--prefix", "/cache")
 

@@ -16,6 +16,7 @@ from bazel_case import CHAIN, HERE, PROGRAM, TOP, TREE_STEP, Case, contents, log
 import bazel_log
 import many_steps
 import plans
+import stores
 
 KEPT = os.path.join(TOP, "crates", "test_program", "data", "counts")
 
@@ -236,6 +237,45 @@ class InStages(StagesCase):
         for words in ("0", "4097", "x"):
             with self.assertRaises(SystemExit), contextlib.redirect_stderr(io.StringIO()):
                 self.call(log(*CHAIN), "--stages", words)
+
+
+class OtherPrograms(Case):
+    """verify_stages.py where BUILDCACHE names a program that answers by the stage's claim, or none."""
+
+    def answer(self, script, *words):
+        """What is printed, what is told as an error, and the status, over two stages."""
+        for name in ("1", "2"):
+            os.makedirs(self.at("asked", name), exist_ok=True)
+            stores.write_texts(self.at("asked", name), {"sources": ["x"], "claim": ["x"], "plan": [], "record": []})
+        stores.write_texts(self.at("asked"), {"stages": ["1", "2"]})
+        if script is not None:
+            stores.write_texts(self.folder, {"program": ["#!/bin/sh", script]})
+            os.chmod(self.at("program"), 0o755)
+        tool = os.path.join(TOP, "tools", "verify_stages.py")
+        env = {**os.environ, "BUILDCACHE": self.at("program")}
+        done = subprocess.run([sys.executable, tool, self.at("asked"), *words], capture_output=True, text=True, env=env)
+        return done.stdout, done.stderr, done.returncode
+
+    def test_a_note_stands_beside_the_no(self):
+        found = self.answer("echo no root cause blob-missing x; echo 'note: none' >&2; exit 1")
+        self.assertEqual(found, ("no stage 1 root cause blob-missing x\n", "note: none\n", 1))
+
+    def test_a_fault_is_no_verdict(self):
+        for script, status in (("exit 2", 2), ("exit 3", 3), ("kill -9 $$", 3), ("echo yes y steps 1", 3), ("exit 101", 3)):
+            with self.subTest(script):
+                out, err, found = self.answer(script)
+                self.assertEqual((out, err.count("\n"), err[:7], found), ("", 1, "error: ", status))
+
+    def test_a_program_that_is_not_there(self):
+        out, err, status = self.answer(None)
+        self.assertEqual((out, err.count("\n"), err[:7], status), ("", 1, "error: ", 3))
+
+    def test_jobs(self):
+        self.assertEqual(self.answer("echo yes x steps 1", "--jobs", "64"), ("yes x stages 2 steps 2\n", "", 0))
+        for number in ("0", "65", "x"):
+            out, err, status = self.answer("exit 0", "--jobs", number)
+            self.assertEqual((out, status), ("", 2))
+            self.assertIn(f"{number!r} is no number from 1 to 64", err)
 
 
 if __name__ == "__main__":

@@ -14,63 +14,81 @@ use std::io;
 /// Why a command ends without its answer. Each is told in one line (`tell`).
 #[derive(Debug, Drop)]
 pub enum CommandError {
+    /// The words are at fault, as this says.
     Words(String),
+    /// The text of an option is no digest.
     Digest {
         option: &'static str,
         text: String,
         fault: DigestError,
     },
+    /// The text of an option is no number of at most `greatest`.
     Number {
         option: &'static str,
         greatest: u64,
         text: String,
     },
+    /// A line of a plan or of a record is at fault.
     Text {
         path: String,
         fault: PlanError,
         hint: Option<Hint>,
     },
+    /// The system refused a file or a folder.
     File {
         path: String,
         fault: io::Error,
     },
+    /// What stands at the path is no file.
     NotAFile {
         path: String,
     },
+    /// The file has more than 16,777,216 bytes.
     TooLarge {
         path: String,
     },
+    /// The text of an option isn't what is wanted.
     Unlike {
         option: &'static str,
         wanted: &'static str,
         text: String,
     },
+    /// What stands at the path, or under the digest, can't be put or be part of a tree.
     Entry {
         path: String,
         fault: &'static str,
     },
+    /// No connection to the server could be opened.
     Connection {
         server: String,
         fault: io::Error,
     },
+    /// A request to the server failed: what it asked, and of which digest.
     Server {
         server: String,
         asked: &'static str,
         digest: String,
         fault: Fault,
     },
+    /// The server sent bytes that don't have the digest.
     WrongBytes {
         server: String,
         digest: String,
     },
+    /// No socket could be bound at the address.
     Address {
         address: String,
         fault: io::Error,
     },
+    /// No more connections could be accepted.
     Accept(NotAccepted),
+    /// A process of a step came to nothing.
     Process(ProcessFault),
+    /// The system gave no random bytes.
     Random(io::Error),
+    /// Standard output takes no more.
     Output(io::Error),
+    /// Memory ran out.
     Memory,
 }
 
