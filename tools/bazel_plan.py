@@ -88,7 +88,9 @@ def parse(words):
         help="the folder of the execution root, as bazel-out/k8-fastbuild/bin, that is the top of the artifact",
     )
     parser.add_argument(
-        "--artifact", metavar="SHIPPED", help="claim the tree of this folder on disk, in place of what the log has"
+        "--artifact", metavar="SHIPPED",
+        help="claim the tree of this folder on disk, in place of what the log has. Without --outputs the artifact has what that "
+        "folder has, so that a file which it lacks isn't missed; with --below PATH the last line counts these",
     )
     parser.add_argument(
         "--drop-timeouts", action="store_true",
@@ -170,7 +172,8 @@ def main(words):
     print(f"claim {made.claim.text()}")
     stages = f" stages {len(made.builds)}" if made.are_stages else ""
     left_out = f" left-out {made.steps.left_out}" if made.steps.left_out else ""
-    print(f"steps {len(made.steps.spawns)} taken {len(made.steps.taken)}{stages}{left_out}")
+    not_shipped = f" not-shipped {made.steps.not_shipped}" if made.steps.not_shipped else ""
+    print(f"steps {len(made.steps.spawns)} taken {len(made.steps.taken)}{stages}{left_out}{not_shipped}")
     return 0
 
 

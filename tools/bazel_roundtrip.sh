@@ -1,7 +1,7 @@
 #!/usr/bin/env bash
 # Builds the workspace examples/bazel with a real Bazel, in a folder of its own, and asks `verify` about it: what was
-# built (yes), what was changed before it is shipped (no), and a store that has another output than was made (no). Then
-# its tests, and a generated workspace of 1,100 steps. With the variable BUILDCACHE it asks that program instead of
+# built (yes), a release that was changed or lacks a file (no), and a store that has another output than was made (no).
+# Then its tests, and a generated workspace of 1,100 steps. With the variable BUILDCACHE it asks that program instead of
 # ./buildcache; BAZEL is how Bazel is called.
 set -euo pipefail
 case ${1:-} in
@@ -50,7 +50,8 @@ change_card() {
 echo "== what was built"
 built ws build //pages:release
 cp -r "$work/ws/bazel-bin/pages/release" "$work/shipped"
-shipped=(--below bazel-out/k8-fastbuild/bin/pages/release --artifact "$work/shipped")
+release=bazel-out/k8-fastbuild/bin/pages/release
+shipped=(--outputs "$release/*" --below "$release" --artifact "$work/shipped")
 turn "${shipped[@]}"
 expect "yes * steps 11"
 
@@ -69,8 +70,14 @@ turn "${shipped[@]}"
 change_card
 expect "no step pages-pages-site cause input-differs *card.txt"
 
-echo "== another file in the artifact"
+echo "== a file that the artifact lacks"
 chmod -R u+w "$work/shipped"
+mv "$work/shipped/list.txt" "$work/list.txt"
+turn "${shipped[@]}"
+expect "no root cause root-differs *"
+mv "$work/list.txt" "$work/shipped/list.txt"
+
+echo "== another file in the artifact"
 echo more >>"$work/shipped/list.txt"
 turn "${shipped[@]}"
 expect "no root cause root-differs *"

@@ -204,6 +204,7 @@ class Steps:
     sources: dict
     taken: list
     left_out: int
+    not_shipped: int
 
     def keep(self, entries):
         """The digest of a dictionary, of which the store is told."""
@@ -229,7 +230,9 @@ def steps_of(log, wanted, below, artifact, drop_timeouts, keep_all):
     origins = Origins(spawns)
     for spawn in spawns:
         spawn.outputs = outputs_of(spawn)
-    chosen = choose(outputs_by_path(spawns), wanted, below, artifact)
+    outputs = outputs_by_path(spawns)
+    chosen = choose(outputs, wanted, below, artifact)
+    not_shipped = lacking(outputs, chosen, below) if artifact is not None and not wanted else 0
     count = len(spawns)
     if (wanted or artifact is not None) and not keep_all:
         spawns = that_are_read(spawns, origins, chosen)
@@ -241,7 +244,8 @@ def steps_of(log, wanted, below, artifact, drop_timeouts, keep_all):
         directories.put_into(store.blobs, spawn.input)
         store.results[spawn.action] = result_message(spawn.outputs, spawn.exit_code, store.keep)
     sources, tree, taken = sources_of(spawns, origins)
-    return Steps(store, spawns, Given(spawns, origins, sources), chosen, artifact, tree, taken, count - len(spawns))
+    given = Given(spawns, origins, sources)
+    return Steps(store, spawns, given, chosen, artifact, tree, taken, count - len(spawns), not_shipped)
 
 
 def sources_of(spawns, origins):
@@ -287,6 +291,13 @@ def choose(outputs, wanted, below, artifact):
         if above:
             raise Refused(f'"{target}" of the artifact lies under "{above}", another output')
     return chosen
+
+
+def lacking(outputs, chosen, below):
+    """How many files were made below the folder that is the artifact's top, and aren't chosen; 0 where no folder is named."""
+    has = {path for path, _, _ in chosen.values()}
+    files = [file for path, (_, entry) in outputs.items() for file, _ in files_at(path, entry)]
+    return sum(bool(below) and it.startswith(f"{below}/") and it not in has for it in files)
 
 
 def why_none(outputs, below):

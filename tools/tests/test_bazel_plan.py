@@ -225,9 +225,19 @@ class Artifacts(Case):
         self.ship({"a": "bin/a", "t/x": "1"})
         self.assertEqual(self.root("--below", "bin", "--artifact", self.at("shipped")), ["a", "t/x"])
         self.judge("yes ")
+        self.assertEqual(self.root("--outputs", "bin/*", "--below", "bin", "--artifact", self.at("shipped")), ["a", "t"])
+        self.judge("no root cause root-differs ")
         self.ship({"t/y": "2"})
         self.assertEqual(self.root("--outputs", "bin/*", "--below", "bin", "--artifact", self.at("shipped")), ["a", "t"])
         self.judge("yes ")
+
+    def test_files_that_the_folder_lacks_are_counted(self):
+        self.ship({"a": "bin/a", "t/x": "1"})
+        told = [self.call(self.BUILD, *words, "--artifact", self.at("shipped"))[1].splitlines()[-1]
+                for words in (["--below", "bin"], ["--below", "bin", "--outputs", "bin/*"])]
+        self.assertEqual(told, ["steps 2 taken 0 left-out 1 not-shipped 1", "steps 2 taken 0 left-out 1"])
+        self.ship({"t/y": "2"})
+        self.assertTrue(self.call(self.BUILD, "--below", "bin", "--artifact", self.at("shipped"))[1].endswith("left-out 1\n"))
 
     def test_a_folder_that_is_unlike_the_build_is_a_no(self):
         self.ship({"bin/a": "other"})
