@@ -1,7 +1,8 @@
 #!/usr/bin/env bash
 # Proves and builds the program buildcache: each crate that it stands on by `rt lib`, as soon as those below it are
 # built, and then the program. Crates that don't stand on each other are built side by side. What was built before is
-# kept, so a run that was broken off goes on where it was. It tells on standard error which crate it is at.
+# kept, so a run that was broken off goes on where it was, and a second one beside it waits for the first. It tells on
+# standard error which crate it is at.
 set -euo pipefail
 case ${1:-} in
 -h | --help) sed -n '2,/^[^#]/s/^# //p' "$0"; exit ;;
@@ -11,6 +12,14 @@ command -v rt >/dev/null || { echo "error: rt, the Rattle kit's command, isn't f
 top=$(cd "$(dirname "${BASH_SOURCE[0]}")/.." && pwd)
 rooms=$top/.git/build-rooms
 log=$(mktemp -d)
+trap 'rm -rf "$log"' EXIT
+
+# One build at a time in these folders: what another one builds is there when it is done.
+exec {lock}<"$top"
+if ! flock -n "$lock"; then
+  echo 'buildcache: waiting for another build here' >&2
+  flock "$lock"
+fi
 trap 'rm -rf "$log" "$rooms"' EXIT
 
 declare -A uses=()
