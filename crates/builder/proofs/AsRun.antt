@@ -22,18 +22,13 @@ use Rattle.runs.proofs.Finishes.{finished_is_engine, finish_event}
 use Rattle.runs.proofs.Lost.{lost_engine, job_there, lost_event}
 use Rattle.runs.proofs.Opened.{opened_mirrors}
 use Rattle.runs.proofs.Starts.{started_engine, started_event}
+use Rattle.verifier.proofs.Finishing.{run_more}
 use Rattle.worker.specs.Calls.{Call, started, launched, ran, taken, lost, WasStarted, Does, Leads, IsLed}
 use Rattle.worker.specs.Outcomes.{Yields}
 use Rattle.worker.proofs.Acts.{calls_same, led_same}
 use Rattle.worker.proofs.Telling.{told_still}
 use Rattle.builder.specs.AsRun.{FinishedWith, IsAbout, IsARun}
 use Rattle.builder.proofs.Staying.{together_stays}
-
--- one event more
-run_more : (X : List (ActionMeaning × Outcome)) (plan : PlanValue) (meaning : Meaning) (t : Tree Leaf) (s : State) (es : List Event) (mid : State) (e : Event) (end : State)
-    → IsRun X plan meaning t s es mid → Obeys X mid e → happens plan meaning t mid e ≡ Some end → IsRun X plan meaning t s (es ++ e ∷ []) end
-run_more X plan meaning t s [] mid e end same obeys next = (subst (λ r. Obeys X r e) same obeys, end, subst (λ r. happens plan meaning t r e ≡ Some end) same next, refl)
-run_more X plan meaning t s (f ∷ es) mid e end (ob, u, hap, rest) obeys next = (ob, u, hap, run_more X plan meaning t u es mid e end rest obeys next)
 
 -- what was opened by right blobs is opened where they stay
 opened_still : (B C : Blobs) (plan : PlanValue) (sources : DigestValue) (e : EngineValue) → KeepsRight B C → IsOpened B plan sources e → IsOpened C plan sources e

@@ -210,7 +210,7 @@ module _ (S : List ℕ → Type 0) (apart : NoClash S) where
 
       -- ---- lines and their grafts
 
-      abbrev HaveFinished : State → List LineValue → Type 0
+      abbrev pub HaveFinished : State → List LineValue → Type 0
       HaveFinished s ls = AllByRecursion (λ (l : LineValue). HasFinished s l.origin) ls
 
       -- the blobs of what stands at an origin
@@ -351,7 +351,7 @@ module _ (S : List ℕ → Type 0) (apart : NoClash S) where
           λ i. record { frame = frame i; command = command i; input = input i }
 
       -- each event keeps it
-      keeps_event : (s mid : State) (e : Event) → Keeps s → Obeys X s e → ((b : List ℕ) → IsBlobOfEvent plan meaning t s e b → S b) → happens plan meaning t s e ≡ Some mid → Keeps mid
+      pub keeps_event : (s mid : State) (e : Event) → Keeps s → Obeys X s e → ((b : List ℕ) → IsBlobOfEvent plan meaning t s e b → S b) → happens plan meaning t s e ≡ Some mid → Keeps mid
       keeps_event s mid (start i w) keeps obeys blobs is = by (job_of w s) (action_of plan meaning t s i) refl is
         where
           by : (q : Option (ℕ × ActionMeaning)) (o : Option ActionMeaning) → action_of plan meaning t s i ≡ o → started s i w q o ≡ Some mid → Keeps mid
@@ -406,17 +406,22 @@ module _ (S : List ℕ → Type 0) (apart : NoClash S) where
           let g = grafts end keeps plan.root_lines paths h.root.nodes h.root.resolved h.root.tree h.root.put_together (finished_all end all plan.root_lines h.root.nodes h.root.resolved) in
           (g.0, g.1, g.2 ∙ h.root.same, g.3)
 
+      -- a step whose lines' steps have finished has an action
+      pub may_start : (now : State) → Keeps now → (i : ℕ) (step : StepValue) → slice_get plan.steps i ≡ Some step → HaveFinished now step.lines → (a : ActionMeaning) × (action_of plan meaning t now i ≡ Some a)
+      may_start now keeps i step at done =
+          let c = chosen_at i step at in
+          let f = fits.steps i step at in
+          let r = c.kept.step in
+          let g = grafts now keeps step.lines (step_paths [] plan.steps rules.steps i step at) r.nodes r.resolved r.tree r.put_together done in
+          let a : ActionMeaning = record { frame = f.0; command = f.1; input = g.0 } in
+          (a, action_made now i step at ∙ ap (option_map {U = ActionMeaning} (λ input. record { frame = f.0; command = f.1; input = input })) g.1)
+
       -- Nothing is stuck.
       pub nothing_is_stuck : (now : State) → Keeps now → IsNotStuck X plan meaning t now
       nothing_is_stuck now keeps = record {
         starts = λ i w step at done free.
-            let c = chosen_at i step at in
-            let f = fits.steps i step at in
-            let r = c.kept.step in
-            let g = grafts now keeps step.lines (step_paths [] plan.steps rules.steps i step at) r.nodes r.resolved r.tree r.put_together done in
-            let a : ActionMeaning = record { frame = f.0; command = f.1; input = g.0 } in
-            let made : action_of plan meaning t now i ≡ Some a = action_made now i step at ∙ ap (option_map {U = ActionMeaning} (λ input. record { frame = f.0; command = f.1; input = input })) g.1 in
-            (record now { jobs = (w, (i, a)) ∷ now.jobs }, ap (λ q. started now i w q (action_of plan meaning t now i)) free ∙ ap (started now i w None) made);
+            let a = may_start now keeps i step at done in
+            (record now { jobs = (w, (i, a.0)) ∷ now.jobs }, ap (λ q. started now i w q (action_of plan meaning t now i)) free ∙ ap (started now i w None) a.1);
         finishes = λ w job is.
             let j = found_one IsJob w now.jobs job keeps.jobs is in
             let c = chosen_at job.0 j.0 j.1 in

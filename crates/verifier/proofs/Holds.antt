@@ -1,6 +1,6 @@
 -- Every complete run of a plan that is as recorded ends in the claim, no run of it is stuck, and a yes says so.
 use Rattle.std.proofs.Common.{List, inl, inr, sym, subst}
-use Rattle.std.specs.Prelude.{◌≡◌, ℕ, Some, Result, Ok, Err, IfOk, IsSomeAnd}
+use Rattle.std.specs.Prelude.{◌≡◌, ◌⊎◌, ℕ, Some, Result, Ok, Err, IfOk, IsSomeAnd}
 use Rattle.blob_digest.specs.Digest.{DigestValue}
 use Rattle.plan.specs.Plan.{IsPlan}
 use Rattle.plan.specs.Values.{PlanValue}
@@ -10,9 +10,10 @@ use Rattle.blob_source.specs.Source.{Blobs, Telling}
 use Rattle.verifier.specs.declared.verdict.Verdict.{Verdict}
 use Rattle.verifier.specs.AsRecorded.{IsPlanAsRecorded}
 use Rattle.verifier.specs.Build.{HasFinishedAll, merge_of}
-use Rattle.verifier.specs.Headline.{IsConcerned, PlanRun, RunsFrom, EveryRunEndsIn, EveryRunIsAsChosen, NoRunIsStuck}
+use Rattle.verifier.specs.Headline.{IsConcerned, IsBlobAhead, PlanRun, RunsFrom, EveryRunEndsIn, EveryRunIsAsChosen, NoRunIsStuck}
 use Rattle.verifier.specs.Verdict.{IsVerdict, IsYes}
 use Rattle.verifier.proofs.FreshRuns.{Within, runs_keep, end_tree, nothing_is_stuck, runs_as_chosen}
+use Rattle.verifier.proofs.Finishing.{can_be_finished}
 use Rattle.verifier.proofs.Passing.{yes_recorded}
 
 module _ (B C : Blobs) (sources : DigestValue) (plan : PlanValue) (ds : List DigestValue) (claim : DigestValue) (valid : IsPlan plan) (h : IsPlanAsRecorded B C sources plan ds claim) where
@@ -44,6 +45,12 @@ module _ (B C : Blobs) (sources : DigestValue) (plan : PlanValue) (ds : List Dig
         let S : List ℕ → Type 0 = IsConcerned B plan r.meaning t r.chosen r.events in
         let keeps = runs_keep S k.apart B C t r.chosen (concerned t r) sources plan ds claim r.meaning r.table ordered is k.fits k.table k.agrees valid h r.now r.events (λ b q. inr (inr (inr q))) k.happened in
         nothing_is_stuck S k.apart B C t r.chosen (concerned t r) sources plan ds claim r.meaning r.table ordered is k.fits k.table k.agrees valid h r.now keeps;
+    can_end = λ t r ordered is k apart.
+        let S : List ℕ → Type 0 = λ b. IsConcerned B plan r.meaning t r.chosen r.events b ⊎ IsBlobAhead r.table plan r.meaning t r.now b in
+        let c = concerned t r in
+        let within : Within S B t r.chosen = record { values = λ b q. inl (c.values b q); directories = λ b q. inl (c.directories b q); own = λ b q. inl (c.own b q); picked = λ b q. inl (c.picked b q) } in
+        let keeps = runs_keep S apart B C t r.chosen within sources plan ds claim r.meaning r.table ordered is k.fits k.table k.agrees valid h r.now r.events (λ b q. inl (inr (inr (inr q)))) k.happened in
+        can_be_finished S apart B C t r.chosen within sources plan ds claim r.meaning r.table ordered is k.fits k.table k.agrees valid h r.now keeps (λ b q. inr q);
   }
 
   pub recorded_as_chosen : EveryRunIsAsChosen B C sources plan ds

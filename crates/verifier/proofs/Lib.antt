@@ -4,6 +4,7 @@ pub mod TwoSteps
 pub mod TwoStepsRecorded
 pub mod TwoStepsRun
 pub mod TwoStepsBlobs
+pub mod TwoStepsEvents
 pub mod TwoStages
 pub mod SourceLine
 pub mod Lines
@@ -18,6 +19,7 @@ pub mod RecordedSteps
 pub mod HeldOrigins
 pub mod LinesTold
 pub mod FreshRuns
+pub mod Finishing
 pub mod Explained
 pub mod Checking
 pub mod Stages

@@ -382,7 +382,7 @@ module _ (t : Tree Leaf) where
 
   -- ---- no clash
 
-  concerned_one : ((b : List ℕ) → IsBlobOf t b → Contains all_blobs b) → (b : List ℕ) → IsConcerned two.blobs two.plan two.meaning t two.table two.events b → Contains all_blobs b
+  pub concerned_one : ((b : List ℕ) → IsBlobOf t b → Contains all_blobs b) → (b : List ℕ) → IsConcerned two.blobs two.plan two.meaning t two.table two.events b → Contains all_blobs b
   concerned_one own b (inl (inl v)) = kept_one b v
   concerned_one own b (inl (inr h)) = in_tree b h
   concerned_one own b (inr (inl (inl h))) = own b h

@@ -143,9 +143,23 @@ pub record IsNotStuck (X : List (ActionMeaning × Outcome)) (plan : PlanValue) (
   pub finishes : (w : ℕ) (job : ℕ × ActionMeaning) → job_of w s ≡ Some job → (o : Outcome)
       × Contains X (job.1, o) × (o.exit_code ≡ pos 0)
 
+-- the blobs of what may still happen in a state
+abbrev pub IsBlobAhead : List (ActionMeaning × Outcome) → PlanValue → Meaning → Tree Leaf → State
+    → List ℕ → Type 0
+IsBlobAhead X plan meaning t s b = (es : List Event) × (end : State) × IsRun X plan meaning t s es end
+    × IsBlobOfEvents plan meaning t s es b
+
 -- Under the same premises no run is stuck, complete or not.
 pub record NoRunIsStuck (blobs results : Blobs) (sources : DigestValue) (plan : PlanValue)
     (recorded : List DigestValue) : Type 0 where
   pub of_run : (t : Tree Leaf) (run : PlanRun) → IsOrdered t → root (form t) ≡ sources
       → RunsFrom blobs results plan recorded t run
       → IsNotStuck run.table plan run.meaning t run.now
+  -- And events can follow after which every step has finished, if no two different blobs share a
+  -- digest of those concerned and of those of what may still happen.
+  pub can_end : (t : Tree Leaf) (run : PlanRun) → IsOrdered t → root (form t) ≡ sources
+      → RunsFrom blobs results plan recorded t run
+      → NoClash (λ b. IsConcerned blobs plan run.meaning t run.chosen run.events b
+      ⊎ IsBlobAhead run.table plan run.meaning t run.now b)
+      → (more : List Event) × (end : State)
+      × IsRun run.table plan run.meaning t run.now more end × HasFinishedAll plan end

@@ -1,6 +1,6 @@
-ghost use Rattle.std.specs.Prelude.{◌≡◌, ◌↔◌, ℕ, List, [], length, ◌++◌, ◌∷◌, Some, Contains};
+ghost use Rattle.std.specs.Prelude.{◌≡◌, ◌↔◌, ◌⊎◌, ℕ, List, [], length, ◌++◌, ◌∷◌, Some, Contains};
 ghost use Rattle.std.specs.Prelude.{codes, option_map};
-ghost use Rattle.blob_digest.specs.Digest.{DigestValue};
+ghost use Rattle.blob_digest.specs.Digest.{DigestValue, NoClash};
 ghost use Rattle.blob_digest.specs.DigestValue.{IsDigest};
 ghost use Rattle.plan.specs.Plan.{NoTargetsOverlap, IsPlan};
 ghost use Rattle.plan.specs.Values.{LineValue, StepValue, PlanValue};
@@ -28,7 +28,7 @@ ghost use Rattle.verifier.specs.declared.verdict.Cause.{Cause};
 ghost use Rattle.verifier.specs.Build.{Outcome, IsTreeOutcome, output_at, State, HasFinishedAll};
 ghost use Rattle.verifier.specs.Build.{AreLinesOf, merge_of, origins};
 ghost use Rattle.verifier.specs.Headline.{PlanRun, RunsFrom, EveryRunEndsIn, EveryRunIsAsChosen};
-ghost use Rattle.verifier.specs.Headline.{NoRunIsStuck, IsNotStuck};
+ghost use Rattle.verifier.specs.Headline.{NoRunIsStuck, IsNotStuck, IsConcerned, IsBlobAhead};
 ghost use Rattle.verifier.specs.BuildStages.{BuildStage, AreYes, last_claim, RunsStage};
 ghost use Rattle.verifier.specs.BuildStages.{EndsIn, RunInTurn};
 ghost use Rattle.verifier.specs.Recorded.{RecordsAt};
@@ -38,7 +38,7 @@ ghost use Rattle.verifier.specs.Verdict.{IsVerdict, IsYes};
 use std::alloc::Allocator;
 
 /// Every complete run of a valid plan that is as recorded ends in exactly the claimed root, no run
-/// of it is stuck, and each runs the recorded actions and comes to the recorded outcomes. A law: it
+/// of it is stuck and every one can be finished, and each runs the recorded actions and comes to the recorded outcomes. A law: it
 /// does nothing.
 pub fn recorded_plans_end_in_the_claim()
     ensures ends { (blobs results : Blobs) (sources : DigestValue) (plan : PlanValue)
@@ -170,6 +170,10 @@ pub fn a_build_meets_the_premises()
     ensures tree { IsOrdered two.tree × (root (form two.tree) ≡ two.sources) }
     ensures run { RunsFrom two.blobs two.results two.plan two.recorded two.tree two.run }
     ensures complete { HasFinishedAll two.plan two.end }
+    // Whatever may happen after the run, no two different blobs share a digest.
+    ensures ahead { NoClash (λ b. IsConcerned two.blobs two.plan two.run.meaning two.tree
+        two.run.chosen two.run.events b
+        ⊎ IsBlobAhead two.run.table two.plan two.run.meaning two.tree two.run.now b) }
     // So are those of `plans_have_verdicts`.
     ensures counted { IsDigest two.sources × (length two.recorded ≡ length two.plan.steps) }
 {}

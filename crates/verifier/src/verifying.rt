@@ -158,7 +158,7 @@ pub fn verify<A: Allocator + Copy, S: BlobSource<A>>(
     ensures verdict { IfOk result (IsVerdict (S.tells source.new) sources.now plan.now
         «record».now.digests claim.now) }
     // Where it is yes, every complete run of the plan ends in exactly the claimed root, and no run
-    // is ever stuck.
+    // is ever stuck: each can be finished.
     ensures holds { IfOk result (λ verdict. IsYes verdict
         → EveryRunEndsIn (S.tells source.new).blobs (S.tells source.new).results
         sources.now plan.now «record».now.digests claim.now) }

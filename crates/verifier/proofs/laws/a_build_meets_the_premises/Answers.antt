@@ -7,6 +7,7 @@ use Rattle.verifier.proofs.TwoSteps.{sources_named, plan_valid}
 use Rattle.verifier.proofs.TwoStepsRecorded.{as_recorded}
 use Rattle.verifier.proofs.TwoStepsRun.{is_complete}
 use Rattle.verifier.proofs.TwoStages.{runs_once}
+use Rattle.verifier.proofs.TwoStepsEvents.{no_clash_ahead}
 use Rattle.verifier.proofs.laws.a_build_meets_the_premises.Goals as goal
 
 pub returns-clause-plan : goal.returns-clause-plan
@@ -23,6 +24,9 @@ returns-clause-run c = runs_once
 
 pub returns-clause-complete : goal.returns-clause-complete
 returns-clause-complete c = is_complete
+
+pub returns-clause-ahead : goal.returns-clause-ahead
+returns-clause-ahead c = no_clash_ahead
 
 pub returns-clause-counted : goal.returns-clause-counted
 returns-clause-counted c = (subst IsDigest sources_named (IsDigest-digest_of (top (form two.tree))), refl)
