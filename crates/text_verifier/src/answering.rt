@@ -2,7 +2,7 @@ ghost use Rattle.std.specs.Prelude.{◌≤◌, ◌+◌, List, IfOk, IfErr, IsErr
 ghost use Rattle.blob_source.specs.Called.{Called};
 ghost use Rattle.text_verifier.specs.Answered.{IsAnswer, AnswerLooksAt};
 ghost use Rattle.text_verifier.specs.Refused.{IsNoFault};
-ghost use Rattle.tree.specs.Memo.{Asked, Covers};
+ghost use Rattle.tree.specs.Memo.{Asked, AsksNoOther, Covers};
 
 use crate::case::Case;
 use crate::error::TextError;
@@ -41,6 +41,8 @@ pub fn answer_question<A: Allocator + Copy, S: BlobSource<A>>(
     ensures few { (list : List Asked)
         → Covers (AnswerLooksAt A (S.tells source.new) case.now) list
         → (S.tells source.new).calls ≤ (S.tells source.old).calls + length list }
+    ensures only { AsksNoOther (AnswerLooksAt A (S.tells source.new) case.now)
+        (S.tells source.old).blobs (S.tells source.new).blobs }
 {
     let Digests { sources, claim } = case.digests;
     let verdict = verify(alloc, &sources, &case.plan, &case.noted, &claim, source)?;

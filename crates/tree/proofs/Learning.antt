@@ -69,6 +69,7 @@ learns_none {known = known} {t = t} h = record {
   known = h;
   kept = λ a b is. is;
   others = λ a not other. refl;
+  only = record { same = λ d not. refl };
   once = λ list covers. omega arith;
   learned = λ no list covers. omega arith;
   last = λ list covers. omega arith;
@@ -82,6 +83,7 @@ learns_then to on passed h k = record {
   known = k.known;
   kept = λ a b is. k.kept a b (h.kept a b is);
   others = λ a not other. k.others a (λ at. not (on a at)) other ∙ h.others a (λ at. not (to a at)) other;
+  only = record { same = λ d not. k.only.same d (λ at. not (on (blob d) at)) ∙ h.only.same d (λ at. not (to (blob d) at)) };
   once = λ list covers.
       let early = h.learned passed list (λ a at. covers a (to a at)) in
       let late = k.once list (λ a at. covers a (on a at)) in
@@ -103,6 +105,7 @@ learns_more to by h = record {
   known = h.known;
   kept = h.kept;
   others = λ a not other. h.others a (λ at. not (to a at)) other;
+  only = record { same = λ d not. h.only.same d (λ at. not (to (blob d) at)) };
   once = λ list covers. h.once list (λ a at. covers a (to a at));
   learned = λ none list covers. h.learned (by none) list (λ a at. covers a (to a at));
   last = λ list covers. h.last list (λ a at. covers a (to a at));

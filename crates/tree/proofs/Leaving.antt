@@ -1,12 +1,10 @@
 -- What is told under the digests of some encodings, and of what isn't looked at, stays as it was.
-use Rattle.std.proofs.Common.{◌≡◌, ◌≢◌, List, [], ◌∷◌, ℕ, refl, ap, ◌∙◌, inl, inr}
-use Rattle.std.specs.Prelude.{◌⊎◌}
+use Rattle.std.proofs.Common.{◌≡◌, List, [], ◌∷◌, ℕ, refl, ◌∙◌}
 use Rattle.std.specs.List.{AllByRecursion}
-use Rattle.blob_digest.specs.Digest.{DigestValue, digest_of, empty_digest}
-use Rattle.blob_source.specs.Source.{Blobs, GrowsAt, Telling}
+use Rattle.blob_digest.specs.Digest.{DigestValue, digest_of}
+use Rattle.blob_source.specs.Source.{Blobs, GrowsAt}
 use Rattle.tree.specs.Difference.{IsNoneOf, LeavesOwn}
-use Rattle.tree.specs.Memo.{Asked, blob, AsksNoOther, LooksAtBlob}
-use Rattle.tree.proofs.Memos.{same_or_other}
+use Rattle.tree.specs.Memo.{Asked, blob, AsksNoOther}
 
 same_none : (own : List (List ℕ)) (B : Blobs) → AllByRecursion (λ b. B (digest_of b) ≡ B (digest_of b)) own
 same_none [] B = tt
@@ -41,12 +39,3 @@ others_then to on h k = record { same = λ d not. k.same d (λ at. not (on (blob
 -- what looks at more asks for no other either
 pub others_more : {first both : Asked → Type 0} {old new : Blobs} → ((a : Asked) → first a → both a) → AsksNoOther first old new → AsksNoOther both old new
 others_more to h = record { same = λ d not. h.same d (λ at. not (to (blob d) at)) }
-
--- a fetch of one blob
-pub others_at : {d : DigestValue} {old new : Telling} → GrowsAt d old.blobs new.blobs → (d ≡ empty_digest → new ≡ old) → AsksNoOther (LooksAtBlob d) old.blobs new.blobs
-others_at {d} {old} {new} grows unasked = record { same = λ e not. by e not (same_or_other e d) (same_or_other d empty_digest) }
-  where
-    by : (e : DigestValue) → (LooksAtBlob d (blob e) → ⊥) → (e ≡ d) ⊎ (e ≢ d) → (d ≡ empty_digest) ⊎ (d ≢ empty_digest) → new.blobs e ≡ old.blobs e
-    by e not (inr other) empty = grows.others e other
-    by e not (inl same) (inl empty) = ap (λ t. t.blobs e) (unasked empty)
-    by e not (inl same) (inr other) = absurd (not (ap blob same, other))

@@ -20,7 +20,8 @@ use Rattle.tree.proofs.Children.{child_value}
 use Rattle.tree.proofs.Descent.{told_still}
 use Rattle.tree.proofs.FirstFaults.{looks_below}
 use Rattle.tree.proofs.Learning.{learns_then, learns_more}
-use Rattle.tree.proofs.Leaving.{others_at, others_then}
+use Rattle.tree.proofs.Leaving.{others_then}
+use Rattle.tree.proofs.Memos.{others_at}
 use Rattle.tree.proofs.DifferenceSteps.{ReadsBoth, reads_still}
 
 -- ---- look-ups

@@ -84,6 +84,7 @@ pub record Learns (Looks : Asked → Type 0) (refused : Type 0) (old new : Known
   pub known : IsKnownOf new after
   pub kept : (a : Asked) (b : List ℕ) → old a ≡ Some b → new a ≡ Some b
   pub others : (a : Asked) → (Looks a → ⊥) → a ≢ blob empty_digest → new a ≡ old a
+  pub only : AsksNoOther Looks before.blobs after.blobs
   pub once : (list : List Asked) → Covers Looks list
       → after.calls ≤ before.calls + count_unknown old list
   pub learned : (refused → ⊥) → (list : List Asked) → Covers Looks list

@@ -192,6 +192,7 @@ impl<A: Allocator + Copy> Memo<A> {
             (FailsDirectory (S.tells source.new).blobs digest.now)) }
         ensures called { Calls (Asks 1) (S.tells source.old) (S.tells source.new)
             (IsErrOf result TreeError.Fetch) }
+        ensures only { GrowsAt digest.now (S.tells source.old).blobs (S.tells source.new).blobs }
         ensures asked { (known_by self.now (blob digest.now) ≡ None)
             ⊎ (S.tells source.new ≡ S.tells source.old) }
         ensures unasked { digest.now ≡ empty_digest → S.tells source.new ≡ S.tells source.old }

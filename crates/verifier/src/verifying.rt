@@ -4,7 +4,7 @@ ghost use Rattle.plan.specs.Values.{IsLine};
 ghost use Rattle.plan.specs.Plan.{AreSteps, IsPlan};
 ghost use Rattle.plan.specs.Record.{Fits};
 ghost use Rattle.blob_source.specs.Called.{Called};
-ghost use Rattle.tree.specs.Memo.{Asked, Covers, IsKnownOf, Learns, known_by};
+ghost use Rattle.tree.specs.Memo.{Asked, AsksNoOther, Covers, IsKnownOf, Learns, known_by};
 ghost use Rattle.verifier.specs.Answers.{IsChecked, IsStopped};
 ghost use Rattle.verifier.specs.Checks.{Checks};
 ghost use Rattle.verifier.specs.Headline.{EveryRunEndsIn, NoRunIsStuck};
@@ -172,6 +172,9 @@ pub fn verify<A: Allocator + Copy, S: BlobSource<A>>(
         → Covers (PlanLooksAt A (S.tells source.new) sources.now plan.now
         «record».now.digests) list
         → (S.tells source.new).calls ≤ (S.tells source.old).calls + length list }
+    // And for no other blob.
+    ensures only { AsksNoOther (PlanLooksAt A (S.tells source.new) sources.now plan.now
+        «record».now.digests) (S.tells source.old).blobs (S.tells source.new).blobs }
 {
     let mut memo = Memo::new(alloc);
     decide(

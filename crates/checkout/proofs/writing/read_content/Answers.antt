@@ -1,4 +1,4 @@
-use Rattle.tree.proofs.Leaving.{others_at}
+use Rattle.tree.proofs.Memos.{others_at}
 use Rattle.checkout.proofs.writing.read_content.Goals as goal
 
 pub returns-in-Err-clause-refused : goal.returns-in-Err-clause-refused

@@ -9,7 +9,8 @@ use Rattle.tree.specs.Lookup.{names_in}
 use Rattle.tree.specs.Unfolding.{child_values, AreChildren, ExplainsChild}
 use Rattle.blob_source.proofs.Asking.{ok_no_error}
 use Rattle.blob_source.proofs.Calling.{called_exit, called_no, called_on, calls_some}
-use Rattle.tree.proofs.Leaving.{others_at, others_more, others_then}
+use Rattle.tree.proofs.Leaving.{others_more, others_then}
+use Rattle.tree.proofs.Memos.{others_at}
 use Rattle.tree.proofs.Ways.{unfold_here, unfold_still}
 use Rattle.tree.proofs.FoundEntries.{asks_below, asks_done, asks_root}
 use Rattle.tree.proofs.UnfoldSteps.{Unfolds, child_looks, fault_here, unfolds_first, unfolds_leaf, unfolds_folder, unfolds_end, child_too_deep, child_fault, flat_pushed, counts_leaf, counts_folder}

@@ -1,6 +1,6 @@
 use Rattle.std.proofs.Common.{subst, sym, arith}
 use Rattle.std.specs.Prelude.{IfOk}
-use Rattle.tree.specs.Memo.{Covers}
+use Rattle.tree.specs.Memo.{AsksNoOther, Covers}
 use Rattle.tree.proofs.Learning.{known_nothing, nothing_known}
 use Rattle.verifier.specs.LooksAt.{PlanLooksAt}
 use Rattle.verifier.specs.Verdict.{IsVerdict}
@@ -29,3 +29,9 @@ returns-clause-few g c list covers =
     let once = c.decide.ensures.learned.once list all in
     let none = nothing_known c.new-memo.ensures list in
     omega (arith, once, none)
+
+pub returns-clause-only : goal.returns-clause-only
+returns-clause-only g c =
+    let before = g.S.BlobSource.tells c.args.source.now in
+    let tells = g.S.BlobSource.tells c.decide.new.source in
+    subst (λ digests. AsksNoOther (PlanLooksAt g.row.A.Denot tells c.args.sources.now c.args.plan.now digests) before.blobs tells.blobs) c.digests.ensures.value c.decide.ensures.learned.only

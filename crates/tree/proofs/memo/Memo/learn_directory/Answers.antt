@@ -14,12 +14,12 @@ returns-then-has_directory-clause-told g c =
 
 pub returns-in_err-directory-clause-learned : goal.returns-in_err-directory-clause-learned
 returns-in_err-directory-clause-learned g c =
-    learns_no_blob c.requires c.directory.ensures.called.asked (λ a. refl) c.directory.ensures.unasked c.directory.ensures.asked (refused_exit _ _ c.from_residual.ensures.1)
+    learns_no_blob c.requires c.directory.ensures.called.asked (λ a. refl) c.directory.ensures.only c.directory.ensures.unasked c.directory.ensures.asked (refused_exit _ _ c.from_residual.ensures.1)
 
 pub returns-in_err-keep-clause-learned : goal.returns-in_err-keep-clause-learned
 returns-in_err-keep-clause-learned g c =
-    learns_no_blob c.requires c.directory.ensures.called.asked c.in_err-keep.ensures.err c.directory.ensures.unasked c.directory.ensures.asked (refused_exit _ _ c.from_residual-in_err-keep.ensures.1)
+    learns_no_blob c.requires c.directory.ensures.called.asked c.in_err-keep.ensures.err c.directory.ensures.only c.directory.ensures.unasked c.directory.ensures.asked (refused_exit _ _ c.from_residual-in_err-keep.ensures.1)
 
 pub returns-clause-learned : goal.returns-clause-learned
 returns-clause-learned g c =
-    learns_blob c.requires c.directory.ensures.called.asked c.directory.ensures.unasked c.directory.ensures.asked c.in_ok-directory.ensures.told.blob c.in_ok-keep.ensures.ok
+    learns_blob c.requires c.directory.ensures.called.asked c.directory.ensures.only c.directory.ensures.unasked c.directory.ensures.asked c.in_ok-directory.ensures.told.blob c.in_ok-keep.ensures.ok

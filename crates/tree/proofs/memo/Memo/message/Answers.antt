@@ -21,16 +21,16 @@ returns-in-Some-clause-told g c =
 pub returns-in_err-message-2-clause-learned : goal.returns-in_err-message-2-clause-learned
 returns-in_err-message-2-clause-learned g c =
     let none = c.in_ok-message.ensures.none (subst IsNone (sym c.in_default.is) refl) in
-    learns_no_blob c.requires c.fetch_new.ensures.called.asked (λ a. refl) c.fetch_new.ensures.unasked (inl none) (refused_exit _ _ c.from_residual-in_err-message-2.ensures.1)
+    learns_no_blob c.requires c.fetch_new.ensures.called.asked (λ a. refl) c.fetch_new.ensures.only c.fetch_new.ensures.unasked (inl none) (refused_exit _ _ c.from_residual-in_err-message-2.ensures.1)
 
 pub returns-in_err-keep-clause-learned : goal.returns-in_err-keep-clause-learned
 returns-in_err-keep-clause-learned g c =
     let none = c.in_ok-message.ensures.none (subst IsNone (sym c.in_default.is) refl) in
-    learns_no_blob c.requires c.fetch_new.ensures.called.asked c.in_err-keep.ensures.err c.fetch_new.ensures.unasked (inl none) (refused_exit _ _ c.from_residual-in_err-keep.ensures.1)
+    learns_no_blob c.requires c.fetch_new.ensures.called.asked c.in_err-keep.ensures.err c.fetch_new.ensures.only c.fetch_new.ensures.unasked (inl none) (refused_exit _ _ c.from_residual-in_err-keep.ensures.1)
 
 pub returns-clause-learned : goal.returns-clause-learned
 returns-clause-learned g c =
     let none = c.in_ok-message.ensures.none (subst IsNone (sym c.in_default.is) refl) in
     let fetched = c.in_ok-message-2.ensures in
     let B = (g.S.BlobSource.tells c.fetch_new.new.source).blobs in
-    learns_blob c.requires c.fetch_new.ensures.called.asked c.fetch_new.ensures.unasked (inl none) (subst (IsBlobUnder B c.args.digest.now) (sym fetched.bytes) fetched.told.blob) c.in_ok-keep.ensures.ok
+    learns_blob c.requires c.fetch_new.ensures.called.asked c.fetch_new.ensures.only c.fetch_new.ensures.unasked (inl none) (subst (IsBlobUnder B c.args.digest.now) (sym fetched.bytes) fetched.told.blob) c.in_ok-keep.ensures.ok
