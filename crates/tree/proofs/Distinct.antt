@@ -6,8 +6,7 @@ use Rattle.std.specs.Cmp.Lexicographic.{pointwise}
 use Rattle.std.specs.declared.vec.Vec.{Vec}
 use Rattle.std.proofs.lemmas.List.{map-append}
 use Rattle.indexmap.specs.IndexSet.{insert_key}
-use Rattle.tree.specs.Folded.{unseen}
-use Rattle.tree.specs.Visiting.{items_of}
+use Rattle.tree.specs.Folded.{items_of, unseen}
 
 module _ {A : Type 0} where
   any_items : (b : List ℕ) (ks : List (Vec ℕ A)) → list_any (λ (y : Vec ℕ A). pointwise nat_eq b y.items) ks ≡ list_any (bytes_eq b) (items_of ks)

@@ -9,12 +9,12 @@ use Rattle.messages.specs.declared.node.Node.TheVariants.{Dir}
 use Rattle.messages.specs.DirectoryRules.{DirectoryValue}
 use Rattle.tree.specs.Tree.{Name, name_cmp, Tree, empty, leaf, folder, Standing, a_leaf, a_directory}
 use Rattle.tree.specs.Form.{NodeValue, no_children, with_child, directory_of, root}
-use Rattle.tree.specs.Folded.{tops_below, visited}
+use Rattle.tree.specs.Folded.{items_of, tops_below, visited}
 use Rattle.tree.specs.FlatTree.{under, listed, FlatValue, IsListOf}
 use Rattle.tree.specs.declared.flat_tree.FlatEntry.{FlatEntry}
 use Rattle.tree.specs.declared.visiting.Line.{Line}
 use Rattle.tree.specs.declared.visiting.Visited.{Visited}
-use Rattle.tree.specs.Visiting.{first_under, led, items_of, line_entries, with_children, IsVisitOf}
+use Rattle.tree.specs.Visiting.{first_under, led, line_entries, with_children, IsVisitOf}
 use Rattle.tree.proofs.TreeLemmas.{name_itself}
 use Rattle.tree.proofs.Sorted.{led_step}
 use Rattle.tree.proofs.Listings.{IsFirst, AllFirst, first_listed}

@@ -6,7 +6,7 @@ use Rattle.blob_source.specs.Source.{Telling, Grows}
 use Rattle.blob_source.specs.Told.{Fault}
 use Rattle.tree.specs.declared.error.TreeError.{TreeError}
 use Rattle.tree.specs.declared.error.TreeError.TheVariants.{Absent, BlobMissing, BlobWrong, BlobMalformed, TooDeep, Conflict, Fetch, Memory}
-use Rattle.tree.specs.TreeError.{Explains, IsCutShort}
+use Rattle.tree.specs.TreeError.{CutsShort, Explains, IsCutShort}
 use Rattle.tree.specs.Memo.{Asked, blob, result, Known, IsKnownOf, one_if_none, count_unknown, Learns, KnowsNothing, WasRefused, IsWithout}
 use Rattle.tree.proofs.Descent.{under_still}
 
@@ -126,31 +126,20 @@ without_exit (Ok x) P exit = elim exit [ ]
 without_exit (Err e) P exit = tt
 
 -- a Directory that can't be read cuts a look-up short
-pub cut_by : {A : Type 0} (T : Type 0) (F : Fault → Type 0) (e : TreeError A) → Explains F e → IsCutShort {T = T} (Err e)
-cut_by T F (Absent path) h = h
-cut_by T F (BlobMissing f) h = tt
-cut_by T F (BlobWrong f) h = tt
-cut_by T F (BlobMalformed f) h = tt
-cut_by T F (TooDeep path) h = tt
-cut_by T F (Conflict path) h = tt
-cut_by T F Fetch h = tt
-cut_by T F Memory h = tt
+pub cut_by : {A : Type 0} (F : Fault → Type 0) (e : TreeError A) → Explains F e → CutsShort e
+cut_by F (Absent path) h = h
+cut_by F (BlobMissing f) h = tt
+cut_by F (BlobWrong f) h = tt
+cut_by F (BlobMalformed f) h = tt
+cut_by F (TooDeep path) h = tt
+cut_by F (Conflict path) h = tt
+cut_by F Fetch h = tt
+cut_by F Memory h = tt
 
 -- so does want of memory
 pub cut_by_memory : {A T : Type 0} (r : Result T (TreeError A)) → IsErrAnd r (λ e. e ≡ Memory) → IsCutShort r
 cut_by_memory (Ok x) exit = exit
-cut_by_memory {A} {T} (Err e) exit = subst (λ (x : TreeError A). IsCutShort {T = T} (Err x)) (sym exit) tt
-
--- the same error of another call
-pub cut_still : {A : Type 0} (T U : Type 0) (e : TreeError A) → IsCutShort {T = T} (Err e) → IsCutShort {T = U} (Err e)
-cut_still T U (Absent path) h = h
-cut_still T U (BlobMissing f) h = tt
-cut_still T U (BlobWrong f) h = tt
-cut_still T U (BlobMalformed f) h = tt
-cut_still T U (TooDeep path) h = tt
-cut_still T U (Conflict path) h = tt
-cut_still T U Fetch h = tt
-cut_still T U Memory h = tt
+cut_by_memory (Err e) exit = subst CutsShort (sym exit) tt
 
 -- ---- nothing is known yet
 

@@ -32,7 +32,7 @@ none_held d (x ∷ ds) h (suc k, lt, e) = none_held d ds h.1 (k, omega (arith, l
 pub root_first : (t : TreeValue) (d : DigestValue) → digest_of (directory_bytes t.root) ≡ d → IsFirstIn (t.root ∷ t.children) d t.root
 root_first t d is = record { before = []; behind = t.children; stands = refl; right = is; first = tt }
 
-before_all : (d : DigestValue) (ms : List DirectoryValue) → NotAmong d (digests_of (map directory_bytes ms)) → AllByRecursion (λ m. digest_of (directory_bytes m) ≢ d) ms
+pub before_all : (d : DigestValue) (ms : List DirectoryValue) → NotAmong d (digests_of (map directory_bytes ms)) → AllByRecursion (λ m. digest_of (directory_bytes m) ≢ d) ms
 before_all d [] h = tt
 before_all d (m ∷ ms) h = (h.0, before_all d ms h.1)
 

@@ -11,7 +11,7 @@ use Rattle.tree.specs.declared.error.TreeError.{TreeError}
 use Rattle.tree.specs.declared.error.TreeError.TheVariants.{Absent, BlobMissing, BlobWrong, BlobMalformed, TooDeep, Conflict, Fetch, Memory}
 use Rattle.blob_source.specs.Told.{Fault, missing, wrong, malformed}
 use Rattle.tree.specs.TreeError.{Explains}
-use Rattle.tree.specs.Visiting.{items_of}
+use Rattle.tree.specs.Folded.{items_of}
 use Rattle.tree.specs.Difference.{IsFirstOf, IsNoneOf}
 use Rattle.tree.specs.Comparing.{IsEncoding}
 

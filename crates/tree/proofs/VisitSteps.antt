@@ -15,10 +15,10 @@ use Rattle.wire.specs.Spelling.{spelling}
 use Rattle.messages.specs.Directory.{directory_bytes}
 use Rattle.tree.specs.Tree.{Name, Tree}
 use Rattle.tree.specs.Form.{NodeValue, no_children, with_child, directory_of}
-use Rattle.tree.specs.Folded.{tops_below}
+use Rattle.tree.specs.Folded.{items_of, tops_below}
 use Rattle.tree.specs.declared.visiting.Line.{Line}
 use Rattle.tree.specs.declared.visiting.Visited.{Visited}
-use Rattle.tree.specs.Visiting.{first_under, led, items_of, lines_seen, with_children, IsVisitOf}
+use Rattle.tree.specs.Visiting.{first_under, led, lines_seen, with_children, IsVisitOf}
 
 -- ---- children behind children
 

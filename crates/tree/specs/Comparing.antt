@@ -12,7 +12,7 @@ use Rattle.tree.specs.declared.difference.Unlike.TheVariants.{OnlyRecorded, Only
 use Rattle.tree.specs.declared.difference.Unlike.TheVariants.{Directories, Others}
 use Rattle.tree.specs.declared.difference.FirstName.{FirstName}
 use Rattle.tree.specs.Form.{NodeValue}
-use Rattle.tree.specs.Visiting.{items_of}
+use Rattle.tree.specs.Folded.{items_of}
 use Rattle.tree.specs.Difference.{child_of, IsFirstName}
 
 -- ---- a graft's own Directories

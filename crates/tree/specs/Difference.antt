@@ -1,6 +1,6 @@
 -- The first difference of a graft and of a directory that a source tells, by the names in their
 -- paths.
-use Rattle.std.specs.Prelude.{◌≡◌, ◌≢◌, ◌⊎◌, ℕ, zero, suc, List, [], ◌∷◌, ◌++◌, map, Option, Some}
+use Rattle.std.specs.Prelude.{◌≡◌, ◌≢◌, ◌⊎◌, ℕ, zero, suc, List, [], ◌∷◌, ◌++◌, Option, Some}
 use Rattle.std.specs.Prelude.{None}
 use Rattle.std.specs.List.{AllByRecursion}
 use Rattle.std.specs.declared.cmp.Ordering.TheVariants.{Less}
@@ -18,6 +18,7 @@ use Rattle.tree.specs.declared.difference.Difference.TheVariants.{Unexplained, A
 use Rattle.tree.specs.declared.error.TreeError.{TreeError}
 use Rattle.tree.specs.declared.error.TreeError.TheVariants as errors
 use Rattle.tree.specs.declared.folding.Folded.{Folded}
+use Rattle.tree.specs.Folded.{items_of}
 
 -- ---- where Directories are read
 
@@ -96,7 +97,7 @@ FindsFirst own B g r found = Finds own B 64 [] g r found
 
 -- the encodings that a graft made
 abbrev pub made_by : {A : Type 0} → Folded A → List (List ℕ)
-made_by grafted = map (λ v. v.items) grafted.directories.items
+made_by grafted = items_of grafted.directories.items
 
 abbrev pub differing : {A : Type 0} → Difference A → Differing
 differing (Unexplained path) = unexplained path

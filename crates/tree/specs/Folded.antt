@@ -30,11 +30,15 @@ unseen seen (b ∷ bs) =
 abbrev pub first_visits : Tree NodeValue → List (List ℕ)
 first_visits t = unseen [] (visited t)
 
+-- what encodings hold
+abbrev pub items_of : {A : Type 0} → List (Vec ℕ A) → List (List ℕ)
+items_of encodings = map (λ v. v.items) encodings
+
 -- the digest of a tree's root, and its Directories, each distinct one once, in the order of their
 -- first visits
 pub record IsFoldOf {A : Type 0} (t : Tree NodeValue) (f : Folded A) : Type 0 where
   pub root : f.root ≡ root t
-  pub directories : map (λ (v : Vec ℕ A). v.items) f.directories.items ≡ first_visits t
+  pub directories : items_of f.directories.items ≡ first_visits t
 
 -- ---- trees whose Directories are valid
 

@@ -57,11 +57,15 @@ ExplainsLookup B d p (Conflict path) = ⊥
 ExplainsLookup B d p Fetch = Unit {0}
 ExplainsLookup B d p Memory = Unit {0}
 
+-- an error other than that nothing stands at the path
+abbrev pub CutsShort : {A : Type 0} → TreeError A → Type 0
+CutsShort (Absent path) = ⊥
+CutsShort _ = Unit {0}
+
 -- a look-up was cut short: it was refused, and not since nothing stands at the path
 abbrev pub IsCutShort : {A T : Type 0} → Result T (TreeError A) → Type 0
 IsCutShort (Ok x) = ⊥
-IsCutShort (Err (Absent path)) = ⊥
-IsCutShort (Err _) = Unit {0}
+IsCutShort (Err e) = CutsShort e
 
 -- Why nothing was added at a path: it is taken, unless memory ran out.
 abbrev pub IsOverlapAt : {A : Type 0} → AddError A → List Name → Type 0 → Type 0

@@ -3,14 +3,13 @@
 use Rattle.std.specs.Prelude.{◌≡◌, ℕ, List, [], ◌∷◌, ◌++◌, map, nat_eq}
 use Rattle.std.specs.Prelude.{if◌then◌else◌}
 use Rattle.std.specs.Cmp.Lexicographic.{pointwise}
-use Rattle.std.specs.declared.vec.Vec.{Vec}
 use Rattle.messages.specs.DirectoryRules.{DirectoryValue}
 use Rattle.tree.specs.declared.visiting.Line.{Line}
 use Rattle.tree.specs.declared.visiting.Children.{Children}
 use Rattle.tree.specs.declared.visiting.Visited.{Visited}
 use Rattle.tree.specs.Tree.{Name, Tree}
 use Rattle.tree.specs.Form.{NodeValue, root}
-use Rattle.tree.specs.Folded.{visited}
+use Rattle.tree.specs.Folded.{items_of, visited}
 use Rattle.tree.specs.FlatTree.{FlatValue, entry_value}
 use Rattle.tree.specs.declared.flat_tree.FlatEntry.{FlatEntry}
 
@@ -34,9 +33,6 @@ abbrev pub line_entries : {A : Type 0} → List (Line A (FlatEntry A)) → FlatV
 line_entries lines = map (λ l. (l.names.now, entry_value l.item.now)) lines
 
 -- ---- directories
-
-abbrev pub items_of : {A : Type 0} → List (Vec ℕ A) → List (List ℕ)
-items_of encodings = map (λ v. v.items) encodings
 
 -- the children of one directory, and after them those of another
 abbrev pub with_children : DirectoryValue → DirectoryValue → DirectoryValue

@@ -1,9 +1,9 @@
 ghost use Rattle.std.specs.Prelude.{◌≡◌, [], IfOk};
 ghost use Rattle.tree.specs.FlatTree.{IsListOf, IsFoldOfList};
-ghost use Rattle.tree.specs.Folded.{unseen};
+ghost use Rattle.tree.specs.Folded.{items_of, unseen};
 ghost use Rattle.tree.specs.Form.{NodeValue};
 ghost use Rattle.tree.specs.Tree.{Tree};
-ghost use Rattle.tree.specs.Visiting.{items_of, line_entries, IsVisitOf};
+ghost use Rattle.tree.specs.Visiting.{line_entries, IsVisitOf};
 
 use crate::flat_tree::{FlatEntry, FlatTree};
 use crate::visiting::{Children, Line, Visited, lines_under};

@@ -153,6 +153,7 @@ impl<A: Allocator + Copy> Memo<A> {
         ensures called { Calls (Asks 1) (S.tells source.old) (S.tells source.new)
             (IsErrOf result TreeError.Fetch) }
         ensures only { GrowsAt digest.now (S.tells source.old).blobs (S.tells source.new).blobs }
+        ensures unasked { digest.now ≡ empty_digest → S.tells source.new ≡ S.tells source.old }
         ensures learned { Learns (LooksAtBlob digest.now) (WasRefused result)
             (known_by self.old) (known_by self.new) (S.tells source.old) (S.tells source.new) }
         ensures unchanged { OnErr result (IsSame (known_by self.old) (known_by self.new)) }
@@ -218,6 +219,8 @@ impl<A: Allocator + Copy> Memo<A> {
             (FailsDirectory (S.tells source.new).blobs digest.now)) }
         ensures called { Calls (Asks 1) (S.tells source.old) (S.tells source.new)
             (IsErrOf result TreeError.Fetch) }
+        ensures only { GrowsAt digest.now (S.tells source.old).blobs (S.tells source.new).blobs }
+        ensures unasked { digest.now ≡ empty_digest → S.tells source.new ≡ S.tells source.old }
         ensures learned { Learns (LooksAtBlob digest.now) (WasRefused result)
             (known_by self.old) (known_by self.new) (S.tells source.old) (S.tells source.new) }
         ensures unchanged { OnErr result (IsSame (known_by self.old) (known_by self.new)) }
@@ -245,6 +248,8 @@ impl<A: Allocator + Copy> Memo<A> {
             (FailsDirectory (S.tells source.new).blobs digest.now)) }
         ensures called { Calls (Asks 1) (S.tells source.old) (S.tells source.new)
             (IsErrOf result TreeError.Fetch) }
+        ensures only { GrowsAt digest.now (S.tells source.old).blobs (S.tells source.new).blobs }
+        ensures unasked { digest.now ≡ empty_digest → S.tells source.new ≡ S.tells source.old }
         ensures learned { Learns (LooksAtBlob digest.now) (WasRefused result)
             (known_by self.old) (known_by self.new) (S.tells source.old) (S.tells source.new) }
     {

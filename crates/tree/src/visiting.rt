@@ -3,7 +3,8 @@ ghost use Rattle.blob_digest.specs.Digest.{digest_of};
 ghost use Rattle.messages.specs.declared.node.Node.TheVariants.{File, Link, Dir};
 ghost use Rattle.messages.specs.Directory.{directory_bytes};
 ghost use Rattle.tree.specs.Form.{node_value, no_children, with_child};
-ghost use Rattle.tree.specs.Visiting.{led, lines_seen, items_of, with_children, children_directory};
+ghost use Rattle.tree.specs.Folded.{items_of};
+ghost use Rattle.tree.specs.Visiting.{led, lines_seen, with_children, children_directory};
 ghost use Rattle.tree.specs.Visiting.{tops_in};
 
 use blob_digest::Digest;

@@ -4,7 +4,7 @@ ghost use Rattle.blob_source.specs.Called.{Calls};
 ghost use Rattle.tree.specs.Form.{node_value};
 ghost use Rattle.tree.specs.Lookup.{Looks, found, looked, names_in};
 ghost use Rattle.tree.specs.LooksAt.{OnWay};
-ghost use Rattle.tree.specs.Memo.{IsKnownOf, Learns, known_by};
+ghost use Rattle.tree.specs.Memo.{AsksNoOther, IsKnownOf, Learns, known_by};
 ghost use Rattle.tree.specs.TreeError.{ExplainsLookup, IsCutShort};
 
 use super::Memo;
@@ -35,6 +35,10 @@ impl<A: Allocator + Copy> Memo<A> {
         ensures root { IsNone path.entry → result ≡ Ok (Node.Dir root.now) }
         ensures called { Calls (Asks (length (names_in (option_copied path.entry))))
             (S.tells source.old) (S.tells source.new) (IsErrOf result TreeError.Fetch) }
+        // Nothing is asked for but the Directories on the way.
+        ensures only { AsksNoOther (OnWay (S.tells source.new).blobs root.now
+            (names_in (option_copied path.entry)))
+            (S.tells source.old).blobs (S.tells source.new).blobs }
         ensures learned { Learns (OnWay (S.tells source.new).blobs root.now
             (names_in (option_copied path.entry))) (IsCutShort result)
             (known_by self.old) (known_by self.new) (S.tells source.old) (S.tells source.new) }
@@ -60,6 +64,8 @@ impl<A: Allocator + Copy> Memo<A> {
             (ExplainsLookup (S.tells source.new).blobs root.now path.now) }
         ensures called { Calls (Asks (length path.now)) (S.tells source.old) (S.tells source.new)
             (IsErrOf result TreeError.Fetch) }
+        ensures only { AsksNoOther (OnWay (S.tells source.new).blobs root.now path.now)
+            (S.tells source.old).blobs (S.tells source.new).blobs }
         ensures learned { Learns (OnWay (S.tells source.new).blobs root.now path.now)
             (IsCutShort result) (known_by self.old) (known_by self.new)
             (S.tells source.old) (S.tells source.new) }
@@ -86,6 +92,8 @@ impl<A: Allocator + Copy> Memo<A> {
             (ExplainsLookup (S.tells source.new).blobs root.now names.now) }
         ensures called { Calls (Asks (length names.now)) (S.tells source.old) (S.tells source.new)
             (IsErrOf result TreeError.Fetch) }
+        ensures only { AsksNoOther (OnWay (S.tells source.new).blobs root.now names.now)
+            (S.tells source.old).blobs (S.tells source.new).blobs }
         ensures learned { Learns (OnWay (S.tells source.new).blobs root.now names.now)
             (IsCutShort result) (known_by self.old) (known_by self.new)
             (S.tells source.old) (S.tells source.new) }

@@ -3,7 +3,7 @@ use Rattle.std.proofs.Common.{ap, sym, ◌∙◌, subst, map}
 use Rattle.std.proofs.lemmas.Result.{err_from_is_err_and}
 use Rattle.std.specs.List.{AllByRecursion}
 use Rattle.blob_digest.specs.Digest.{digest_of}
-use Rattle.tree.specs.Visiting.{items_of}
+use Rattle.tree.specs.Folded.{items_of}
 use Rattle.tree.specs.Difference.{differing, FindsFirst, ExplainsDifference, LeavesOwn}
 use Rattle.tree.specs.Comparing.{IsEncoding}
 use Rattle.tree.proofs.ValidTrees.{valid_own}

@@ -1,6 +1,5 @@
 use Rattle.std.proofs.Common.{rules, ◌≡◌, ◌∷◌, ◌++◌, ap, ◌∙◌, sym}
-use Rattle.tree.specs.Folded.{unseen}
-use Rattle.tree.specs.Visiting.{items_of}
+use Rattle.tree.specs.Folded.{items_of, unseen}
 use Rattle.tree.proofs.Distinct.{inserted}
 use Rattle.tree.proofs.folding.distinct.Goals as goal
 

@@ -16,7 +16,8 @@ use Rattle.tree.specs.Merging.{AreHeld, CanMeet, grouped, lone, opened, merged_i
 use Rattle.tree.specs.MergeLooks.{MergeLooksIn}
 use Rattle.tree.specs.MergeParts.{part_values, group_values, within_of, lines_met, IsVisitOfMerged, IsVisitOfMet}
 use Rattle.tree.specs.Unfolding.{ExplainsChild}
-use Rattle.tree.specs.Visiting.{children_directory, items_of, with_children, tops_in}
+use Rattle.tree.specs.Folded.{items_of}
+use Rattle.tree.specs.Visiting.{children_directory, with_children, tops_in}
 use Rattle.tree.proofs.Learning.{learns_none, learns_then, learns_refused, refused_exit}
 use Rattle.tree.proofs.MergeBelow.{at_name, look_name, GroupsHeld, grouped_held, counted_held, whole_passes, whole_fails, learns_below, name_stands, name_meets, name_fails, opening_looks, below_passes, below_fails, below_looks, can_more, no_lone, lone_some, lone_first, has_room}
 use Rattle.tree.proofs.MergeHeld.{opened_held}

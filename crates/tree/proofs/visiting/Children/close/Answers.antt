@@ -1,6 +1,7 @@
 use Rattle.std.proofs.Common.{rules, ◌≡◌, [], ◌∷◌, ◌++◌, ap, ◌∙◌}
 use Rattle.blob_digest.specs.Digest.{digest_of}
-use Rattle.tree.specs.Visiting.{children_directory, tops_in, items_of}
+use Rattle.tree.specs.Folded.{items_of}
+use Rattle.tree.specs.Visiting.{children_directory, tops_in}
 use Rattle.tree.proofs.VisitSteps.{written_directory}
 use Rattle.tree.proofs.visiting.Children.close.Goals as goal
 
