@@ -18,6 +18,9 @@ use Rattle.actions.specs.Outcome.{OutputValue, OutcomeValue, output_value, outpu
 use Rattle.action_messages.specs.Outputs.{RecordedValue, file, directory, link, recorded_value, recorded_values, recorded_path, directories_among}
 use Rattle.actions.specs.Recorded.{StandsFor, StandForAll, IsRecorded, IsFirstTreeFault, IsOutputFault, IsWithoutTree, StopsAtFault}
 use Rattle.action_messages.proofs.Merging.{directories_append}
+use Rattle.tree.specs.Memo.{Asked}
+use Rattle.actions.specs.LooksAt.{OutputLooksAt, TreesLookAt}
+use Rattle.actions.proofs.TreeLookups.{behind}
 
 -- ---- what was read stays
 
@@ -82,6 +85,17 @@ asks_one (file f) n old mid new h k same = subst (Asks (n + 0) old) (sym (same t
 asks_one (directory d) n old mid new h k same = asks_then h k
 asks_one (link l) n old mid new h k same = subst (Asks (n + 0) old) (sym (same tt)) (asks_within (omega arith) h)
 
+-- ---- what the source is asked for
+
+-- the Tree of one output is one of those of all directories
+looked_in : (xs : List RecordedValue) (x : RecordedValue) (rest : List RecordedValue) (a : Asked) → OutputLooksAt x a → TreesLookAt (directories_among (xs ++ x ∷ rest)) a
+looked_in [] (file f) rest a h = elim h [ ]
+looked_in [] (directory d) rest a h = (d, (0, omega arith, refl), h)
+looked_in [] (link l) rest a h = elim h [ ]
+looked_in (file y ∷ xs) x rest a h = looked_in xs x rest a h
+looked_in (directory y ∷ xs) x rest a h = let there = looked_in xs x rest a h in (there.0, behind y (directories_among (xs ++ x ∷ rest)) there.0 there.1, there.2)
+looked_in (link y ∷ xs) x rest a h = looked_in xs x rest a h
+
 module _ {A : Type 0} where
   abbrev pub read_so_far : ℕ → List (RecordedOutput A) → List RecordedValue
   read_so_far i ys = recorded_values (take i ys)
@@ -112,6 +126,9 @@ module _ {A : Type 0} where
         subst (λ l. Explains (IsFirstTreeFault C (directories_among l)) e) whole
         (explains (IsOutputFault C (recorded_value x)) (IsFirstTreeFault C (directories_among (read_so_far i ys ++ recorded_value x ∷ recorded_values (drop (i + 1) ys))))
         (λ f. first_fault C (read_so_far i ys) (outputs_in outputs) (recorded_value x) (recorded_values (drop (i + 1) ys)) f (stand_still B C (read_so_far i ys) (outputs_in outputs) g h)) e why)
+
+    pub looked_at : (a : Asked) → OutputLooksAt (recorded_value x) a → TreesLookAt (directories_among (recorded_values ys)) a
+    looked_at a h = subst (λ l. TreesLookAt (directories_among l) a) whole (looked_in (read_so_far i ys) (recorded_value x) (recorded_values (drop (i + 1) ys)) a h)
 
   -- as many calls as all of them have directories
   pub asks_all : (ys : List (RecordedOutput A)) (i : ℕ) (old new : Telling) → Asks (length (directories_among (read_so_far i ys))) old new → Asks (length (directories_among (recorded_values ys))) old new

@@ -1,7 +1,7 @@
 ghost use Rattle.std.specs.Prelude.{◌≡◌, length, IfOk, IfErr, IsErrOf, IsOk};
 ghost use Rattle.blob_source.specs.Source.{Asks};
 ghost use Rattle.blob_source.specs.Called.{Calls};
-ghost use Rattle.tree.specs.Memo.{IsKnownOf, WasRefused, Learns, known_by};
+ghost use Rattle.tree.specs.Memo.{AsksNoOther, IsKnownOf, WasRefused, Learns, known_by};
 ghost use Rattle.tree.specs.TreeError.{Explains};
 ghost use Rattle.action_messages.specs.OutputFile.{OutputFileValue};
 ghost use Rattle.action_messages.specs.Outputs.{directories_among, file, recorded_value};
@@ -10,7 +10,7 @@ ghost use Rattle.actions.specs.Outcome.{output_value, outputs_in};
 ghost use Rattle.actions.specs.Recorded.{IsRecorded, StandsFor, StandForAll};
 ghost use Rattle.actions.specs.Recorded.{IsFirstTreeFault, IsOutputFault, IsWithoutTree};
 ghost use Rattle.actions.specs.Recorded.{StopsAtFault};
-ghost use Rattle.actions.specs.LooksAt.{OutputLooksAt};
+ghost use Rattle.actions.specs.LooksAt.{OutputLooksAt, TreesLookAt};
 
 use crate::outcome::{Outcome, Output};
 use action_messages::{ActionResult, RecordedOutput};
@@ -33,6 +33,8 @@ impl<A: Allocator + Copy> Output<A> {
             (IsOutputFault (S.tells source.new).blobs (recorded_value recorded.now))) }
         ensures called { Calls (Asks 1) (S.tells source.old) (S.tells source.new)
             (IsErrOf result TreeError.Fetch) }
+        ensures only { AsksNoOther (OutputLooksAt (recorded_value recorded.now))
+            (S.tells source.old).blobs (S.tells source.new).blobs }
         ensures unasked { IsWithoutTree (recorded_value recorded.now)
             → S.tells source.new ≡ S.tells source.old }
         // A file takes no memory.
@@ -57,6 +59,8 @@ impl<A: Allocator + Copy> Output<A> {
             (IsOutputFault (S.tells source.new).blobs (recorded_value recorded.now))) }
         ensures called { Calls (Asks 1) (S.tells source.old) (S.tells source.new)
             (IsErrOf result TreeError.Fetch) }
+        ensures only { AsksNoOther (OutputLooksAt (recorded_value recorded.now))
+            (S.tells source.old).blobs (S.tells source.new).blobs }
         ensures unasked { IsWithoutTree (recorded_value recorded.now)
             → S.tells source.new ≡ S.tells source.old }
         // A file takes no memory.
@@ -94,6 +98,8 @@ fn read_outputs<A: Allocator + Copy, S: BlobSource<A>>(
         (directories_among (recorded_values recorded.now)))) }
     ensures called { Calls (Asks (length (directories_among (recorded_values recorded.now))))
         (S.tells source.old) (S.tells source.new) (IsErrOf result TreeError.Fetch) }
+    ensures only { AsksNoOther (TreesLookAt (directories_among (recorded_values recorded.now)))
+        (S.tells source.old).blobs (S.tells source.new).blobs }
     ensures few { StopsAtFault (directories_among (recorded_values recorded.now))
         (S.tells source.old) (S.tells source.new) }
 {
@@ -119,6 +125,9 @@ pub fn recorded<A: Allocator + Copy, S: BlobSource<A>>(
         (IsFirstTreeFault (S.tells source.new).blobs made.now.directories)) }
     ensures called { Calls (Asks (length made.now.directories))
         (S.tells source.old) (S.tells source.new) (IsErrOf result TreeError.Fetch) }
+    // Nothing is asked for but the Trees of the result's directories.
+    ensures only { AsksNoOther (TreesLookAt made.now.directories)
+        (S.tells source.old).blobs (S.tells source.new).blobs }
     ensures few { StopsAtFault made.now.directories (S.tells source.old) (S.tells source.new) }
 {
     let recorded = made.outputs(alloc)?;

@@ -3,7 +3,8 @@ use Rattle.std.proofs.Common.{◌+◌, ◌∙◌, rules}
 use Rattle.std.proofs.lemmas.Result.{err_from_is_err_and}
 use Rattle.blob_source.proofs.Asking.{asks_none, ok_no_error}
 use Rattle.blob_source.proofs.Calling.{called_exit, called_no, calls_more, calls_on}
-use Rattle.actions.proofs.Reading.{asks_next, asks_all, reads_next, fault_next, stops}
+use Rattle.tree.proofs.Leaving.{others_then}
+use Rattle.actions.proofs.Reading.{asks_next, asks_all, reads_next, fault_next, looked_at, stops}
 use Rattle.actions.proofs.recording.read_outputs.Goals as goal
 
 pub returns-in_err-read-clause-faulty : goal.returns-in_err-read-clause-faulty
@@ -35,6 +36,7 @@ loop-output-preserved g c = record {
       ((c.in_ok-copy_of.ensures {u = tt}) ∙ c.path.ensures) c.in_ok-read.ensures.found (c.in_ok-push.ensures {u = tt}).items;
   called = calls_on (λ h k. asks_next c.args.recorded.now c.loop-output.output-index c.output-item.result c.loop-output-test.true c.output-item.is _ _ _ h k c.read.ensures.unasked)
       c.loop-output.invariant.called (called_no ok_no_error (λ n. n) c.in_ok-read.ensures.called);
+  only = others_then (λ a h. h) (looked_at c.args.recorded.now c.loop-output.output-index c.output-item.result c.loop-output-test.true c.output-item.is) c.loop-output.invariant.only c.read.ensures.only;
 }
 
 pub returns-in_err-read-clause-few : goal.returns-in_err-read-clause-few
@@ -48,3 +50,15 @@ returns-in_err-push-clause-few g c = stops c.args.recorded.now c.loop-output.out
 
 pub returns-clause-few : goal.returns-clause-few
 returns-clause-few g c = stops c.args.recorded.now c.loop-output.output-index _ _ _ c.loop-output.outputs.items c.loop-output.invariant.read c.loop-output.invariant.called.asked (asks_none _)
+
+pub returns-in_err-read-clause-only : goal.returns-in_err-read-clause-only
+returns-in_err-read-clause-only g c =
+    others_then (λ a h. h) (looked_at c.args.recorded.now c.loop-output.output-index c.output-item.result c.loop-output-test.true c.output-item.is) c.loop-output.invariant.only c.read.ensures.only
+
+pub returns-in_err-copy_of-clause-only : goal.returns-in_err-copy_of-clause-only
+returns-in_err-copy_of-clause-only g c =
+    others_then (λ a h. h) (looked_at c.args.recorded.now c.loop-output.output-index c.output-item.result c.loop-output-test.true c.output-item.is) c.loop-output.invariant.only c.read.ensures.only
+
+pub returns-in_err-push-clause-only : goal.returns-in_err-push-clause-only
+returns-in_err-push-clause-only g c =
+    others_then (λ a h. h) (looked_at c.args.recorded.now c.loop-output.output-index c.output-item.result c.loop-output-test.true c.output-item.is) c.loop-output.invariant.only c.read.ensures.only
