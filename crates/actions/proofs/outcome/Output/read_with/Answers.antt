@@ -4,7 +4,8 @@ use Rattle.tree.specs.Memo.{LooksAtBlob}
 use Rattle.blob_source.proofs.Asking.{ok_no_error}
 use Rattle.blob_source.proofs.Calling.{called_no}
 use Rattle.tree.proofs.Learning.{learns_more, learns_refused, refused_exit}
-use Rattle.tree.proofs.Leaving.{others_at, others_more}
+use Rattle.tree.proofs.Leaving.{others_more}
+use Rattle.tree.proofs.Memos.{others_at}
 use Rattle.actions.proofs.outcome.Output.read_with.Goals as goal
 
 pub returns-in_ok-message-in-Directory-clause-called : goal.returns-in_ok-message-in-Directory-clause-called
