@@ -170,14 +170,17 @@ impl<S: Peer + Drop> Together<S> {
     }
 
     /// How long the system may be waited for at this time: to the next wake, and a millisecond
-    /// more, since the time is whole milliseconds; not at all while one has something to do.
+    /// more, since the time is whole milliseconds; not at all while one has something to do, or
+    /// those that were held may have, since less is held.
     fn timeout(&self, now: u64) -> Option<Duration>
         ensures ready { (self.now.ready.items ≡ [] → ⊥) → option_map as_nanos result ≡ Some 0 }
-        ensures wake { self.now.ready.items ≡ [] → option_map as_nanos result
+        ensures eased { IsTrue self.now.scales.eased → option_map as_nanos result ≡ Some 0 }
+        ensures wake { self.now.ready.items ≡ [] → self.now.scales.eased ≡ false
+            → option_map as_nanos result
             ≡ (let wake = min self.now.wake self.now.line.due in
             if wake == u64.MAX then None else Some ((wake - now + 1) * 1000000)) }
     {
-        if !self.ready.is_empty() {
+        if !self.ready.is_empty() || self.scales.eased {
             return Some(Duration::from_secs(0));
         }
         let wake = self.wake.min(self.line.due());
