@@ -10,7 +10,7 @@ use Rattle.cache_server.specs.Server.{ServerValue, ServerStands}
 use Rattle.service.specs.Sockets.{Cause, Why}
 use Rattle.service.specs.Talks.{LedByConnections, ServesConnections, ServesEach}
 use Rattle.service.specs.Member.{MemberValue}
-use Rattle.service.specs.Together.{member_at, EndsIfAny, GoesOnTogether}
+use Rattle.service.specs.Together.{member_at, EndsIfAny, GoesOnTogether, OthersAreSame}
 use Rattle.service.proofs.Keeping.{keeps_nowhere, keeps_first, keeps_all, keeps_cut}
 
 pub serves_none : (cut : Bool) (ended : ℕ → List ℕ → List ℕ → Why → Type 0) (lost : ℕ → Cause → Type 0) (opening : CacheValue) (history : List HistoryEntry) (server : ServerValue)
@@ -46,6 +46,12 @@ pub serves_kept : {S : Type 0} (spoke : ℕ → S → List ℕ → List ℕ → 
 serves_kept spoke ended lost opening history none all accepted s u e p gone stands =
     serves_cut spoke ended lost opening history none all all accepted s u u e p (keeps_nowhere true spoke ended lost all accepted u) (λ k h. gone k) stands
 
+-- all but the one that was ended are the same
+pub others_stay : {S : Type 0} (spoke : ℕ → S → List ℕ → List ℕ → Type 0) (over : S → Cause → Type 0) (ended : ℕ → List ℕ → List ℕ → Why → Type 0) (lost : ℕ → Cause → Type 0) (number : ℕ) (why : Why) (s t : ServerValue) (old new : List (ℕ × MemberValue S))
+    → EndsIfAny spoke over ended lost number why s old t new → OthersAreSame number old new
+others_stay spoke over ended lost number why s t old new (inl e) j n = e.others j n
+others_stay spoke over ended lost number why s t old new (inr (none, same, all)) j n = all.0 j
+
 -- one more connection isn't open
 pub gone_more : {S : Type 0} (spoke : ℕ → S → List ℕ → List ℕ → Type 0) (over : S → Cause → Type 0) (ended : ℕ → List ℕ → List ℕ → Why → Type 0) (lost : ℕ → Cause → Type 0) (number : ℕ) (why : Why) (s t : ServerValue) (old new : List (ℕ × MemberValue S))
     → EndsIfAny spoke over ended lost number why s old t new → ((k : ℕ) → k < number → member_at old k ≡ None) → (k : ℕ) → k < number + 1 → member_at new k ≡ None
@@ -55,17 +61,13 @@ gone_more {S} spoke over ended lost number why s t old new ends gone k h = by_te
     at (inl e) = e.gone
     at (inr (none, same, all)) = all.0 number ∙ none
 
-    others : EndsIfAny spoke over ended lost number why s old t new → (k ≡ number → ⊥) → member_at new k ≡ member_at old k
-    others (inl e) n = e.others k n
-    others (inr (none, same, all)) n = all.0 k
-
     less : (k < number) ⊎ (number ≤ k) → (k ≡ number → ⊥) → k < number
     less (inl l) n = l
     less (inr l) n = absurd (n (omega arith))
 
     by_test : ((eqb k number ≡ true) × (k ≡ number)) ⊎ ((eqb k number ≡ false) × (k ≡ number → ⊥)) → member_at new k ≡ None
     by_test (inl (t, e)) = subst (λ (i : ℕ). member_at new i ≡ None) (sym e) (at ends)
-    by_test (inr (f, n)) = others ends n ∙ gone k (less (cases_lt k number) n)
+    by_test (inr (f, n)) = others_stay spoke over ended lost number why s t old new ends k n ∙ gone k (less (cases_lt k number) n)
 
 -- ---- whatever is said of the connections themselves
 

@@ -11,7 +11,7 @@ use Rattle.cache_server.specs.Server.{ServerValue, ServerStands, LeadsTo, IsOpen
 use Rattle.service.specs.Talks.{HasEnded, IsReason, AreBelow}
 use Rattle.service.specs.Sockets.{Cause, EndsAs, Why}
 use Rattle.service.specs.Member.{MemberValue, TalksOn, MovesOn, deadline_at, let_go, new_member}
-use Rattle.service.specs.Member.{HoldsAlone, marked_by}
+use Rattle.service.specs.Member.{HoldsAlone, IsDeadline, marked_by}
 use Rattle.service.specs.declared.load.Load.{Load}
 use Rattle.service.specs.declared.sockets.Ready.{Ready}
 
@@ -185,6 +185,18 @@ abbrev pub first_deadline : {S : Type 0} → Option ℕ → List (ℕ × MemberV
 first_deadline idle [] = 18446744073709551615
 first_deadline idle (member ∷ members) =
     min (unwrap_or (deadline_at member.1 idle) 18446744073709551615) (first_deadline idle members)
+
+-- none of its deadlines is over at this time, whether others wait for memory or not
+abbrev pub IsInTime : {S : Type 0} → MemberValue S → Option ℕ → ℕ → Type 0
+IsInTime m idle now =
+    (pressed : Bool) (deadline : ℕ) → IsDeadline m idle pressed (Some deadline) → now < deadline
+
+-- those that are in time stay as they are
+abbrev pub SparesInTime :
+    {S : Type 0} → Option ℕ → ℕ → List (ℕ × MemberValue S) → List (ℕ × MemberValue S) → Type 0
+SparesInTime idle now old new =
+    (k : ℕ) → IfSome (member_at old k)
+    (λ m. IsInTime m idle now → member_at new k ≡ Some m)
 
 -- The next wake comes after this time, if ever, and no later than the first of their deadlines.
 abbrev pub WakesInTime : {S : Type 0} → Option ℕ → List (ℕ × MemberValue S) → ℕ → ℕ → Type 0

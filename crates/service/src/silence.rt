@@ -1,7 +1,9 @@
 //! Which connections were silent for too long.
-ghost use Rattle.std.specs.Prelude.{◌≡◌, ◌+◌, ◌<◌, ◌≤◌, ◌⊎◌, IfErr, IfOk, IfSome, IsSome, false};
-ghost use Rattle.std.specs.Prelude.{length};
-ghost use Rattle.service.specs.Together.{LeavesPlaced, LeavesTogether, MayEndAt, WakesInTime};
+ghost use Rattle.std.specs.Prelude.{◌≡◌, ◌+◌, ◌<◌, ◌≤◌, ◌⊎◌, IfErr, IfOk, IfSome, IsSome, Some};
+ghost use Rattle.std.specs.Prelude.{false, length};
+ghost use Rattle.service.specs.Member.{IsDeadline};
+ghost use Rattle.service.specs.Together.{LeavesPlaced, LeavesTogether, MayEndAt, OthersAreSame};
+ghost use Rattle.service.specs.Together.{SparesInTime, WakesInTime};
 ghost use Rattle.service.specs.Together.{first_deadline, member_at};
 
 use crate::load::is_too_much;
@@ -14,7 +16,7 @@ use std::alloc::Global;
 impl<S: Peer + Drop> Together<S> {
     /// Ends the connections that were silent for too long by this time, one after another. Before
     /// the next wake there is none, but where others wait for memory.
-    #[tactic(auto, using(crate::proofs::Keeping::keeps_nowhere, crate::proofs::Keeping::keeps_further, crate::proofs::Places::placed_nowhere))]
+    #[tactic(auto, using(crate::proofs::Keeping::keeps_nowhere, crate::proofs::Keeping::keeps_further, crate::proofs::Places::placed_nowhere, crate::proofs::Waking::spares_all))]
     pub(crate) fn sweep<R: Log, N: Sockets<Stream = S>>(
         &mut self,
         rt: &R,
@@ -28,6 +30,8 @@ impl<S: Peer + Drop> Together<S> {
             (sockets.new, self.new.members.entries) }
         ensures wake { (now < self.old.wake)
             ⊎ WakesInTime self.old.idle self.new.members.entries now self.new.wake }
+        ensures spares { SparesInTime self.old.idle now
+            self.old.members.entries self.new.members.entries }
     {
         let pressed = is_too_much(self.scales.load.requests) || self.is_full();
         if now < self.wake && !pressed {
@@ -55,6 +59,8 @@ impl<S: Peer + Drop> Together<S> {
             wake ≡ first_deadline self.now.idle self.now.members.entries) }
         ensures open { IfErr result (λ it. IsSome (member_at self.now.members.entries it.0)) }
         ensures due { IfErr result (λ it. it.1 ≤ now) }
+        ensures late { IfErr result (λ it. IfSome (member_at self.now.members.entries it.0) (λ m.
+            IsDeadline m self.now.idle pressed (Some it.1))) }
     {
         let mut wake = u64::MAX;
         for (number, member) in self.members.iter() {
@@ -87,6 +93,7 @@ impl<S: Peer + Drop> Together<S> {
         ensures places { LeavesPlaced N.places (sockets.old, self.old.members.entries)
             (sockets.new, self.new.members.entries) }
         ensures fewer { length self.new.members.entries + 1 ≡ length self.old.members.entries }
+        ensures others { OthersAreSame number self.old.members.entries self.new.members.entries }
         ensures idle { self.new.idle ≡ self.old.idle }
     {
         if let Some(why) = self.silence(server, number, deadline, now) {

@@ -1,9 +1,9 @@
 use Rattle.std.proofs.Common.{◌≡◌, ℕ, ◌≤◌, [], ◌∷◌, inr, refl, sym, ap, subst, rules, arith}
-use Rattle.std.specs.Prelude.{IsSome, min}
+use Rattle.std.specs.Prelude.{IfSome, IsSome, Some, min}
 use Rattle.std.specs.Map.Iter.{deref_pair}
 use Rattle.std.proofs.lemmas.Cmp.{nat_cmp_total}
 use Rattle.std.proofs.lemmas.Map.Iter.{btree_map_turn}
-use Rattle.service.specs.Member.{MemberValue}
+use Rattle.service.specs.Member.{IsDeadline, MemberValue}
 use Rattle.service.specs.Together.{first_deadline}
 use Rattle.service.proofs.Waking.{first_below, or_never, wakes_calm, wakes_first, wakes_later, wakes_sooner}
 use Rattle.service.proofs.together.Together.next_wake.Goals as goal
@@ -36,6 +36,13 @@ returns-then-deadline-now-clause-open g c =
     let turn = btree_map_turn deref_pair c.loop-number.yielded c.into_iter-number-iterator.result c.loop-number.number-iterator c.next.new.self c.next.result
     (c.in-Some.number, c.in-Some.member) c.loop-number.yielded_by c.in-Some.is c.next.ensures.steps nat_cmp_total c.args.self.now.members (search rules) c.iter-number-items.ensures.ordered in
     subst (λ o. IsSome o) (sym turn.1) refl
+
+pub returns-then-deadline-now-clause-late : goal.returns-then-deadline-now-clause-late
+returns-then-deadline-now-clause-late g c =
+    let turn = btree_map_turn deref_pair c.loop-number.yielded c.into_iter-number-iterator.result c.loop-number.number-iterator c.next.new.self c.next.result
+    (c.in-Some.number, c.in-Some.member) c.loop-number.yielded_by c.in-Some.is c.next.ensures.steps nat_cmp_total c.args.self.now.members (search rules) c.iter-number-items.ensures.ordered in
+    subst (λ o. IfSome o (λ m. IsDeadline m c.args.self.now.idle c.args.pressed (Some c.in-Some-deadline.deadline))) (sym turn.1)
+    (subst (IsDeadline c.in-Some.member.now c.args.self.now.idle c.args.pressed) c.in-Some-deadline.is c.deadline.ensures.is)
 
 pub loop-number-preserved : goal.loop-number-preserved
 loop-number-preserved g c =

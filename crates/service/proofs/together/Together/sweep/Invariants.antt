@@ -1,6 +1,6 @@
 use Rattle.std.specs.Prelude.{false}
 use Rattle.std.proofs.Common.{◌≡◌, ℕ, ◌+◌, length}
-use Rattle.service.specs.Together.{GoesOnTogether, LeavesPlaced}
+use Rattle.service.specs.Together.{GoesOnTogether, LeavesPlaced, SparesInTime}
 use Rattle.service.proofs.together.Together.sweep.Given as goal
 
 abbrev pub invariant-loop : goal.invariant-loop
@@ -8,5 +8,6 @@ invariant-loop g l = record {
   keeps : (accepted : ℕ) → GoesOnTogether false g.S.Peer.spoke g.N.Sockets.ended g.N.Sockets.lost l.fn.self.members.entries accepted l.fn.server l.self.members.entries accepted l.server;
   places : LeavesPlaced g.N.Sockets.places (l.fn.sockets, l.fn.self.members.entries) (l.sockets, l.self.members.entries);
   idle : l.self.idle ≡ l.fn.self.idle;
+  spares : SparesInTime l.fn.self.idle l.fn.now l.fn.self.members.entries l.self.members.entries;
   fewer : l.counter + length l.self.members.entries ≡ length l.fn.self.members.entries;
 }
