@@ -1,6 +1,6 @@
 -- Accepts that fail, one after another, and connections that fail.
-use Rattle.std.proofs.Common.{◌≡◌, ℕ, zero, suc, ◌+◌, [], List, ◌++◌, subst, arith, Option, Some, Result, Ok, Err, IfErr, OnOk}
-use Rattle.std.specs.Prelude.{MatchResult}
+use Rattle.std.proofs.Common.{◌≡◌, ℕ, zero, suc, ◌+◌, ◌⊎◌, inl, inr, [], List, ◌++◌, subst, arith, Option, Some, Result, Ok, Err, IfErr, OnOk}
+use Rattle.std.specs.Prelude.{MatchResult, OnErr}
 use Rattle.cache_server.specs.Cache.{CacheValue}
 use Rattle.cache_server.specs.Connection.{BreaksOff, IsFoundBy, Runs}
 use Rattle.cache_server.specs.declared.error.ConnError.{ConnError}
@@ -29,6 +29,13 @@ fault_lost (Err ReadFault) reader writer lost l f = l.reading f
 fault_lost (Err WriteFault) reader writer lost l f = l.writing f
 fault_lost (Err Memory) reader writer lost l f = tt
 
+-- what was written was sent on, unless the writer failed
+pub sends_on : {T : Type 0} (r : Result T ConnError) (reader writer old new sent : Type 0) (lost : ConnError → Type 0) → LosesAs reader writer lost
+    → old → (new → sent) → OnOk r (old → new) → OnErr r (writer ⊎ (old → new)) → lost WriteFault ⊎ sent
+sends_on (Ok done) reader writer old new sent lost l was on ok err = inr (on (ok was))
+sends_on (Err e) reader writer old new sent lost l was on ok (inl b) = inl (l.writing b)
+sends_on (Err e) reader writer old new sent lost l was on ok (inr f) = inr (on (f was))
+
 -- ---- whatever is said of the connections themselves
 
 pub on_ok : {T E P Q : Type 0} (r : Result T E) → (P → Q) → OnOk r P → OnOk r Q
@@ -46,9 +53,9 @@ led_by_run prefix old input left before after new (Err ReadFault) (begun, runs) 
 led_by_run prefix old input left before after new (Err WriteFault) (rest, lost, begun, runs, all_but) = (runs.front, runs.told ++ lost, begun, runs.answered)
 led_by_run prefix old input left before after new (Err Memory) (rest, begun, runs, short) = (runs.front, runs.told ++ [], Some begun, runs.answered)
 
-pub led_by_streams : (opened : ℕ → Option (List ℕ) → Option (List ℕ) → Type 0) (ended : ℕ → Option (List ℕ) → Option (List ℕ) → Why → Type 0) (lost : ℕ → ConnError → Type 0)
-    (prefix : List ℕ) (opening : CacheValue) (count : ℕ) (new : CacheValue) → ServesInTurn opened ended lost prefix opening count new → LedByStreams prefix opening count new
-led_by_streams opened ended lost prefix opening _ _ turns.none = no_stream
-led_by_streams opened ended lost prefix opening _ _ (turns.next count old new earlier last) =
-    next_stream count old new (led_by_streams opened ended lost prefix opening count old earlier)
+pub led_by_streams : (opened : ℕ → Option (List ℕ) → Option (List ℕ) → Type 0) (ended : ℕ → Option (List ℕ) → Option (List ℕ) → Why → Type 0) (lost : ℕ → ConnError → Type 0) (sent : ℕ → Type 0)
+    (prefix : List ℕ) (opening : CacheValue) (count : ℕ) (new : CacheValue) → ServesInTurn opened ended lost sent prefix opening count new → LedByStreams prefix opening count new
+led_by_streams opened ended lost sent prefix opening _ _ turns.none = no_stream
+led_by_streams opened ended lost sent prefix opening _ _ (turns.next count old new earlier last) =
+    next_stream count old new (led_by_streams opened ended lost sent prefix opening count old earlier)
     (led_by_run prefix old last.input last.left last.before last.after new last.why last.ran)

@@ -1,5 +1,5 @@
 -- What connections do to a cache that are served one after another.
-use Rattle.std.specs.Prelude.{ℕ, zero, suc, ◌+◌, List, Option, IfErr, MatchResult}
+use Rattle.std.specs.Prelude.{ℕ, zero, suc, ◌+◌, ◌⊎◌, List, Option, IfErr, MatchResult}
 use Rattle.cache_server.specs.Cache.{CacheValue}
 use Rattle.cache_server.specs.Connection.{Runs, BreaksOff, IsAnswered, IsFoundBy}
 use Rattle.cache_server.specs.declared.error.ConnError.{ConnError}
@@ -22,7 +22,7 @@ pub record LosesAs (reader writer : Type 0) (lost : ConnError → Type 0) : Type
 pub record ServesNext
     (opened : ℕ → Option (List ℕ) → Option (List ℕ) → Type 0)
     (ended : ℕ → Option (List ℕ) → Option (List ℕ) → Why → Type 0) (lost : ℕ → ConnError → Type 0)
-    (prefix : List ℕ) (number : ℕ) (old new : CacheValue) : Type 0 where
+    (sent : ℕ → Type 0) (prefix : List ℕ) (number : ℕ) (old new : CacheValue) : Type 0 where
   pub input : Option (List ℕ)
   pub left : Option (List ℕ)
   pub before : Option (List ℕ)
@@ -33,17 +33,19 @@ pub record ServesNext
   pub ran : MatchResult why (λ _. Runs prefix old input left before after new)
       (BreaksOff prefix old input left before after new)
   pub found : IfErr why (IsFoundBy (lost number ReadFault) (lost number WriteFault))
+  -- unless its writer failed, what was written was sent on
+  pub sent_on : lost number WriteFault ⊎ sent number
 
 -- so were the connections with the numbers below this one, each after the one before it
 pub data ServesInTurn
     (opened : ℕ → Option (List ℕ) → Option (List ℕ) → Type 0)
     (ended : ℕ → Option (List ℕ) → Option (List ℕ) → Why → Type 0) (lost : ℕ → ConnError → Type 0)
-    (prefix : List ℕ) (opening : CacheValue) : ℕ → CacheValue → Type 0 where
-  none : ServesInTurn opened ended lost prefix opening 0 opening
+    (sent : ℕ → Type 0) (prefix : List ℕ) (opening : CacheValue) : ℕ → CacheValue → Type 0 where
+  none : ServesInTurn opened ended lost sent prefix opening 0 opening
   next : (count : ℕ) (old new : CacheValue)
-      → ServesInTurn opened ended lost prefix opening count old
-      → ServesNext opened ended lost prefix count old new
-      → ServesInTurn opened ended lost prefix opening (count + 1) new
+      → ServesInTurn opened ended lost sent prefix opening count old
+      → ServesNext opened ended lost sent prefix count old new
+      → ServesInTurn opened ended lost sent prefix opening (count + 1) new
 
 -- the requests in some stream, answered under the prefix, led from the one cache to the other
 abbrev pub LedByStream : List ℕ → CacheValue → CacheValue → Type 0

@@ -40,6 +40,9 @@ pub trait Listener {
     /// That it had failed so then: its reader, or its writer.
     ghost lost: { ℕ → ConnError → Type 0 };
 
+    /// That what was written there was sent on, as it ended. Only the call that ended it says so.
+    ghost sent: { ℕ → Type 0 };
+
     /// That so many accepts in a row have failed, up to the last. Only calls say so.
     ghost failed: { Self → ℕ → Type 0 };
 
@@ -50,6 +53,7 @@ pub trait Listener {
     fn accept(&mut self, number: u64) -> io::Result<Accepted<Self::Reader, Self::Writer>>
         ensures opens { IfOk result (λ it. opened number
             (Self.Reader.remaining it.reader) (Self.Writer.contents it.writer)) }
+        ensures clean { IfOk result (λ it. Self.Writer.flushed it.writer) }
         ensures again { OnOk result (failed self.new 0) }
         ensures fails { OnErr result (FailsAfter failed 0 1 self.old self.new) }
         ensures last { IfErr result (refused self.new) };
@@ -66,6 +70,7 @@ pub trait Listener {
             (Self.Reader.remaining reader) (Self.Writer.contents writer) why }
         ensures lost { LosesAs (Self.Reader.broken reader) (Self.Writer.broken writer)
             (lost number) }
+        ensures sent { Self.Writer.flushed writer → sent number }
         ensures keeps { FailsAfter failed 0 0 self.old self.new };
 }
 
@@ -88,6 +93,8 @@ impl<'r, R: AllocGlobal + Clock> Listener for System<'r, R> {
     ghost ended = { λ _ _ _ _. Unit {0} };
 
     ghost lost = { λ _ _. Unit {0} };
+
+    ghost sent = { λ _. Unit {0} };
 
     ghost failed = { λ _ _. Unit {0} };
 

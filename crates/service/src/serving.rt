@@ -49,9 +49,10 @@ pub fn serve_listener<R: AllocGlobal + Log, L: Listener>(
 ) -> Result<(), NotAccepted>
     // Each connection was opened, run to its end or to a fault, and ended.
     ensures ok { OnOk result
-        (ServesInTurn L.opened L.ended L.lost prefix.now cache.old connections cache.new) }
+        (ServesInTurn L.opened L.ended L.lost L.sent prefix.now cache.old connections cache.new) }
     ensures err { IfErr result (λ fault.
-        ServesInTurn L.opened L.ended L.lost prefix.now cache.old fault.accepted cache.new) }
+        ServesInTurn L.opened L.ended L.lost L.sent prefix.now
+        cache.old fault.accepted cache.new) }
     ensures few { IfErr result (λ fault. fault.accepted < connections) }
     ensures tried { IfErr result (λ fault.
         FailsAfter L.failed fault.accepted 100 listener.old listener.new) }
@@ -78,6 +79,7 @@ fn accept<R: Log, L: Listener>(
 ) -> io::Result<Accepted<L::Reader, L::Writer>>
     ensures opens { IfOk result (λ it. L.opened number
         (L.Reader.remaining it.reader) (L.Writer.contents it.writer)) }
+    ensures clean { IfOk result (λ it. L.Writer.flushed it.writer) }
     ensures again { OnOk result (L.failed listener.new 0) }
     ensures fails { OnErr result (FailsAfter L.failed 0 100 listener.old listener.new) }
     ensures last { IfErr result (L.refused listener.new) }
@@ -92,7 +94,7 @@ fn accept<R: Log, L: Listener>(
 }
 
 /// Serves a connection, and tells of it in the log.
-#[tactic(auto, using(crate::proofs::Failing::fault_lost))]
+#[tactic(auto, using(crate::proofs::Failing::fault_lost, crate::proofs::Failing::sends_on))]
 fn serve_next<R: AllocGlobal + Log, L: Listener>(
     rt: &R,
     listener: &mut L,
@@ -101,9 +103,11 @@ fn serve_next<R: AllocGlobal + Log, L: Listener>(
     cache: &mut Cache<Global>,
     prefix: &Prefix<Global>,
 )
-    requires { L.opened number
+    requires opens { L.opened number
         (L.Reader.remaining accepted.reader) (L.Writer.contents accepted.writer) }
-    ensures serves { ServesNext L.opened L.ended L.lost prefix.now number cache.old cache.new }
+    requires clean { L.Writer.flushed accepted.writer }
+    ensures serves { ServesNext L.opened L.ended L.lost L.sent prefix.now number
+        cache.old cache.new }
     ensures keeps { FailsAfter L.failed 0 0 listener.old listener.new }
 {
     let Accepted {

@@ -3,6 +3,6 @@ use Rattle.service.proofs.serving.serve_listener.Given as goal
 
 abbrev pub invariant-loop-number : goal.invariant-loop-number
 invariant-loop-number g l = record {
-  serves : ServesInTurn g.L.Listener.opened g.L.Listener.ended g.L.Listener.lost l.fn.prefix l.fn.cache l.number l.cache;
+  serves : ServesInTurn g.L.Listener.opened g.L.Listener.ended g.L.Listener.lost g.L.Listener.sent l.fn.prefix l.fn.cache l.number l.cache;
   failed : FailsAfter g.L.Listener.failed l.number 0 l.fn.listener l.listener;
 }
