@@ -8,6 +8,7 @@ ghost use Rattle.service.specs.Together.{AreSame, EntersAt, GoesOnTogether, Stay
 
 use crate::error::finds_none;
 use crate::member::Member;
+use crate::serving::TRIES;
 use crate::sockets::{Peer, Sockets};
 use crate::together::Together;
 use cache_server::ConnError;
@@ -16,9 +17,6 @@ use std::alloc::Global;
 use std::io;
 use std::net::SocketAddr;
 use std::time::Clock;
-
-/// How often in a row it is tried to accept a connection while none is open.
-const TRIES: u32 = 100;
 
 impl<S: Peer + Drop> Together<S> {
     /// Accepts the connections that wait, as long as fewer than `at_once` are open.

@@ -12,7 +12,7 @@ use std::{io, net};
 const LISTENER: Token = Token(usize::MAX);
 
 /// How many events are taken from the system at once.
-const EVENTS: usize = 256;
+pub(crate) const EVENTS: usize = 256;
 
 /// A listener of the system, and epoll.
 #[derive(Drop)]

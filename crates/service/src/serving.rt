@@ -13,7 +13,7 @@ use std::net::TcpListener;
 use std::time::{Clock, Duration};
 
 /// How often in a row it is tried to accept a connection.
-const TRIES: u32 = 100;
+pub(crate) const TRIES: u32 = 100;
 
 /// Serves so many connections of the listener, one after another: `serve_listener` over sockets of
 /// the system. One that is silent for `idle`, or takes no answer for so long, is ended.

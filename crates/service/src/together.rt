@@ -9,7 +9,7 @@ ghost use Rattle.service.specs.Talks.{LedByConnections, ServesConnections, Stops
 ghost use Rattle.service.specs.Together.{AreSame, GoesOnTogether, StaysPlaced, member_at};
 
 use crate::desk::Desk;
-use crate::epoll::Epoll;
+use crate::epoll::{EVENTS, Epoll};
 use crate::error::NotAccepted;
 use crate::load::{GREATEST, Scales};
 use crate::member::Member;
@@ -24,9 +24,6 @@ use std::io::{ErrorKind, Stderr};
 use std::net::Net;
 use std::time::{Clock, Duration};
 use std::{io, net};
-
-/// How many events are taken from the system at once.
-const EVENTS: usize = 256;
 
 /// Connections that are served at once.
 #[derive(Drop)]
