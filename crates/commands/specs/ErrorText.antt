@@ -111,7 +111,7 @@ IsErrorText (WrongBytes server digest) text = text ≡ said_of (string_bytes ser
     (said_of (codes "get of blob " ++ string_bytes digest) (codes "other bytes came"))
 IsErrorText (Address place fault) text = IsWordsAt (string_bytes place) text
 IsErrorText (Accept fault) text =
-    IsWordsOf (codes "no connection could be accepted after " ++ decimal fault.accepted) text
+    IsWordsOf (codes "no more connections are served after " ++ decimal fault.accepted) text
 IsErrorText (Process fault) text = IsProcessText fault text
 IsErrorText (Random fault) text = IsWordsOf (codes "random bytes") text
 IsErrorText (Output fault) text = IsWordsOf (codes "standard output") text

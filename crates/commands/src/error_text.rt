@@ -144,14 +144,14 @@ fn wrong_bytes(alloc: Global, server: &str, digest: &str) -> Result<String, Allo
     said_of(alloc, server, said.as_str())
 }
 
-/// That no more connections could be accepted.
+/// That no more connections are served.
 fn not_accepted(alloc: Global, fault: &NotAccepted) -> Result<String, AllocError>
     ensures { IfOk result (λ text. IsWordsOf
-        (codes "no connection could be accepted after " ++ decimal fault.now.accepted)
+        (codes "no more connections are served after " ++ decimal fault.now.accepted)
         (string_bytes text)) }
 {
     let accepted = fault.accepted;
-    let head = format!(in alloc; "no connection could be accepted after {accepted}")?;
+    let head = format!(in alloc; "no more connections are served after {accepted}")?;
     fault_of(alloc, head.as_str(), &fault.fault)
 }
 

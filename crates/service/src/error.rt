@@ -8,7 +8,7 @@ use thiserror::Error;
 
 /// No more connections are served: none can be accepted, a wait failed, or memory is wanting.
 #[derive(Debug, Drop, Error)]
-#[error("no connection could be accepted after {accepted}: {fault}")]
+#[error("no more connections are served after {accepted}: {fault}")]
 pub struct NotAccepted {
     /// How many were accepted before. Each has ended.
     pub accepted: u64,
