@@ -1,12 +1,11 @@
 -- What a result and a source determine, and what an outcome has at a path.
-use Rattle.std.proofs.Common.{◌≡◌, ◌≢◌, ℕ, zero, suc, List, [], ◌∷◌, ◌++◌, refl, sym, ap, subst, ◌∙◌, inl, inr, Less, arith}
+use Rattle.std.proofs.Common.{◌≡◌, ℕ, zero, suc, List, [], ◌∷◌, ◌++◌, refl, sym, ap, subst, ◌∙◌, inl, inr, Less, arith}
 use Rattle.std.specs.Prelude.{Contains, Option, Some, None}
 use Rattle.std.specs.List.{AllByRecursion}
 use Rattle.std.specs.Cmp.Lexicographic.{nat_list_cmp_total}
-use Rattle.blob_digest.specs.Digest.{DigestValue, digest_of}
+use Rattle.blob_digest.specs.Digest.{DigestValue}
 use Rattle.messages.specs.declared.node.Node.TheVariants.{File, Link, Dir}
 use Rattle.messages.specs.DirectoryRules.{DirectoryValue}
-use Rattle.messages.specs.Directory.{directory_bytes}
 use Rattle.messages.specs.Order.{bytes_cmp}
 use Rattle.messages.specs.Path.{Overlap, AreApart, path_text}
 use Rattle.messages.specs.Node.{child}
@@ -17,6 +16,7 @@ use Rattle.blob_source.specs.Source.{Blobs, IsUnder}
 use Rattle.blob_source.specs.Told.{Fault, IsTold}
 use Rattle.tree.specs.Lookup.{Looked, LooksFrom}
 use Rattle.tree.proofs.LookupOnce.{told_or_fault, fault_once}
+use Rattle.tree.proofs.MergeStages.{first_once}
 use Rattle.actions.specs.declared.outcome.Output.TheVariants as outputs
 use Rattle.action_messages.specs.Ascending.{IsAscendingBy}
 use Rattle.action_messages.specs.OutputFile.{OutputFileValue}
@@ -158,15 +158,8 @@ recorded_or_fault B r o f h k = told_all B h.recorded o.outputs f h.outputs (sub
 
 -- ---- one look-up
 
-first_once : (d : DigestValue) (before before' behind behind' : List DirectoryValue) (m n : DirectoryValue) → before ++ m ∷ behind ≡ before' ++ n ∷ behind' → digest_of (directory_bytes m) ≡ d → digest_of (directory_bytes n) ≡ d
-    → AllByRecursion (λ other. digest_of (directory_bytes other) ≢ d) before → AllByRecursion (λ other. digest_of (directory_bytes other) ≢ d) before' → m ≡ n
-first_once d [] [] behind behind' m n e p q h k = cc
-first_once d [] (y ∷ ys) behind behind' m n e p q h k = let same : m ≡ y = cc in absurd (k.0 (ap (λ x. digest_of (directory_bytes x)) (sym same) ∙ p))
-first_once d (x ∷ xs) [] behind behind' m n e p q h k = let same : x ≡ n = cc in absurd (h.0 (ap (λ y. digest_of (directory_bytes y)) same ∙ q))
-first_once d (x ∷ xs) (y ∷ ys) behind behind' m n e p q h k = let tails : xs ++ m ∷ behind ≡ ys ++ n ∷ behind' = cc in first_once d xs ys behind behind' m n tails p q h.1 k.1
-
 child_once : (t : TreeValue) (d : DigestValue) (m n : DirectoryValue) → IsFirstChild t d m → IsFirstChild t d n → m ≡ n
-child_once t d m n h k = first_once d h.before k.before h.behind k.behind m n (sym h.stands ∙ k.stands) h.right k.right h.first k.first
+child_once t d m n h k = first_once t.children d m n h k
 
 from_once : (t : TreeValue) (p : List (List ℕ)) (o : Option NodeValue) (r s : Looked) → LooksFrom (IsFirstChild t) NoFault p o r → LooksFrom (IsFirstChild t) NoFault p o s → r ≡ s
 from_once t p None r s h k = h ∙ sym k

@@ -1,13 +1,10 @@
 -- A look-up in a tree, name by name: each directory that a node names is one of the tree's children.
-use Rattle.std.proofs.Common.{◌≡◌, ◌≢◌, ℕ, true, false, eqb, ◌&&◌, zero, suc, ◌+◌, ◌<◌, List, [], ◌∷◌, ◌++◌, length, map, take, drop, get_or, Option, Some, None, option_map, refl, sym, ap, subst, ◌∙◌, inl, arith}
-use Rattle.std.specs.Prelude.{◌==◌, Contains, slice_get, MatchOption, IsSome, IfSome, Result, Ok, Err, IfOk, nat_eq}
-use Rattle.std.specs.Cmp.Lexicographic.{pointwise, bytes_decides}
-use Rattle.std.proofs.lemmas.Bool.{eq-eqb}
+use Rattle.std.proofs.Common.{◌≡◌, ◌≢◌, ℕ, zero, suc, ◌<◌, List, [], ◌∷◌, ◌++◌, length, map, take, drop, get_or, Option, Some, None, option_map, refl, sym, ap, subst, ◌∙◌, inl, arith}
+use Rattle.std.specs.Prelude.{◌==◌, Contains, slice_get, MatchOption, IsSome, IfSome, Result, Ok, Err, IfOk}
 use Rattle.std.proofs.lemmas.Option.{slice_get_read}
-use Rattle.messages.proofs.Choices.{and_both}
 use Rattle.std.specs.Borrow.{Bor}
 use Rattle.std.specs.List.{AllByRecursion}
-use Rattle.std.proofs.lemmas.List.{take_more, take-map, length-map}
+use Rattle.std.proofs.lemmas.List.{take-map}
 use Rattle.std.proofs.lemmas.List.Splits.{length-slice_split}
 use Rattle.std.proofs.lemmas.List.Elements.{Contains-append_left, Contains-append_right}
 use Rattle.blob_digest.specs.Digest.{DigestValue, digest_of}
@@ -24,6 +21,8 @@ use Rattle.tree.specs.Form.{NodeValue, node_value}
 use Rattle.tree.specs.Lookup.{Looked, nothing, looked, LooksFrom}
 use Rattle.tree.specs.Merging.{in_tree, IsHeldIn}
 use Rattle.tree.proofs.Children.{child_value}
+use Rattle.tree.proofs.MergeHeld.{first_among}
+use Rattle.tree.proofs.MergeTrees.{NotAmong, before_all, same_count}
 use Rattle.actions.specs.declared.outcome.Output.TheVariants as outputs
 use Rattle.actions.specs.OutcomeLookup.{IsFirstChild, NoFault, NamesLink, TakesMemory}
 use Rattle.actions.specs.Parts.{IsChildOf, LooksUnder}
@@ -60,26 +59,12 @@ pub root_there : (t : TreeValue) → Contains (t.root ∷ t.children) t.root
 root_there t = (0, omega arith, refl)
 
 pub first_there : (t : TreeValue) (d : DigestValue) (m : DirectoryValue) → IsFirstChild t d m → Contains (t.root ∷ t.children) m
-first_there t d m h = behind t.root t.children m (subst (λ l. Contains l m) (sym h.stands) (Contains-append_right h.before (m ∷ h.behind) m (0, omega arith, refl)))
+first_there t d m h = behind t.root t.children m (first_among t.children d m h)
 
 -- ---- the first child with a digest
 
-abbrev pub NotAmong : DigestValue → List DigestValue → Type 0
-NotAmong d ds = AllByRecursion (λ e. e ≢ d) ds
-
-pub none_push : (d e : DigestValue) (ds : List DigestValue) → NotAmong d ds → e ≢ d → NotAmong d (ds ++ e ∷ [])
-none_push d e [] h n = (n, tt)
-none_push d e (x ∷ ds) h n = (h.0, none_push d e ds h.1 n)
-
-same_length : (t : TreeValue) → length (child_digests t) ≡ length t.children
-same_length t = length-map (map directory_bytes t.children) digest_of ∙ length-map t.children directory_bytes
-
 digests_taken : (n : ℕ) (ms : List DirectoryValue) → take n (digests_of (map directory_bytes ms)) ≡ digests_of (map directory_bytes (take n ms))
 digests_taken n ms = take-map digest_of n (map directory_bytes ms) ∙ ap digests_of (take-map directory_bytes n ms)
-
-before_all : (d : DigestValue) (ms : List DirectoryValue) → NotAmong d (digests_of (map directory_bytes ms)) → AllByRecursion (λ m. digest_of (directory_bytes m) ≢ d) ms
-before_all d [] h = tt
-before_all d (m ∷ ms) h = (h.0, before_all d ms h.1)
 
 digest_there : (ms : List DirectoryValue) (i : ℕ) (m : DirectoryValue) (e : DigestValue) → slice_get ms i ≡ Some m → i < length (digests_of (map directory_bytes ms)) → e ≡ get_or (digests_of (map directory_bytes ms)) i e → digest_of (directory_bytes m) ≡ e
 digest_there [] i m e at lt is = absurd cc
@@ -180,23 +165,14 @@ takes_in_tree t (n ∷ names) h = h
 -- ---- as the code has it
 
 pub got_child : (t : TreeValue) (d e : DigestValue) (i : ℕ) (ds : List DigestValue) (ms : List DirectoryValue) (o : Option (Bor DirectoryValue)) → (i < length ms → IsSome o) → IfSome o (λ x. x.now ≡ get_or ms i x.now) → ms ≡ t.children → ds ≡ child_digests t → NotAmong d (take i ds) → i < length ds → e ≡ get_or ds i e → e ≡ d → MatchOption o (Contains (child_digests t) d → ⊥) (λ m. IsFirstChild t d m.now)
-got_child t d e i ds ms None some at here held none lt is same = absurd (never (some (omega (arith, same_length t, ap length held, ap length here, lt))))
+got_child t d e i ds ms None some at here held none lt is same = absurd (never (some (omega (arith, same_count t, ap length held, ap length here, lt))))
   where
     never : IsSome {T = Bor DirectoryValue} None → ⊥
     never h = cc
 got_child t d e i ds ms (Some m) some at here held none lt is same =
-    let within : i < length t.children = omega (arith, same_length t, ap length held, lt) in
+    let within : i < length t.children = omega (arith, same_count t, ap length held, lt) in
     first_found t d e i m.now (subst (λ l. NotAmong d (take i l)) held none) (subst (λ l. i < length l) held lt) (subst (λ l. e ≡ get_or l i e) held is) same
     (slice_get_read t.children (length t.children) i m.now refl within (subst (λ l. m.now ≡ get_or l i m.now) here at))
-
-same_test : (d : DigestValue) → (pointwise nat_eq d.hash d.hash && eqb d.size d.size) ≡ true
-same_test d = and_both (pointwise nat_eq d.hash d.hash) (eqb d.size d.size) ((bytes_decides d.hash d.hash).1 refl) (eq-eqb d.size d.size refl)
-
-pub differ : (e d : DigestValue) → false ≡ (pointwise nat_eq e.hash d.hash && eqb e.size d.size) → e ≡ d → ⊥
-differ e d h same = let own = same_test e in let alike : false ≡ (pointwise nat_eq e.hash e.hash && eqb e.size e.size) = h ∙ ap (λ (x : DigestValue). pointwise nat_eq e.hash x.hash && eqb e.size x.size) (sym same) in cc
-
-pub none_next : (d e : DigestValue) (ds : List DigestValue) (i : ℕ) → i < length ds → e ≡ get_or ds i e → (e ≡ d → ⊥) → NotAmong d (take i ds) → NotAmong d (take (i + 1) ds)
-none_next d e ds i lt is differs none = subst (NotAmong d) (sym (take_more ds i e lt ∙ ap (λ x. take i ds ++ x ∷ []) (sym is))) (none_push d e (take i ds) none differs)
 
 -- ---- a node of a tree is held there
 

@@ -1,25 +1,20 @@
 -- Looking up a path in an outcome: at an output's path, or below that of a whole directory.
-use Rattle.std.specs.Prelude.{◌≡◌, ◌≢◌, ◌⊎◌, ℕ, List, [], ◌∷◌, ◌++◌}
+use Rattle.std.specs.Prelude.{◌≡◌, ◌⊎◌, ℕ, List, [], ◌∷◌, ◌++◌}
 use Rattle.std.specs.Prelude.{Contains}
 use Rattle.std.specs.List.{AllByRecursion}
-use Rattle.blob_digest.specs.Digest.{DigestValue, digest_of}
+use Rattle.blob_digest.specs.Digest.{DigestValue}
 use Rattle.messages.specs.DirectoryRules.{DirectoryValue, symlink_names}
-use Rattle.messages.specs.Directory.{directory_bytes}
 use Rattle.messages.specs.Tree.{TreeValue}
 use Rattle.messages.specs.Node.{child}
 use Rattle.blob_source.specs.Told.{Fault}
 use Rattle.tree.specs.Lookup.{Looked, nothing, found, LooksFrom}
-use Rattle.tree.specs.Merging.{WithinValue, in_source, in_tree}
+use Rattle.tree.specs.Merging.{IsFirstIn, WithinValue, in_source, in_tree}
 use Rattle.actions.specs.declared.outcome.Output.TheVariants.{File, Link, Tree}
 use Rattle.actions.specs.Outcome.{OutputValue, OutcomeValue, output_node, tree_node}
 
 -- the first of the directories below a tree's root whose encoding has the digest
-pub record IsFirstChild (t : TreeValue) (digest : DigestValue) (m : DirectoryValue) : Type 0 where
-  pub before : List DirectoryValue
-  pub behind : List DirectoryValue
-  pub stands : t.children ≡ before ++ m ∷ behind
-  pub right : digest_of (directory_bytes m) ≡ digest
-  pub first : AllByRecursion (λ other. digest_of (directory_bytes other) ≢ digest) before
+abbrev pub IsFirstChild : TreeValue → DigestValue → DirectoryValue → Type 0
+IsFirstChild t = IsFirstIn t.children
 
 -- Within a tree nothing is read that could be missing or wrong.
 abbrev pub NoFault : DigestValue → Fault → Type 0

@@ -12,13 +12,14 @@ use Rattle.messages.specs.Tree.{TreeValue, digests_of, child_digests}
 use Rattle.actions.specs.declared.outcome.Output.TheVariants as outputs
 use Rattle.actions.specs.Outcome.{OutputValue, OutcomeValue, output_node}
 use Rattle.actions.specs.OutcomeLookup.{IsFirstChild, NoFault, LooksBelow, LooksIn}
-use Rattle.actions.proofs.TreeLookups.{holds_mapped, all_at, child_named, first_there, root_there, differ}
+use Rattle.actions.proofs.TreeLookups.{holds_mapped, all_at, child_named, first_there, root_there}
 use Rattle.tree.specs.Tree.{Name, Tree, Leaf, Entry, single, whole, entry_of, below_entry, IsOrderedEntry}
 use Rattle.tree.specs.Form.{NodeValue, entry_node, form, directory_of, top, root}
 use Rattle.blob_source.specs.Source.{Blobs}
 use Rattle.blob_source.specs.Told.{TellsDirectory, FailsDirectory}
 use Rattle.tree.specs.Lookup.{found, LooksFrom}
 use Rattle.tree.proofs.Children.{child-directory_of}
+use Rattle.tree.proofs.MergeTrees.{differ}
 use Rattle.tree.proofs.LookupLemmas as lookups
 use Rattle.tree.proofs.LookupLemmas.{entry_blobs}
 use Rattle.tree.proofs.OrderLemmas.{IsOrderedAt, entry_ordered}

@@ -1,5 +1,6 @@
 use Rattle.std.proofs.Common.{rules, ◌≡◌}
-use Rattle.actions.proofs.TreeLookups.{got_child, none_next, differ}
+use Rattle.tree.proofs.MergeTrees.{none_next, differ}
+use Rattle.actions.proofs.TreeLookups.{got_child}
 use Rattle.actions.proofs.looking_up.first_child.Goals as goal
 
 pub returns-then-eq-clause-found : goal.returns-then-eq-clause-found

@@ -1,5 +1,5 @@
 use Rattle.std.proofs.Common.{take}
-use Rattle.actions.proofs.TreeLookups.{NotAmong}
+use Rattle.tree.proofs.MergeTrees.{NotAmong}
 use Rattle.actions.proofs.looking_up.first_child.Given as goal
 
 abbrev pub invariant-loop-index : goal.invariant-loop-index
