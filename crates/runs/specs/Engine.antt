@@ -1,16 +1,17 @@
 -- An engine as contracts see it: a plan with the frames and commands of its steps, what has
 -- finished, and the jobs that run.
 use Rattle.std.specs.Prelude.{◌≡◌, ◌<◌, ◌≤◌, ℕ, pos, false, List, length, Option, Some, slice_get}
-use Rattle.std.specs.Prelude.{option_and_then, Contains}
+use Rattle.std.specs.Prelude.{option_and_then}
 use Rattle.blob_digest.specs.Digest.{DigestValue}
 use Rattle.action_messages.specs.Command.{CommandValue}
 use Rattle.action_messages.specs.Frame.{FrameValue}
 use Rattle.std.specs.List.{AllByRecursion}
 use Rattle.messages.specs.Tree.{IsTree}
 use Rattle.actions.specs.declared.outcome.Output.TheVariants as outputs
-use Rattle.actions.specs.Outcome.{OutputValue, OutcomeValue, IsOutcome, paths_of_outputs}
+use Rattle.actions.specs.Outcome.{OutputValue, OutcomeValue, IsOutcome}
 use Rattle.plan.specs.Values.{StepValue, PlanValue}
 use Rattle.verifier.specs.Build.{StepFits}
+use Rattle.verifier.specs.StepChecks.{AreListed}
 
 -- what a step came to: the digest of the action that finished first, and its outcome
 pub record FinishedValue : Type 0 where
@@ -70,7 +71,7 @@ pub record TakesOutcome (c : CommandValue) (o : OutcomeValue) : Type 0 where
   pub valid : IsOutcome o
   pub outputs : HoldValidTrees o.outputs
   pub exit_code : o.exit_code ≡ pos 0
-  pub listed : AllByRecursion (Contains c.output_paths) (paths_of_outputs o.outputs)
+  pub listed : AreListed c o
 
 pub record IsEngine (e : EngineValue) : Type 0 where
   pub stand : AllStand e.plan.steps e.frames e.commands
