@@ -6,7 +6,6 @@ pub mod Untaken
 pub mod Sorting
 pub mod Gathering
 pub mod Layouts
-pub mod Startable
 pub mod Jobs
 pub mod Started
 pub mod Goes

@@ -48,10 +48,7 @@ pub(crate) fn first_progress<A: Allocator + Copy>(engine: &Engine<'_, A>) -> Pro
 fn longest<J, A: Allocator>(children: &VecDeque<Child<J>, A>) -> Option<usize>
     ensures { result ≡ first_step (jobs_with children.now.items) }
 {
-    match children.front() {
-        Some(child) => Some(child.step),
-        None => None,
-    }
+    Some(children.front()?.step)
 }
 
 /// The step of a turn.

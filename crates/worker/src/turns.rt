@@ -38,13 +38,7 @@ fn can_start<A: Allocator + Copy>(engine: &Engine<'_, A>, step: usize) -> bool
     requires { step < length engine.now.plan.steps }
     ensures { IsTrue result ↔ IsStartable engine.now step }
 {
-    if engine.finished(step) {
-        return false;
-    }
-    if engine.running(step) != 0 {
-        return false;
-    }
-    engine.ready(step)
+    !engine.finished(step) && engine.running(step) == 0 && engine.ready(step)
 }
 
 /// The least step that may be started.
