@@ -86,7 +86,6 @@ impl<S: Peer + Drop> Together<S> {
                 self.line.clear();
                 warn!(rt; "{number}: not accepted: out of memory");
                 self.waits = self.members.is_empty();
-                return Ok(());
             }
         }
         Ok(())

@@ -4,15 +4,15 @@ use Rattle.service.proofs.Keeping.{keeps_entered}
 use Rattle.service.proofs.Places.{placed_entered, placed_back}
 use Rattle.service.proofs.together.Together.accept_one.Goals as goal
 
-pub returns-clause-keeps : goal.returns-clause-keeps
-returns-clause-keeps g c server =
+pub returns-in-Ok-clause-keeps : goal.returns-in-Ok-clause-keeps
+returns-in-Ok-clause-keeps g c server =
     let said : g.S.Peer.spoke c.args.accepted.now c.in-Some.stream [] [] = search rules in
     let enters : EntersAt c.args.accepted.now c.in-Some.stream c.now-now.result c.next.new.self.members.entries c.enter.new.self.members.entries = search rules in
     keeps_entered false g.S.Peer.spoke g.N.Sockets.ended g.N.Sockets.lost c.args.self.now.members.entries c.enter.new.self.members.entries c.args.accepted.now server c.in-Some.stream c.now-now.result said
     (subst (λ ms. EntersAt c.args.accepted.now c.in-Some.stream c.now-now.result ms c.enter.new.self.members.entries) c.next.ensures.same enters)
 
-pub returns-clause-places : goal.returns-clause-places
-returns-clause-places g c =
+pub returns-in-Ok-clause-places : goal.returns-in-Ok-clause-places
+returns-in-Ok-clause-places g c =
     let enters : EntersAt c.args.accepted.now c.in-Some.stream c.now-now.result c.next.new.self.members.entries c.enter.new.self.members.entries = search rules in
     placed_entered c.args.sockets.now c.next.new.sockets c.args.accepted.now c.in-Some.stream c.now-now.result c.args.self.now.members.entries c.enter.new.self.members.entries
     (search rules) c.requires.place
