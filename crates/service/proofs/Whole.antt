@@ -1,8 +1,5 @@
 -- A whole run over connections.
-use Rattle.std.proofs.Common.{◌≡◌, ℕ, ◌+◌, ◌<◌, ◌≤◌, ◌⊎◌, inl, inr, Bool, true, false, None, List, [], ◌++◌, sym, ◌∙◌, subst, arith}
-use Rattle.std.proofs.Math.Dec.{eqb}
-use Rattle.std.proofs.lemmas.Bool.{cases_lt}
-use Rattle.std.proofs.lemmas.Bool.Decides.{eqb_tells}
+use Rattle.std.proofs.Common.{◌≡◌, ℕ, inl, inr, Bool, true, false, None, List, [], ◌∷◌, ◌++◌, length, refl, sym, subst, arith}
 use Rattle.std.proofs.lemmas.List.{append-nil}
 use Rattle.cache_server.specs.Cache.{CacheValue}
 use Rattle.cache_server.specs.History.{HistoryEntry}
@@ -33,9 +30,9 @@ serves_all spoke ended lost opening history none all accepted s u e p gone stand
 pub serves_cut : {S : Type 0} (spoke : ℕ → S → List ℕ → List ℕ → Type 0) (ended : ℕ → List ℕ → List ℕ → Why → Type 0) (lost : ℕ → Cause → Type 0)
     (opening : CacheValue) (history : List HistoryEntry) (none some all : List (ℕ × MemberValue S)) (accepted : ℕ) (s t u : ServerValue)
     → none ≡ [] → GoesOnTogether false spoke ended lost none 0 s some accepted t → GoesOnTogether true spoke ended lost some accepted t all accepted u
-    → ((k : ℕ) → k < accepted → member_at all k ≡ None) → ServerStands opening s history → ServesEach true ended lost s.prefix opening history accepted u
+    → ((k : ℕ) → member_at all k ≡ None) → ServerStands opening s history → ServesEach true ended lost s.prefix opening history accepted u
 serves_cut spoke ended lost opening history none some all accepted s t u e p q gone stands =
-    keeps_all true spoke ended lost s.prefix opening history all accepted u gone
+    keeps_all true spoke ended lost s.prefix opening history all accepted u (λ k h. gone k)
     (q.on s.prefix opening history (keeps_cut spoke ended lost s.prefix opening history some accepted t (p.on s.prefix opening history (keeps_first false spoke ended lost opening history none s e stands))))
 
 -- none is open that could be cut off
@@ -44,7 +41,7 @@ pub serves_kept : {S : Type 0} (spoke : ℕ → S → List ℕ → List ℕ → 
     → none ≡ [] → GoesOnTogether false spoke ended lost none 0 s all accepted u
     → ((k : ℕ) → member_at all k ≡ None) → ServerStands opening s history → ServesEach true ended lost s.prefix opening history accepted u
 serves_kept spoke ended lost opening history none all accepted s u e p gone stands =
-    serves_cut spoke ended lost opening history none all all accepted s u u e p (keeps_nowhere true spoke ended lost all accepted u) (λ k h. gone k) stands
+    serves_cut spoke ended lost opening history none all all accepted s u u e p (keeps_nowhere true spoke ended lost all accepted u) gone stands
 
 -- all but the one that was ended are the same
 pub others_stay : {S : Type 0} (spoke : ℕ → S → List ℕ → List ℕ → Type 0) (over : S → Cause → Type 0) (ended : ℕ → List ℕ → List ℕ → Why → Type 0) (lost : ℕ → Cause → Type 0) (number : ℕ) (why : Why) (s t : ServerValue) (old new : List (ℕ × MemberValue S))
@@ -52,22 +49,10 @@ pub others_stay : {S : Type 0} (spoke : ℕ → S → List ℕ → List ℕ → 
 others_stay spoke over ended lost number why s t old new (inl e) j n = e.others j n
 others_stay spoke over ended lost number why s t old new (inr (none, same, all)) j n = all.0 j
 
--- one more connection isn't open
-pub gone_more : {S : Type 0} (spoke : ℕ → S → List ℕ → List ℕ → Type 0) (over : S → Cause → Type 0) (ended : ℕ → List ℕ → List ℕ → Why → Type 0) (lost : ℕ → Cause → Type 0) (number : ℕ) (why : Why) (s t : ServerValue) (old new : List (ℕ × MemberValue S))
-    → EndsIfAny spoke over ended lost number why s old t new → ((k : ℕ) → k < number → member_at old k ≡ None) → (k : ℕ) → k < number + 1 → member_at new k ≡ None
-gone_more {S} spoke over ended lost number why s t old new ends gone k h = by_test (eqb_tells k number)
-  where
-    at : EndsIfAny spoke over ended lost number why s old t new → member_at new number ≡ None
-    at (inl e) = e.gone
-    at (inr (none, same, all)) = all.0 number ∙ none
-
-    less : (k < number) ⊎ (number ≤ k) → (k ≡ number → ⊥) → k < number
-    less (inl l) n = l
-    less (inr l) n = absurd (n (omega arith))
-
-    by_test : ((eqb k number ≡ true) × (k ≡ number)) ⊎ ((eqb k number ≡ false) × (k ≡ number → ⊥)) → member_at new k ≡ None
-    by_test (inl (t, e)) = subst (λ (i : ℕ). member_at new i ≡ None) (sym e) (at ends)
-    by_test (inr (f, n)) = others_stay spoke over ended lost number why s t old new ends k n ∙ gone k (less (cases_lt k number) n)
+-- where there are none, none has a number
+pub none_open : {S : Type 0} (members : List (ℕ × MemberValue S)) → length members ≡ 0 → (k : ℕ) → member_at members k ≡ None
+none_open [] e k = refl
+none_open (m ∷ members) e k = absurd (omega arith)
 
 -- ---- whatever is said of the connections themselves
 

@@ -1,5 +1,6 @@
 //! How connections end.
-ghost use Rattle.std.specs.Prelude.{◌≡◌, ◌+◌, ◌<◌, ℕ, IfSome, IsSome, IsTrue, None, length, true};
+ghost use Rattle.std.specs.Prelude.{◌≡◌, ◌+◌, ℕ, [], IfNone, IfSome, IsSome, IsTrue, None};
+ghost use Rattle.std.specs.Prelude.{length, true};
 ghost use Rattle.service.specs.Member.{load_after, no_load};
 ghost use Rattle.service.specs.Together.{AreSame, EndsIfAny, GoesOnTogether, LeavesPlaced};
 ghost use Rattle.service.specs.Together.{OthersAreSame, member_at};
@@ -70,17 +71,30 @@ impl<S: Peer + Drop> Together<S> {
         rt: &R,
         sockets: &mut N,
         server: &mut Server<Global>,
-        accepted: u64,
     )
-        ensures keeps { GoesOnTogether true S.spoke N.ended N.lost
+        ensures keeps { (accepted : ℕ) → GoesOnTogether true S.spoke N.ended N.lost
             self.old.members.entries accepted server.old
             self.new.members.entries accepted server.new }
         ensures places { LeavesPlaced N.places (sockets.old, self.old.members.entries)
             (sockets.new, self.new.members.entries) }
-        ensures all { (k : ℕ) → k < accepted → member_at self.new.members.entries k ≡ None }
+        ensures all { (k : ℕ) → member_at self.new.members.entries k ≡ None }
     {
-        for number in 0..accepted {
+        for _ in 0..self.members.len() {
+            let Some(number) = self.first_number() else {
+                return;
+            };
             self.end(rt, sockets, server, number, Err(ConnError::ReadFault));
+        }
+    }
+
+    /// The number of an open connection, if there is one.
+    fn first_number(&self) -> Option<u64>
+        ensures some { IfSome result (λ k. IsSome (member_at self.now.members.entries k)) }
+        ensures none { IfNone result (self.now.members.entries ≡ []) }
+    {
+        match self.members.first_key_value() {
+            Some((number, _)) => Some(*number),
+            None => None,
         }
     }
 }

@@ -124,7 +124,7 @@ pub fn serve_sockets<R: AllocGlobal + Clock + Log, N: Sockets>(
             if together.members.is_empty() {
                 return Err(NotAccepted { accepted, fault });
             }
-            together.end_all(rt, sockets, server, accepted);
+            together.end_all(rt, sockets, server);
             Err(NotAccepted { accepted, fault })
         }
     }

@@ -1,13 +1,6 @@
-use Rattle.std.proofs.Common.{◌≡◌, ℕ, None, List, [], ◌∷◌, length, refl, arith}
-use Rattle.service.specs.Member.{MemberValue}
-use Rattle.service.specs.Together.{member_at}
 use Rattle.service.proofs.Places.{placed_further, placed_whole}
-use Rattle.service.proofs.Whole.{serves_kept}
+use Rattle.service.proofs.Whole.{none_open, serves_cut, serves_kept}
 use Rattle.service.proofs.together.serve_sockets.Goals as goal
-
-none_open : {S : Type 0} (members : List (ℕ × MemberValue S)) → length members ≡ 0 → (k : ℕ) → member_at members k ≡ None
-none_open [] e k = refl
-none_open (m ∷ members) e k = absurd (omega arith)
 
 pub returns-then-is_empty-clause-err : goal.returns-then-is_empty-clause-err
 returns-then-is_empty-clause-err g c opening history stands =
@@ -24,7 +17,13 @@ returns-in-Ok-served-clause-places g c are =
     placed_whole c.args.sockets.now c.serve-served.new.sockets c.in-Ok.together.members.entries c.serve-served.new.self.members.entries c.serve-served.new.accepted
     c.in-Ok.ensures.ok c.serve-served.ensures.places (λ k below. c.in-Ok-served.ensures.gone k) are
 
+pub returns-clause-err : goal.returns-clause-err
+returns-clause-err g c opening history stands =
+    serves_cut _ g.N.Sockets.ended g.N.Sockets.lost opening history c.in-Ok.together.members.entries c.serve-served.new.self.members.entries c.end_all.new.self.members.entries c.serve-served.new.accepted
+    c.args.server.now c.serve-served.new.server c.end_all.new.server
+    c.in-Ok.ensures.ok c.serve-served.ensures.keeps (c.end_all.ensures.keeps c.serve-served.new.accepted) c.end_all.ensures.all stands
+
 pub returns-clause-places : goal.returns-clause-places
 returns-clause-places g c are =
     placed_whole c.args.sockets.now c.end_all.new.sockets c.in-Ok.together.members.entries c.end_all.new.self.members.entries c.serve-served.new.accepted
-    c.in-Ok.ensures.ok (placed_further c.serve-served.ensures.places (c.end_all.ensures.places c.args.at_once c.serve-served.new.accepted)) c.end_all.ensures.all are
+    c.in-Ok.ensures.ok (placed_further c.serve-served.ensures.places (c.end_all.ensures.places c.args.at_once c.serve-served.new.accepted)) (λ k below. c.end_all.ensures.all k) are
