@@ -7,7 +7,6 @@ use Rattle.wire.specs.Spelling.{spelling, HasFixedSize}
 use Rattle.std.specs.List.{AllByRecursion}
 use Rattle.canonical.specs.Fields.{element_fields}
 use Rattle.blob_digest.specs.Digest.{DigestValue, digest_cmp, digest_of}
-use Rattle.messages.specs.DigestMessage.{digest_bytes}
 use Rattle.messages.specs.Directory.{directory_bytes}
 use Rattle.messages.specs.DirectoryNode.{directory_node_bytes}
 use Rattle.messages.specs.DirectoryRules.{DirectoryValue}
@@ -16,7 +15,7 @@ use Rattle.messages.specs.SymlinkNode.{symlink_node_bytes}
 use Rattle.messages.specs.Tree.{TreeValue, tree_bytes}
 use Rattle.action_messages.specs.Command.{CommandValue}
 use Rattle.action_messages.specs.Frame.{FrameValue, IsFrame, frame_bytes}
-use Rattle.blob_source.specs.Source.{Blobs, Grows}
+use Rattle.blob_source.specs.Source.{Grows}
 use Rattle.blob_source.specs.Told.{IsTold}
 use Rattle.plan.specs.Values.{output, StepValue}
 use Rattle.tree.specs.Lookup.{IsValue}
@@ -113,25 +112,23 @@ no_directory m text n e =
     let same = spelling_injective (record_with 1 (Bytes text) ∷ record_with 2 (Varint n) ∷ []) (files ++ directories ++ links) (tt, (tt, tt)) (all_fixed (files ++ directories ++ links) hold) e in
     (subst AllHoldText (sym same) hold).1.0
 
-gen_frame_no_tree : (t : TreeValue) → frame_bytes two.gen.0.frame ≡ tree_bytes t → ⊥
-unfolding frame_bytes two.gen_command_digest decode_pairs encode_with
-gen_frame_no_tree t e =
-    let command = digest_bytes two.gen_command_digest in
+-- an Action without an input isn't a Tree, whose root is a Directory
+no_tree : (text : List ℕ) (n : ℕ) (t : TreeValue) → spelling (record_with 1 (Bytes (spelling (record_with 1 (Bytes text) ∷ record_with 2 (Varint n) ∷ []))) ∷ []) ≡ tree_bytes t → ⊥
+no_tree text n t e =
+    let command = spelling (record_with 1 (Bytes text) ∷ record_with 2 (Varint n) ∷ []) in
     let records = tree_spelled t (record_with 1 (Bytes command) ∷ []) (tt, tt) e in
     let first : record_with 1 (Bytes command) ≡ record_with 1 (Bytes (directory_bytes t.root)) = cc in
     let values = ap (λ (r : Record). r.value) first in
     let texts : command ≡ directory_bytes t.root = cc in
-    no_directory t.root (encode_lower two.gen_command_digest.hash) 16 texts
+    no_directory t.root text n texts
+
+gen_frame_no_tree : (t : TreeValue) → frame_bytes two.gen.0.frame ≡ tree_bytes t → ⊥
+unfolding frame_bytes two.gen_command_digest decode_pairs encode_with
+gen_frame_no_tree t e = no_tree (encode_lower two.gen_command_digest.hash) 16 t e
 
 use_frame_no_tree : (t : TreeValue) → frame_bytes two.uses.0.frame ≡ tree_bytes t → ⊥
 unfolding frame_bytes two.use_command_digest decode_pairs encode_with
-use_frame_no_tree t e =
-    let command = digest_bytes two.use_command_digest in
-    let records = tree_spelled t (record_with 1 (Bytes command) ∷ []) (tt, tt) e in
-    let first : record_with 1 (Bytes command) ≡ record_with 1 (Bytes (directory_bytes t.root)) = cc in
-    let values = ap (λ (r : Record). r.value) first in
-    let texts : command ≡ directory_bytes t.root = cc in
-    no_directory t.root (encode_lower two.use_command_digest.hash) 16 texts
+use_frame_no_tree t e = no_tree (encode_lower two.use_command_digest.hash) 16 t e
 
 pub tree_value : (b : List ℕ) → IsDirectoryInTree store.telling.blobs b → Contains all_blobs b
 tree_value b (t, valid, v, m, inside, is) = by (value_is (tree_bytes t) v)
