@@ -1,5 +1,5 @@
 -- That a build ran, and what is told of it; and where each step has finished there is a record.
-use Rattle.std.proofs.Common.{◌≡◌, ◌≤◌, ◌+◌, ℕ, ◌*◌, arith, List, [], ◌∷◌, length, Option, Some, None, Result, refl, ap, subst, inr, ◌∙◌}
+use Rattle.std.proofs.Common.{◌≡◌, ◌≤◌, ◌+◌, ℕ, ◌*◌, arith, List, [], ◌∷◌, length, Option, Some, None, Result, refl, ap, inr, ◌∙◌}
 use Rattle.std.specs.Prelude.{IsSome, option_map}
 use Rattle.std.specs.List.{AllByRecursion}
 use Rattle.std.specs.Result.{IsErrAnd}
@@ -14,23 +14,19 @@ use Rattle.tree.specs.Memo.{Asked, Covers, Known, KnowsNothing, Learns}
 use Rattle.tree.proofs.Learning.{nothing_known}
 use Rattle.worker.specs.Calls.{running, IsBuiltWith}
 use Rattle.worker.specs.Outcomes.{Yields}
-use Rattle.worker.specs.Watching.{IsProgress, IsWatched}
+use Rattle.worker.specs.Watching.{FinishInOrder, IsProgress, IsWatched}
 use Rattle.worker.proofs.Acts.{led_same, puts_act}
 use Rattle.builder.specs.Built.{AsksRootOnce, Builds, BuiltValue, Ran, Seen}
 use Rattle.builder.specs.Telling.{CanBeTold, IsBuildTold}
 use Rattle.builder.specs.declared.error.BuildPlanError.{BuildPlanError}
 use Rattle.builder.specs.declared.error.BuildPlanError.TheVariants as errors
 use Rattle.runs.specs.declared.error.RunsError.TheVariants as runs
-use Rattle.builder.specs.declared.fault.Fault.{Fault}
-use Rattle.builder.specs.Faults.{HasNoNumber, fault_of}
-use Rattle.builder.specs.declared.fault.Fault.TheVariants.{Device, Fetch, Memory, Refused}
-use Rattle.builder.specs.declared.fault.Place.{Place}
 use Rattle.builder.specs.declared.telling.Told.{Told}
 use Rattle.builder.proofs.Serving.{none_finished}
 
 abbrev pub ran_by : (A : Type 0) (y : Yields) (most : ℕ) (plan : PlanValue) (sources : DigestValue) (old new : Seen) (opening ending : Telling) (first last : EngineValue) → Asks (2 * length plan.steps) old.store opening → IsOpened opening.blobs plan sources first
-    → (led : IsBuiltWith A y old.started new.started opening ending most first last) → IsWatched (IsProgress A y ending most first led.built.led.calls) old.heard new.heard → AsksSome ending new.store → AsksRootOnce last ending new.store → Ran A y most plan sources old new first last
-ran_by A y most plan sources old new opening ending first last asked opened led watched later once =
+    → (led : IsBuiltWith A y old.started new.started opening ending most first last) → FinishInOrder [] led.built.led.calls → IsWatched (IsProgress A y ending most first led.built.led.calls) old.heard new.heard → AsksSome ending new.store → AsksRootOnce last ending new.store → Ran A y most plan sources old new first last
+ran_by A y most plan sources old new opening ending first last asked opened led in_order watched later once =
     let same = led_same A y ending most led.built.led in
     record {
       opening = opening;
@@ -38,6 +34,7 @@ ran_by A y most plan sources old new opening ending first last asked opened led 
       opened = opened;
       ending = ending;
       led = led;
+      in_order = in_order;
       of_plan = same.plan ∙ opened.plan;
       of_sources = same.sources ∙ opened.sources;
       own = puts_act A y ending most opening first last led.built (none_finished first opened.none_finished) (ap running opened.none_runs);
@@ -52,13 +49,6 @@ pub memory_told : {A : Type 0} (y : Yields) (most : ℕ) (plan : PlanValue) (sou
 memory_told y most plan sources old new came builds has r exit =
     let p = err_from_is_err_and r exit in
     rw (p.1, p.2) (record { came = came; builds = builds; tells = record { unnumbered = tt; is = inr (has, refl) } })
-
--- what isn't refused has no number
-pub unnumbered : {A : Type 0} (error : BuildPlanError A) (fault : Fault) → fault ≡ fault_of error → ((place : Place) (number : ℕ) → fault ≡ Refused place number → ⊥) → HasNoNumber (fault_of error)
-unnumbered error (Refused place number) is other = absurd (other place number refl)
-unnumbered error (Fetch place) is other = subst HasNoNumber is tt
-unnumbered error (Device place) is other = subst HasNoNumber is tt
-unnumbered error Memory is other = subst HasNoNumber is tt
 
 kept_all : (fs : List (Option FinishedValue)) → AllByRecursion IsSome fs → (ds : List DigestValue) × (kept_digests fs ≡ Some ds)
 kept_all [] all = ([], refl)

@@ -27,6 +27,7 @@ module _ {A : Type 0} (z y : Yields) (most : ℕ) (plan : PlanValue) (sources : 
           blobs = r.led.blobs;
           takes = r.led.takes;
         };
+        in_order = r.in_order;
         of_plan = r.of_plan;
         of_sources = r.of_sources;
         own = r.own;

@@ -1,6 +1,6 @@
 -- What a build came to.
-use Rattle.std.specs.Prelude.{◌≡◌, ◌+◌, ◌*◌, ◌<◌, ◌≤◌, ℕ, List, length, Option, Some, None, Result}
-use Rattle.std.specs.Prelude.{Ok, Err}
+use Rattle.std.specs.Prelude.{◌≡◌, ◌+◌, ◌*◌, ◌<◌, ◌≤◌, ℕ, List, [], length, Option, Some, None}
+use Rattle.std.specs.Prelude.{Result, Ok, Err}
 use Rattle.std.specs.Result.{IsErrAnd}
 use Rattle.std.specs.List.{AllByRecursion}
 use Rattle.blob_digest.specs.Digest.{DigestValue, NoClash}
@@ -31,7 +31,7 @@ use Rattle.worker.specs.Steps.{IsActionOf}
 use Rattle.worker.specs.Stopped.{IsRefusedBuild}
 use Rattle.worker.specs.Stored.{IsToldOrTree, IsStored}
 use Rattle.worker.specs.Values.{Starts, StartsNone}
-use Rattle.worker.specs.Watching.{IsProgress, IsUpToDate, IsWatched}
+use Rattle.worker.specs.Watching.{FinishInOrder, IsProgress, IsUpToDate, IsWatched}
 use Rattle.worker.specs.declared.watching.Progress.{Progress}
 use Rattle.builder.specs.Faults.{IsRunnerFailure, IsStoreFailure, fault_of}
 use Rattle.builder.specs.declared.error.BuildPlanError.{BuildPlanError}
@@ -112,6 +112,8 @@ module _ (A : Type 0) (yields : Yields) (most : ℕ) (plan : PlanValue) (sources
     -- what the store told after the calls
     pub ending : Telling
     pub led : IsBuiltWith A yields old.started new.started opening ending most first last
+    -- children's jobs finished in the order of their starts
+    pub in_order : FinishInOrder [] led.built.led.calls
     pub of_plan : last.plan ≡ plan
     pub of_sources : last.sources ≡ sources
     -- each result was put under the action of a step of the plan

@@ -1,5 +1,5 @@
 -- A build goes on.
-use Rattle.std.proofs.Common.{◌≡◌, ℕ, ◌+◌, ◌<◌, ◌≤◌, true, List, [], ◌∷◌, ◌++◌, append_assoc, append-nil, length, length-append, set, Some, None, refl, ap, sym, ◌∙◌, subst, arith, inl, inr}
+use Rattle.std.proofs.Common.{◌≡◌, ℕ, ◌+◌, ◌<◌, ◌≤◌, true, List, [], ◌∷◌, ◌++◌, append_assoc, append-nil, length, map, length-append, set, Some, None, refl, ap, sym, ◌∙◌, subst, arith, inl, inr}
 use Rattle.std.specs.Prelude.{◌⊎◌, IsSome, slice_get}
 use Rattle.std.proofs.lemmas.List.{map-append}
 use Rattle.blob_digest.specs.Digest.{DigestValue}
@@ -19,7 +19,7 @@ use Rattle.worker.specs.Storing.{HasAt, IsKeptBut}
 use Rattle.worker.specs.Outcomes.{Yields, YieldsNoMore, IsYielded}
 use Rattle.worker.specs.Calls.{running, Call, started, launched, ran, taken, lost, CameTo, HasChild, children_of, IsResultFor, HasChildsResult, WasStarted, FinishedByChild, IsLost, Does, IsLeastStartable, IsNext, Leads, IsLed, ArePutFor, PutsOf, TakesRecorded, IsBuiltWith}
 use Rattle.worker.specs.Going.{HasNoneToTake, IsJobOf, AreJobsOf, IsOwnJob, IsGoing, HasChildFor, IsBegun, IsLaunched, kept_job, EndedWell, GoesOnBy, IsTurn, AreOneTurn, jobs_with, one_if, taken_in}
-use Rattle.worker.specs.Watching.{taken_count, without_number, jobs_after}
+use Rattle.worker.specs.Watching.{FinishInOrder, taken_count, without_number, jobs_after}
 use Rattle.std.specs.List.{AllByRecursion}
 use Rattle.worker.proofs.Keeping.{kept_none, right_trans}
 use Rattle.worker.proofs.Telling.{SameSteps, layout_still, recorded_still, held_kept, end_still, yielded_still, owed_still, owed_ends}
@@ -239,6 +239,18 @@ jobs_join js (ran id d v ∷ cs) more = jobs_join (without_number id js) cs more
 jobs_join js (taken id d v ∷ cs) more = jobs_join (without_number id js) cs more
 jobs_join js (lost id ∷ cs) more = jobs_join (without_number id js) cs more
 
+pub finish_join : (js : List (ℕ × ℕ)) (cs more : List Call) → FinishInOrder js cs → FinishInOrder (jobs_after js cs) more → FinishInOrder js (cs ++ more)
+finish_join js [] more h k = k
+finish_join js (started i id ∷ cs) more h k = finish_join (js ++ (id, i) ∷ []) cs more h k
+finish_join js (launched id d x ∷ cs) more h k = finish_join js cs more h k
+finish_join js (ran id d v ∷ cs) more h k = (h.0, finish_join (without_number id js) cs more h.1 k)
+finish_join js (taken id d v ∷ cs) more h k = finish_join (without_number id js) cs more h k
+finish_join js (lost id ∷ cs) more h k = finish_join (without_number id js) cs more h k
+
+pub lost_in_order : (js : List (ℕ × ℕ)) (ids : List ℕ) → FinishInOrder js (map lost ids)
+lost_in_order js [] = tt
+lost_in_order js (id ∷ ids) = lost_in_order (without_number id js) ids
+
 -- ---- what is owed
 
 own_still : {J : Type 0} {y z : Yields} {may : J → EndValue → Type 0} {B C : Blobs} {old new : EngineValue} → YieldsNoMore y z → KeepsRight B C → SameSteps old new
@@ -261,6 +273,7 @@ module _ (A J : Type 0) (y : Yields) (may : J → EndValue → Type 0) (from : S
     };
     jobs = idle;
     order = refl;
+    in_order = tt;
     few = omega arith;
   }
 
@@ -290,6 +303,7 @@ module _ (A J : Type 0) (y : Yields) (may : J → EndValue → Type 0) (from : S
           led = built_moved A y from a b s t u [] (moves_kept t u [] k) (none_starts a b quiet) (λ d x child. absurd child) most old now now g.led refl;
           jobs = jobs_map (IsOwnJob y may t.blobs now) (IsOwnJob y may u.blobs now) (own_still (λ l c p h. h) k.blobs (refl, refl)) cs now.jobs g.jobs;
           order = jobs_join [] g.led.built.led.calls [] ∙ g.order;
+          in_order = finish_join [] g.led.built.led.calls [] g.in_order tt;
           few = g.few;
         } in
         record { going = going; are = refl }
@@ -303,8 +317,8 @@ module _ (A J : Type 0) (y : Yields) (may : J → EndValue → Type 0) (from : S
       fewer = let few = g.few in omega (arith, few)
 
       gone : (more : List Call) → Moves t u more → StartsAll (children_of more) a b → HadNone t more → ((js : List (ℕ × ℕ)) → jobs_after js more ≡ without_number c.id js)
-          → new.jobs ≡ set now.jobs c.id None → SameSteps now new → (running new.jobs ≤ most → Leads A y u most more now new) → Went b u new cs g.led.built.led.calls more
-      gone more m starts none ends jobs same leads =
+          → FinishInOrder (jobs_with (c ∷ cs)) more → new.jobs ≡ set now.jobs c.id None → SameSteps now new → (running new.jobs ≤ most → Leads A y u most more now new) → Went b u new cs g.led.built.led.calls more
+      gone more m starts none ends waits jobs same leads =
           let calls = g.led.built.led.calls in
           let rest : AreJobsOf (IsOwnJob y may t.blobs now) (set now.jobs c.id None) cs = g.jobs.3 in
           let count = jobs_count (IsOwnJob y may t.blobs now) cs (set now.jobs c.id None) rest in
@@ -315,6 +329,7 @@ module _ (A J : Type 0) (y : Yields) (may : J → EndValue → Type 0) (from : S
             jobs = subst (λ js. AreJobsOf (IsOwnJob y may u.blobs new) js cs) (sym jobs)
                 (jobs_map (IsOwnJob y may t.blobs now) (IsOwnJob y may u.blobs new) (own_still (λ l d p h. h) m.blobs same) cs (set now.jobs c.id None) rest);
             order = jobs_join [] calls more ∙ ap (λ js. jobs_after js more) g.order ∙ ends (jobs_with (c ∷ cs)) ∙ first_goes (IsOwnJob y may t.blobs now) c cs now.jobs g.jobs;
+            in_order = finish_join [] calls more g.in_order (subst (λ js. FinishInOrder js more) (sym g.order) waits);
             few = fewer;
           } in
           record { going = going; are = refl }
@@ -336,13 +351,13 @@ module _ (A J : Type 0) (y : Yields) (may : J → EndValue → Type 0) (from : S
 
       pub going_ran : IsTurn most now (c ∷ cs) turns.Finish → (e : EndedWell may t u c now new) → Went b u new cs g.led.built.led.calls (ran c.id c.action e.produced.outcome ∷ [])
       going_ran next e = gone (ran c.id c.action e.produced.outcome ∷ []) (moves_ran t u c.id c.action e.produced.outcome e.kept)
-          (none_starts a b quiet) (λ d x child. absurd child) (λ js. refl)
+          (none_starts a b quiet) (λ d x child. absurd child) (λ js. refl) (refl, tt)
           (ap (λ (e : EngineValue). e.jobs) e.finished.after) (ap (λ (e : EngineValue). e.commands) e.finished.after, ap (λ (e : EngineValue). e.frames) e.finished.after)
           (λ few. (new, ran_child e, (few, λ less. next.1 (let count = jobs_count (IsOwnJob y may t.blobs now) (c ∷ cs) now.jobs g.jobs in omega (arith, count, less))), refl))
 
       pub going_lost : IsLost c.id now new → IsKept t u → Went b u new cs g.led.built.led.calls (lost c.id ∷ [])
       going_lost (j, at, after) k = gone (lost c.id ∷ []) (moves_kept t u (lost c.id ∷ []) k)
-          (none_starts a b quiet) (λ d x child. absurd child) (λ js. refl)
+          (none_starts a b quiet) (λ d x child. absurd child) (λ js. refl) tt
           (ap (λ (e : EngineValue). e.jobs) after) (ap (λ (e : EngineValue). e.commands) after, ap (λ (e : EngineValue). e.frames) after)
           (λ few. (new, (j, at, after), (few, tt), refl))
 
@@ -371,6 +386,7 @@ module _ (A J : Type 0) (y : Yields) (may : J → EndValue → Type 0) (from : S
             jobs = subst (λ js. AreJobsOf (IsOwnJob y may u.blobs mid) js (cs ++ c ∷ [])) (sym (ap (λ (e : EngineValue). e.jobs) (after w)))
                 (jobs_added (IsOwnJob y may u.blobs mid) cs now.jobs id c (job_of w) (least_within now.jobs id (least w)) (least w).free same is there);
             order = jobs_join [] calls more ∙ ap (λ js. js ++ (id, i) ∷ []) g.order ∙ ap (λ (j : ℕ × ℕ). jobs_with cs ++ j ∷ []) pair ∙ sym (map-append (λ (c : Child J). (c.id, c.step)) cs (c ∷ []));
+            in_order = finish_join [] calls more g.in_order tt;
             few = let n = length-append cs (c ∷ []) in omega (arith, n, room);
           } in
           record { going = going; are = refl }
@@ -384,8 +400,8 @@ module _ (A J : Type 0) (y : Yields) (may : J → EndValue → Type 0) (from : S
 
       -- its job is gone again: nothing runs that didn't run before
       pub going_back : (new : EngineValue) (call : Call) → StartsAll (children_of (call ∷ [])) a b → HadNone t (call ∷ []) → ((js : List (ℕ × ℕ)) → jobs_after js (call ∷ []) ≡ without_number id js)
-          → new.jobs ≡ set mid.jobs id None → SameSteps mid new → Does A y u [] call mid new → IsNext most call mid → Went b u new cs g.led.built.led.calls (started i id ∷ call ∷ [])
-      going_back new call starts none ends jobs same does next_call =
+          → ((js : List (ℕ × ℕ)) → FinishInOrder js (call ∷ [])) → new.jobs ≡ set mid.jobs id None → SameSteps mid new → Does A y u [] call mid new → IsNext most call mid → Went b u new cs g.led.built.led.calls (started i id ∷ call ∷ [])
+      going_back new call starts none ends waits jobs same does next_call =
           let calls = g.led.built.led.calls in
           let more : List Call = started i id ∷ call ∷ [] in
           let back : AreJobsOf (IsOwnJob y may u.blobs mid) (set mid.jobs id None) cs
@@ -399,6 +415,7 @@ module _ (A J : Type 0) (y : Yields) (may : J → EndValue → Type 0) (from : S
             jobs = subst (λ js. AreJobsOf (IsOwnJob y may u.blobs new) js cs) (sym jobs)
                 (jobs_map (IsOwnJob y may u.blobs mid) (IsOwnJob y may u.blobs new) (own_still (λ l c p h. h) (λ e b at right. at) same) cs (set mid.jobs id None) back);
             order = jobs_join [] calls more ∙ ap (λ js. jobs_after (js ++ (id, i) ∷ []) (call ∷ [])) g.order ∙ ends (jobs_with cs ++ (id, i) ∷ []) ∙ placed_goes (IsOwnJob y may u.blobs mid) cs now.jobs id i (least w).free there;
+            in_order = finish_join [] calls more g.in_order (waits (jobs_after [] calls ++ (id, i) ∷ []));
             few = g.few;
           } in
           record { going = going; are = refl }
@@ -441,7 +458,7 @@ module _ (A J : Type 0) (y : Yields) (may : J → EndValue → Type 0) (from : S
               let call : Call = taken begun.id begun.job.action v in
               subst (λ xs. OneTurn b u new xs g.led.built.led.calls (taken_in true i now new)) (sym same) (
                 on_by b u new cs g.led.built.led.calls (started i begun.id ∷ call ∷ []) (taken_in true i now new) (going_back t u now begun.mid cs i begun.id k g room w next new call
-                    (none_starts a b quiet) (λ d x child. absurd child) (λ js. refl)
+                    (none_starts a b quiet) (λ d x child. absurd child) (λ js. refl) (λ js. tt)
                     (ap (λ (e : EngineValue). e.jobs) f.after) (ap (λ (e : EngineValue). e.commands) f.after, ap (λ (e : EngineValue). e.frames) f.after)
                     (record {
                       finished = f;

@@ -135,7 +135,7 @@ module _ (A J : Type 0) (y : Yields) (may : J → EndValue → Type 0) (from a b
   begun_refused z i e within k quiet turn so_far (step, inr (id, mid, is, gone, stops)) =
       let calls = g.led.built.led.calls in
       let gone_job : IsLost id mid new = (job_of is, job_is is, gone) in
-      let w = going_back A J y may from s most first a b t u now mid cs i id k g turn.0 is turn.2 new (lost id) (none_starts a b quiet) (λ d x child. absurd child) (λ js. refl) (ap (λ (e : EngineValue). e.jobs) gone) (ap (λ (e : EngineValue). e.commands) gone, ap (λ (e : EngineValue). e.frames) gone) gone_job tt in (
+      let w = going_back A J y may from s most first a b t u now mid cs i id k g turn.0 is turn.2 new (lost id) (none_starts a b quiet) (λ d x child. absurd child) (λ js. refl) (λ js. tt) (ap (λ (e : EngineValue). e.jobs) gone) (ap (λ (e : EngineValue). e.commands) gone, ap (λ (e : EngineValue). e.frames) gone) gone_job tt in (
         on_by A J y may from s most first b u new cs calls (started i id ∷ lost id ∷ []) (taken_in true i now new) w (none_lost A J y may from s most first a b t u now new i cs k g turn.0 turn.2.startable.waiting.unfinished id mid is gone),
         record {
           at = mid;

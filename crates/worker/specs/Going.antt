@@ -27,7 +27,7 @@ use Rattle.worker.specs.Outcomes.{Yields, YieldsFor, HasAllRight, HasOwnAction, 
 use Rattle.worker.specs.Outcomes.{CanBeTaken}
 use Rattle.worker.specs.Calls.{running, Call, WasStarted, IsBuiltWith, IsResultFor}
 use Rattle.worker.specs.Calls.{IsLeastStartable, HasNoneStartable, AreTurns}
-use Rattle.worker.specs.Watching.{taken_count, turns_in, jobs_after}
+use Rattle.worker.specs.Watching.{FinishInOrder, taken_count, turns_in, jobs_after}
 
 -- the job is the child's
 pub record IsJobOf {J : Type 0} (c : Child J) (j : JobValue) : Type 0 where
@@ -65,13 +65,14 @@ abbrev pub jobs_with : {J : Type 0} → List (Child J) → List (ℕ × ℕ)
 jobs_with cs = map (λ (c : Child _). (c.id, c.step)) cs
 
 -- Calls led to the engine and put results. The children have its jobs, in the order of their
--- starts, and they are few.
+-- starts, and they finish in that order; and they are few.
 pub record IsGoing (A : Type 0) {J : Type 0} (yields : Yields) (may : J → EndValue → Type 0)
     (from to : Starts) (before t : Telling) (most : ℕ) (old new : EngineValue)
     (children : List (Child J)) : Type 0 where
   pub led : IsBuiltWith A yields from to before t most old new
   pub jobs : AreJobsOf (IsOwnJob yields may t.blobs new) new.jobs children
   pub order : jobs_after [] led.built.led.calls ≡ jobs_with children
+  pub in_order : FinishInOrder [] led.built.led.calls
   pub few : length children ≤ most
 
 -- a job as an engine has it

@@ -1,5 +1,5 @@
 -- How a build ends, and why at a step.
-use Rattle.std.specs.Prelude.{◌≡◌, ◌⊎◌, ◌<◌, ◌++◌, ℕ, List, length, map, Some, slice_get}
+use Rattle.std.specs.Prelude.{◌≡◌, ◌⊎◌, ◌<◌, ◌++◌, ℕ, List, [], length, map, Some, slice_get}
 use Rattle.std.specs.Prelude.{IsSome, Option, Result, IfErr, OnOk, string_bytes}
 use Rattle.action_messages.specs.Command.{CommandValue}
 use Rattle.actions.specs.Outcome.{OutcomeValue}
@@ -15,7 +15,7 @@ use Rattle.worker.specs.Calls.{Call, lost, Leads, IsLed, IsStartable, AreTurns, 
 use Rattle.worker.specs.Outcomes.{Yields, MayComeTo, IsYielded, CanBeTakenFor}
 use Rattle.worker.specs.Refusals.{IsLayoutFault}
 use Rattle.worker.specs.Values.{IsAbsolute, bad_at, failed}
-use Rattle.worker.specs.Watching.{IsProgress, IsUpToDate, IsWatched}
+use Rattle.worker.specs.Watching.{FinishInOrder, IsProgress, IsUpToDate, IsWatched}
 
 -- what a job finishes with: what the runner yields for it, or what is taken from the store for it
 abbrev pub ComesTo : Yields → Telling → EngineValue → JobValue → OutcomeValue → Type 0
@@ -77,6 +77,8 @@ pub record EndsBuild {T : Type 0} (A : Type 0) (yields : Yields) (t : Telling) (
   -- or the refusal of a step stands
   pub refused : IfErr result
       (λ e. IsRefusedBuild A yields t most calls old new e.step e.refusal)
+  -- whatever is answered, children's jobs finish in the order of their starts
+  pub in_order : FinishInOrder [] calls
   -- the watcher was told the numbers after each of the first turns, and in the end after all
   pub watched : IsWatched (IsProgress A yields t most old calls) before after
   pub up_to_date : OnOk result (IsUpToDate A yields t most old new calls before after)

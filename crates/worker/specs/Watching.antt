@@ -66,6 +66,20 @@ abbrev pub first_step : List (ℕ × ℕ) → Option ℕ
 first_step [] = None
 first_step ((id, i) ∷ js) = Some i
 
+-- a job is the first of these
+abbrev pub IsFirst : ℕ → List (ℕ × ℕ) → Type 0
+IsFirst id [] = ⊥
+IsFirst id (j ∷ js) = j.0 ≡ id
+
+-- where a child's job finishes, it is the one of those that run that was started first
+abbrev pub FinishInOrder : List (ℕ × ℕ) → List Call → Type 0
+FinishInOrder js [] = Unit {0}
+FinishInOrder js (started i id ∷ cs) = FinishInOrder (js ++ (id, i) ∷ []) cs
+FinishInOrder js (launched id d s ∷ cs) = FinishInOrder js cs
+FinishInOrder js (ran id d v ∷ cs) = IsFirst id js × FinishInOrder (without_number id js) cs
+FinishInOrder js (taken id d v ∷ cs) = FinishInOrder (without_number id js) cs
+FinishInOrder js (lost id ∷ cs) = FinishInOrder (without_number id js) cs
+
 -- The numbers are those of an engine to which these calls led, from one of which no job ran. The
 -- step that runs longest is that of the job that was started first.
 pub record IsProgressOf (calls : List Call) (e : EngineValue) (p : Progress) : Type 0 where

@@ -116,8 +116,9 @@ pub fn build<A: Allocator + Copy, S: BlobSink<A>, N: Runner<A>, W: Watcher>(
     // Calls lead to the engine, and at most `jobs` jobs run after each. What a job finishes with is
     // from the runner or from the store. The children that were started are of these jobs, and the
     // results that were put are of what they came to; those under other digests stay.
-    // The calls are turns. Where it is refused, the first of them led to an engine in which the
-    // refusal of that step stands, and after them jobs alone were lost.
+    // The calls are turns, and children's jobs finish in the order of their starts. Where it is
+    // refused, the first of them led to an engine in which the refusal of that step stands, and
+    // after them jobs alone were lost.
     // The watcher is told the numbers after each of the first turns, and in the end after all.
     ensures led { (b : IsBuiltWith A (N.yields runner.old) (N.starts runner.old)
         (N.starts runner.new) (S.tells sink.old) (S.tells sink.new) jobs engine.old engine.new)

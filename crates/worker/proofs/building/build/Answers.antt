@@ -1,5 +1,6 @@
 use Rattle.worker.specs.Calls.{lost}
-use Rattle.worker.proofs.Goes.{own_jobs, puts_none}
+use Rattle.worker.specs.Watching.{FinishInOrder, jobs_after}
+use Rattle.worker.proofs.Goes.{finish_join, lost_in_order, own_jobs, puts_none}
 use Rattle.worker.proofs.Heard.{watched_moved}
 use Rattle.worker.proofs.Keeping.{kept_none}
 use Rattle.worker.proofs.Knowing.{knows_nothing}
@@ -7,7 +8,7 @@ use Rattle.worker.proofs.PutOnce.{put_none}
 use Rattle.worker.proofs.Storing.{steps_none, all_stored}
 use Rattle.worker.specs.Counted.{Counts, IsDevice}
 use Rattle.worker.proofs.Taking.{loses_then, no_child}
-use Rattle.std.proofs.Common.{arith, map, subst, sym}
+use Rattle.std.proofs.Common.{[], arith, map, subst, sym}
 use Rattle.worker.proofs.building.build.Goals as goal
 
 pub end_all-requires : goal.end_all-requires
@@ -16,7 +17,7 @@ end_all-requires g c = record {
 }
 
 pub returns-in-Ok-clause-led : goal.returns-in-Ok-clause-led
-returns-in-Ok-clause-led g c = let going = c.in-Ok.ensures.going in let ends = going.1 in (going.0.led, record { turns = ends.turns; refused = tt; watched = ends.watched; up_to_date = ends.up_to_date })
+returns-in-Ok-clause-led g c = let going = c.in-Ok.ensures.going in let ends = going.1 in (going.0.led, record { turns = ends.turns; refused = tt; in_order = ends.in_order; watched = ends.watched; up_to_date = ends.up_to_date })
 
 pub returns-clause-led : goal.returns-clause-led
 returns-clause-led g c =
@@ -29,6 +30,7 @@ returns-clause-led g c =
       record {
         turns = tt;
         refused = record { at = stop.at; led = stop.led; turns = stop.turns; rest = loses_then stop.rest lost_then; planned = stop.planned; stops = stop.stops };
+        in_order = subst (FinishInOrder []) (sym lost_then.calls) (finish_join [] going.0.led.built.led.calls (map lost lost_then.ids) going.1.in_order (lost_in_order (jobs_after [] going.0.led.built.led.calls) lost_then.ids));
         watched = watched_moved g.row.A.Denot (g.N.Runner.yields c.args.runner.now) c.args.jobs c.args.engine.now t t going.0.led.built.led.calls rest.0.built.led.calls (map lost lost_then.ids) lost_then.calls (puts_none t t (map lost lost_then.ids) kept_none) (λ e b at right. at) going.1.watched;
         up_to_date = tt;
       },

@@ -86,10 +86,10 @@ returns-in_err-take_turn-clause-going g c =
     let was = c.loop-turn.invariant.going in
     let on = c.in_err-take_turn.ensures.going c.args.runner.now (g.S.BlobSource.tells c.args.sink.now) c.args.jobs c.args.engine.now c.loop-turn.invariant.within c.in-Some.ensures.turn was.0 was.3 in
     let heard = watched_moved g.row.A.Denot (g.N.Runner.yields c.args.runner.now) c.args.jobs c.args.engine.now (g.S.BlobSource.tells c.loop-turn.sink) (g.S.BlobSource.tells c.take_turn.new.sink) was.0.led.built.led.calls on.0.going.led.built.led.calls on.0.more on.0.are on.2 c.take_turn.ensures.right was.2.0.0 in
-    rw (p.1, p.2) (on.0.going, record { turns = tt; refused = on.1; watched = heard; up_to_date = tt })
+    rw (p.1, p.2) (on.0.going, record { turns = tt; refused = on.1; in_order = on.0.going.in_order; watched = heard; up_to_date = tt })
 
 pub returns-clause-going : goal.returns-clause-going
-returns-clause-going g c = let was = c.loop-turn.invariant.going in (was.0, record { turns = was.3; refused = tt; watched = was.2.0.0; up_to_date = was.2.1 })
+returns-clause-going g c = let was = c.loop-turn.invariant.going in (was.0, record { turns = was.3; refused = tt; in_order = was.0.in_order; watched = was.2.0.0; up_to_date = was.2.1 })
 
 pub returns-in_err-take_turn-clause-right : goal.returns-in_err-take_turn-clause-right
 returns-in_err-take_turn-clause-right g c = right_trans c.loop-turn.invariant.right c.take_turn.ensures.right
