@@ -1,6 +1,6 @@
 -- What was told of a tree, and what wasn't made.
 use Rattle.std.proofs.Common.{◌≡◌, ℕ, suc, ap, ◌+◌, ◌≤◌, List, [], ◌∷◌, ◌++◌, length, refl, subst, sym, arith, inl, inr}
-use Rattle.std.specs.Prelude.{Result, Ok, Err, IsErr, IfErr, Contains}
+use Rattle.std.specs.Prelude.{Result, Ok, Err, IfErr, Contains}
 use Rattle.std.proofs.lemmas.List.Elements.{Contains-append_right}
 use Rattle.std.specs.declared.io.Error.{Error}
 use Rattle.blob_digest.specs.Digest.{DigestValue}
@@ -72,22 +72,19 @@ asks_files {tree = tree} mid es grows told same first next =
 
 -- ---- refusals
 
-what_was_refused : {T : Type 0} {P : Error → Type 0} (made : Result T Error) → IsErr made → IfErr made P → (fault : Error) × P fault
-what_was_refused (Ok x) h why = absurd (cc h)
-what_was_refused (Err fault) h why = (fault, why)
-
 -- what wasn't made at a path
 pub place_fails : {A T : Type 0} (refuses : Refuses) (path : List ℕ) (made : Result T Error) (e : CheckoutError A) → FailsAt path made e → IfErr made (refuses path) → FailsPlace refuses path e
 place_fails refuses path made (errors.Place p fault) h why = (h.0, h.1, subst (λ r. IfErr r (refuses path)) h.2 why)
-place_fails refuses path made errors.Memory h why = what_was_refused made h why
+place_fails refuses path made errors.Memory h why = (h.0, h.1, subst (λ r. IfErr r (refuses path)) h.2 why)
 place_fails refuses path made (errors.Missing d) h why = absurd h
 place_fails refuses path made (errors.Wrong d) h why = absurd h
 place_fails refuses path made (errors.Malformed d) h why = absurd h
 place_fails refuses path made (errors.TooDeep p) h why = absurd h
 place_fails refuses path made errors.Fetch h why = absurd h
 
--- the call for an entry made nothing
-pub call_fails : {A T U : Type 0} (refuses : Refuses) (tries : Tried) (B : Blobs) (place : List ℕ) (s : Standing NodeValue) (made : Result T Error) (r : Result U (CheckoutError A)) → tries (place ∷ [])
-    → IfErr r (FailsAt place made) → IfErr made (refuses place) → IfErr r (FailsOneEntry refuses tries B place s)
-call_fails refuses tries B place s made (Ok x) call h why = tt
-call_fails refuses tries B place s made (Err e) call h why = refused call (place_fails refuses place made e h why)
+-- the call for an entry, by a text of its place, made nothing
+pub call_fails : {A T U : Type 0} (refuses : Refuses) (tries : Tried) (B : Blobs) {text : List ℕ} (place : List ℕ) (s : Standing NodeValue) (made : Result T Error) (r : Result U (CheckoutError A)) → text ≡ place → tries (text ∷ [])
+    → IfErr r (FailsAt place made) → IfErr made (refuses text) → IfErr r (FailsOneEntry refuses tries B place s)
+call_fails refuses tries B place s made (Ok x) is call h why = tt
+call_fails refuses tries B place s made (Err e) is call h why =
+    refused (subst (λ q. tries (q ∷ [])) is call) (place_fails refuses place made e h (subst (λ q. IfErr made (refuses q)) is why))

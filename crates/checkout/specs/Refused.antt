@@ -1,6 +1,6 @@
 -- Why a tree isn't written.
 use Rattle.std.specs.Prelude.{◌≡◌, ◌≢◌, ◌⊎◌, ℕ, Bool, List, [], ◌∷◌, ◌++◌, Result, Err}
-use Rattle.std.specs.Prelude.{IsErr, string_bytes}
+use Rattle.std.specs.Prelude.{string_bytes}
 use Rattle.std.specs.IoError.{error_kind}
 use Rattle.std.specs.declared.io.Error.{Error}
 use Rattle.std.specs.declared.io.ErrorKind.TheVariants.{OutOfMemory}
@@ -25,11 +25,11 @@ use Rattle.checkout.specs.declared.error.CheckoutError.TheVariants.{TooDeep, Fet
 abbrev pub Refuses : Type 1
 Refuses = List ℕ → Error → Type 0
 
--- why a call made nothing at a path: the system's error is told, unless memory ran out
+-- why a call made nothing at a path: the system's error is told, unless it is lack of memory
 abbrev pub FailsAt : {A T : Type 0} → List ℕ → Result T Error → CheckoutError A → Type 0
 FailsAt path made (Place p fault) = (error_kind fault ≢ OutOfMemory) × (string_bytes p ≡ path)
     × (made ≡ Err fault)
-FailsAt path made Memory = IsErr made
+FailsAt path made Memory = (fault : Error) × (error_kind fault ≡ OutOfMemory) × (made ≡ Err fault)
 FailsAt path made e = ⊥
 
 -- why a content isn't had: nothing or other bytes are told under its digest, unless the source
@@ -58,11 +58,13 @@ StopsUnfold (trees.Absent path) = ⊥
 StopsUnfold (trees.Conflict path) = ⊥
 StopsUnfold e = Unit {0}
 
--- Why the system made nothing at a path, which it refused. That memory ran out is told as that.
+-- Why the system made nothing at a path, which it refused. Lack of memory is told as that, and no
+-- other error is.
 abbrev pub FailsPlace : {A : Type 0} → Refuses → List ℕ → CheckoutError A → Type 0
 FailsPlace refuses place (Place p fault) = (error_kind fault ≢ OutOfMemory)
     × (string_bytes p ≡ place) × refuses place fault
-FailsPlace refuses place Memory = (fault : Error) × refuses place fault
+FailsPlace refuses place Memory = (fault : Error) × (error_kind fault ≡ OutOfMemory)
+    × refuses place fault
 FailsPlace refuses place e = ⊥
 
 -- Why no call is made for an entry: memory ran out, or it is a file whose content isn't had.

@@ -25,22 +25,18 @@ use std::io;
 use std::io::ErrorKind;
 use tree::{BlobSource, FlatEntry, FlatTree, TreeError, fetch_content, unfold};
 
-/// What was made at a path, or why nothing was.
+/// What was made at a place, or why nothing was.
 fn made_at<A: Allocator, T: Drop>(
-    alloc: A,
-    path: &str,
+    place: String<A>,
     made: io::Result<T>,
 ) -> Result<T, CheckoutError<A>>
     ensures same { IfOk result (λ value. made ≡ Ok value) }
-    ensures refused { IfErr result (FailsAt path.now made) }
+    ensures refused { IfErr result (FailsAt (string_bytes place) made) }
 {
     match made {
         Ok(value) => Ok(value),
         Err(fault) if fault.kind() == ErrorKind::OutOfMemory => Err(CheckoutError::Memory),
-        Err(fault) => Err(CheckoutError::Place {
-            path: String::from_str(alloc, path)?,
-            fault,
-        }),
+        Err(fault) => Err(CheckoutError::Place { path: place, fault }),
     }
 }
 
@@ -120,33 +116,37 @@ fn write_entry<A: Allocator + Copy, S: BlobSource<A>, W: FolderWriter>(
     alloc: A,
     writer: &mut W,
     folder: &mut W::Folder,
-    place: &str,
+    place: String<A>,
     entry: &FlatEntry<A>,
     source: &mut S,
 ) -> Result<(), CheckoutError<A>>
     ensures made { OnOk result (MakesEntry W.works (S.tells source.new).blobs folder.old
-        folder.new place.now (entry_value entry.now)) }
-    ensures tried { OnOk result (Tries W.tried writer.old writer.new (place.now ∷ [])) }
+        folder.new (string_bytes place) (entry_value entry.now)) }
+    ensures tried { OnOk result
+        (Tries W.tried writer.old writer.new (string_bytes place ∷ [])) }
     ensures few { (S.tells source.new).calls + directories_at (entry_value entry.now)
         ≤ (S.tells source.old).calls + 1 }
     ensures refused { IfErr result (FailsOneEntry W.works.refuses
         (Tries W.tried writer.old writer.new) (S.tells source.new).blobs
-        place.now (entry_value entry.now)) }
+        (string_bytes place) (entry_value entry.now)) }
     ensures called { Called (S.tells source.old) (S.tells source.new)
         (IsErrOf result CheckoutError.Fetch) }
     ensures only { AsksNoOther (EntryLooksAt (entry_value entry.now))
         (S.tells source.old).blobs (S.tells source.new).blobs }
 {
     match entry {
-        FlatEntry::Dir => made_at(alloc, place, writer.make_folder(folder, place)),
+        FlatEntry::Dir => {
+            let made = writer.make_folder(folder, place.as_str());
+            made_at(place, made)
+        }
         FlatEntry::Link { target } => {
-            let made = writer.make_link(folder, place, target.as_str());
-            made_at(alloc, place, made)
+            let made = writer.make_link(folder, place.as_str(), target.as_str());
+            made_at(place, made)
         }
         FlatEntry::File { digest, executable } => {
             let content = read_content(alloc, digest, source)?;
-            let made = writer.write_file(folder, place, &content, *executable);
-            made_at(alloc, place, made)
+            let made = writer.write_file(folder, place.as_str(), &content, *executable);
+            made_at(place, made)
         }
     }
 }
@@ -176,7 +176,7 @@ fn write_entries<A: Allocator + Copy, S: BlobSource<A>, W: FolderWriter>(
 {
     for (below, entry) in entries {
         let place = place_below(alloc, path, below.as_str())?;
-        write_entry(alloc, writer, folder, place.as_str(), &entry, source)?;
+        write_entry(alloc, writer, folder, place, &entry, source)?;
     }
     Ok(())
 }
@@ -213,7 +213,8 @@ pub fn check_out<A: Allocator + Copy, S: BlobSource<A>, W: FolderWriter>(
 {
     let tree = read_tree(alloc, root, source)?;
     let entries = tree.into_entries(alloc)?;
-    let mut folder = made_at(alloc, path, writer.take(path))?;
+    let place = String::from_str(alloc, path)?;
+    let mut folder = made_at(place, writer.take(path))?;
     write_entries(alloc, writer, &mut folder, path, entries, source)?;
     Ok(folder)
 }

@@ -5,7 +5,7 @@ use Rattle.std.proofs.lemmas.Result.{err_from_is_err_and}
 use Rattle.blob_source.proofs.Calling.{called_ok, called_no, called_exit}
 use Rattle.blob_source.proofs.Asking.{ok_no_error}
 use Rattle.checkout.specs.Folder.{Tries, empty_folder}
-use Rattle.checkout.specs.Refused.{FailsEntries}
+use Rattle.checkout.specs.Refused.{FailsAt, FailsEntries}
 use Rattle.checkout.specs.Refused.FailsCheckout.{in_tree, in_folder, in_entries}
 use Rattle.checkout.specs.Written.{AreWritten, IsGained, places_of}
 use Rattle.checkout.proofs.Entries.{fails_had, told_anyway, tries_none, tries_then}
@@ -26,11 +26,19 @@ returns-in_err-entries-clause-refused g c =
     let p = err_from_is_err_and c.from_residual-in_err-entries.result c.from_residual-in_err-entries.ensures.1 in
     rw (p.1, p.2) (in_tree (tries_none g.W.FolderWriter.tried c.args.writer.now) tt)
 
+pub returns-in_err-place-clause-refused : goal.returns-in_err-place-clause-refused
+returns-in_err-place-clause-refused g c =
+    let p = err_from_is_err_and c.from_residual-in_err-place.result c.from_residual-in_err-place.ensures.1 in
+    rw (p.1, p.2) (in_tree (tries_none g.W.FolderWriter.tried c.args.writer.now) tt)
+
 pub returns-in_err-tree-clause-only : goal.returns-in_err-tree-clause-only
 returns-in_err-tree-clause-only g c = others_more (λ a h. inl h) c.read_tree.ensures.only
 
 pub returns-in_err-entries-clause-only : goal.returns-in_err-entries-clause-only
 returns-in_err-entries-clause-only g c = others_more (λ a h. inl h) c.read_tree.ensures.only
+
+pub returns-in_err-place-clause-only : goal.returns-in_err-place-clause-only
+returns-in_err-place-clause-only g c = others_more (λ a h. inl h) c.read_tree.ensures.only
 
 pub returns-in_err-tree-clause-few : goal.returns-in_err-tree-clause-few
 returns-in_err-tree-clause-few g c = asks_tree c.read_tree.ensures.once
@@ -38,13 +46,17 @@ returns-in_err-tree-clause-few g c = asks_tree c.read_tree.ensures.once
 pub returns-in_err-entries-clause-few : goal.returns-in_err-entries-clause-few
 returns-in_err-entries-clause-few g c = asks_tree c.read_tree.ensures.once
 
+pub returns-in_err-place-clause-few : goal.returns-in_err-place-clause-few
+returns-in_err-place-clause-few g c = asks_tree c.read_tree.ensures.once
+
 -- ---- the folder isn't taken
 
 pub returns-in_err-folder-clause-refused : goal.returns-in_err-folder-clause-refused
 returns-in_err-folder-clause-refused g c =
     let p = err_from_is_err_and c.from_residual-in_err-folder.result c.from_residual-in_err-folder.ensures.1 in
     rw (p.1, p.2) (in_folder c.in_ok-tree.tree c.in_ok-tree.ensures.told c.take.ensures.tries
-    (place_fails g.W.FolderWriter.works.refuses c.args.path.now c.take.result c.in_err-folder.field-0.0 c.in_err-folder.ensures.refused c.take.ensures.refused))
+    (place_fails g.W.FolderWriter.works.refuses c.args.path.now c.take.result c.in_err-folder.field-0.0
+    (subst (λ q. FailsAt q c.take.result c.in_err-folder.field-0.0) c.in_ok-place.ensures.ok c.in_err-folder.ensures.refused) c.take.ensures.refused))
 
 pub returns-in_err-folder-clause-unwritten : goal.returns-in_err-folder-clause-unwritten
 returns-in_err-folder-clause-unwritten g c = told_anyway _ (inl (c.in_ok-tree.tree, c.in_ok-tree.ensures.told))

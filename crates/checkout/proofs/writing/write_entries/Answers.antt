@@ -1,5 +1,6 @@
 -- The entries so far, and the next one.
 use Rattle.std.proofs.Common.{rules, arith, ◌≡◌, ◌+◌, ◌≤◌, [], ◌∷◌, length, ap, subst, refl, ◌∙◌, inl}
+use Rattle.std.specs.Prelude.{string_bytes}
 use Rattle.std.proofs.lemmas.Result.{err_from_is_err_and}
 use Rattle.blob_source.proofs.Asking.{ok_no_error}
 use Rattle.blob_source.proofs.Calling.{called_none, called_no, called_on, called_exit}
@@ -34,7 +35,7 @@ loop-below-preserved g c =
     let tried = g.W.FolderWriter.tried in
     let all = path_values c.args.entries.items in
     let steps : c.loop-below.below-iterator.rest.items ≡ (c.in-Some.below, c.in-Some.entry) ∷ c.next.new.self.rest.items = search rules in
-    let at = c.as_str-in-loop-below.ensures.value ∙ c.in_ok-place.ensures ∙ ap (λ t. place_below c.args.path.now t) c.as_str.ensures.value in
+    let at = c.in_ok-place.ensures ∙ ap (λ t. place_below c.args.path.now t) c.as_str.ensures.value in
     record {
       called = called_on c.loop-below.invariant.called (called_no ok_no_error (λ n. n) c.in_ok-write_entry.ensures.called);
       only = others_then (λ a h. h) (next_looked works tried c.args.writer.now c.args.path.now all steps c.loop-below.invariant.so_far) c.loop-below.invariant.only c.write_entry.ensures.only;
@@ -43,7 +44,7 @@ loop-below-preserved g c =
           let rest = ap length steps in
           let directories = ap (λ es. directories_in (path_values es)) steps in
           omega (arith, one, before, rest, directories);
-      so_far = next_one works tried c.args.writer.now c.args.path.now all c.args.folder.now c.loop-below.folder c.write_entry.new.folder c.loop-below.writer c.write_entry.new.writer c.as_str-in-loop-below.result.now steps
+      so_far = next_one works tried c.args.writer.now c.args.path.now all c.args.folder.now c.loop-below.folder c.write_entry.new.folder c.loop-below.writer c.write_entry.new.writer (string_bytes c.in_ok-place.place) steps
           c.write_entry.ensures.called.asked.blobs at c.loop-below.invariant.so_far c.in_ok-write_entry.ensures.made c.in_ok-write_entry.ensures.tried;
     }
 
@@ -80,10 +81,10 @@ pub returns-in_err-write_entry-clause-refused : goal.returns-in_err-write_entry-
 returns-in_err-write_entry-clause-refused g c =
     let works = g.W.FolderWriter.works in
     let steps : c.loop-below.below-iterator.rest.items ≡ (c.in-Some.below, c.in-Some.entry) ∷ c.next.new.self.rest.items = search rules in
-    let at = c.as_str-in-loop-below.ensures.value ∙ c.in_ok-place.ensures ∙ ap (λ t. place_below c.args.path.now t) c.as_str.ensures.value in
+    let at = c.in_ok-place.ensures ∙ ap (λ t. place_below c.args.path.now t) c.as_str.ensures.value in
     let p = err_from_is_err_and c.from_residual-in_err-write_entry.result c.from_residual-in_err-write_entry.ensures.1 in
     rw (p.1, p.2) (next_fails works g.W.FolderWriter.tried c.args.writer.now c.args.path.now (path_values c.args.entries.items) works.refuses c.args.folder.now c.loop-below.folder c.loop-below.writer c.write_entry.new.writer
-    c.as_str-in-loop-below.result.now c.in_err-write_entry.field-0.0 steps c.write_entry.ensures.called.asked.blobs at c.loop-below.invariant.so_far c.in_err-write_entry.ensures.refused)
+    (string_bytes c.in_ok-place.place) c.in_err-write_entry.field-0.0 steps c.write_entry.ensures.called.asked.blobs at c.loop-below.invariant.so_far c.in_err-write_entry.ensures.refused)
 
 pub returns-in_err-write_entry-clause-called : goal.returns-in_err-write_entry-clause-called
 returns-in_err-write_entry-clause-called g c =
