@@ -1,5 +1,5 @@
 -- Why a folder isn't read, or an output isn't added.
-use Rattle.std.proofs.Common.{◌≡◌, ◌≢◌, ℕ, zero, suc, ◌+◌, ◌<◌, ◌≤◌, length, take, get_or, List, [], ◌∷◌, ◌++◌, sym, subst, ◌∙◌, ap, refl, arith, inl, inr, Some, length-append}
+use Rattle.std.proofs.Common.{◌≡◌, ℕ, zero, suc, ◌+◌, ◌<◌, ◌≤◌, length, take, get_or, List, [], ◌∷◌, ◌++◌, sym, subst, ◌∙◌, ap, refl, arith, inl, inr, Some, length-append}
 use Rattle.std.specs.Prelude.{◌⊎◌, Contains, map}
 use Rattle.std.specs.List.{AllByRecursion}
 use Rattle.std.specs.declared.vec.Vec.{Vec}
@@ -13,20 +13,18 @@ use Rattle.messages.specs.Directory.{directory_bytes}
 use Rattle.messages.specs.DirectoryRules.{DirectoryValue, IsDirectory}
 use Rattle.messages.specs.Gives.{FailsUnlessMemory}
 use Rattle.messages.specs.Path.{Overlap, AreApart}
-use Rattle.messages.specs.Tree.{IsTree, TreeValue, tree_with}
+use Rattle.messages.specs.Tree.{IsTree, tree_with}
 use Rattle.messages.specs.declared.error.MessageError.{MessageError}
 use Rattle.messages.specs.declared.error.MessageError.TheVariants as messages
 use Rattle.std.specs.Prelude.{Ok}
 use Rattle.tree.specs.FlatTree.{FlatValue, standing_in, IsTaken}
-use Rattle.tree.specs.Form.{NodeValue}
-use Rattle.tree.specs.Tree.{Name, a_leaf, a_directory}
+use Rattle.tree.specs.Tree.{Name, a_directory}
 use Rattle.tree.specs.TreeError.{IsOverlapAt}
 use Rattle.tree.specs.declared.error.AddError.{AddError}
 use Rattle.tree.specs.declared.error.AddError.TheVariants as adding
 use Rattle.tree.proofs.DirectoryBytes.{directory_bytes_injective}
 use Rattle.tree.proofs.OwnDirectories.{no_refusal}
 use Rattle.tree.proofs.TreeDigests.{valid_digests}
-use Rattle.worker.specs.Outcomes.{directories_of}
 use Rattle.worker.specs.Values.{items_of}
 use Rattle.processes.specs.declared.trouble.Trouble.{Trouble}
 use Rattle.processes.specs.declared.trouble.Trouble.TheVariants as troubles
