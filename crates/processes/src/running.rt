@@ -1,10 +1,10 @@
-ghost use Rattle.std.specs.Prelude.{◌≡◌, ◌+◌, ◌<◌, ◌≤◌, ℕ, List, IfErr, IfOk, IsErrOf, IsTrue};
-ghost use Rattle.std.specs.Prelude.{OnErr, OnOk, string_bytes};
+ghost use Rattle.std.specs.Prelude.{◌≡◌, ◌↔◌, ◌+◌, ◌-◌, ◌<◌, ◌≤◌, ℕ, List, IfErr, IfOk, IsErrOf};
+ghost use Rattle.std.specs.Prelude.{IsTrue, OnErr, OnOk, string_bytes};
 ghost use Rattle.std.specs.Result.{IsErrAnd};
 ghost use Rattle.blob_source.specs.Source.{greatest_count};
 ghost use Rattle.worker.specs.Counted.{Counts, IsFailure, TellsRunFailure};
 ghost use Rattle.worker.specs.Outcomes.{YieldsFor, YieldsNoMore};
-ghost use Rattle.worker.specs.Values.{EndValue, IsAbsolute, StartsNone, StartsOne};
+ghost use Rattle.worker.specs.Values.{EndValue, IsAbsolute, StartsNone, StartsOne, bad_at, made};
 ghost use Rattle.worker.specs.declared.failure.Cause.TheVariants.{Signal};
 ghost use Rattle.messages.specs.Path.{begins_with_slash};
 ghost use Rattle.processes.specs.Laying.{IsUnstarted, folder_of};
@@ -70,16 +70,12 @@ impl<W, A: Allocator> ProcessRunner<W, A> {
 fn begins_with_slash(bytes: &[u8]) -> bool
     ensures { result ≡ begins_with_slash bytes.now }
 {
-    match bytes {
-        [b'/', ..] => true,
-        _ => false,
-    }
+    matches!(bytes, [b'/', ..])
 }
 
 /// Whether the command names its program by a path from the root of the file system.
 fn is_absolute<A: Allocator>(command: &Command<A>) -> bool
-    ensures some { IsAbsolute command.now → IsTrue result }
-    ensures only { IsTrue result → IsAbsolute command.now }
+    ensures { IsTrue result ↔ IsAbsolute command.now }
 {
     match command.arguments() {
         [program, ..] => begins_with_slash(program.as_bytes()),
@@ -111,6 +107,7 @@ impl<W: Workshop, A: Allocator + Copy> ProcessRunner<W, A> {
             → next_of self.new ≡ next_of self.old + 1 }
         ensures left { OnOk result (next_of self.old < greatest_count) }
         ensures risen { next_of self.old ≤ next_of self.new }
+        ensures most { next_of self.new ≤ next_of self.old + 1 }
         ensures work { work_of self.new ≡ work_of self.old }
         ensures alive { alive_of self.new ≡ alive_of self.old }
         ensures failures { failures_of self.new ≡ failures_of self.old }
@@ -138,6 +135,7 @@ impl<W: Workshop, A: Allocator + Copy> ProcessRunner<W, A> {
             → next_of self.new ≡ next_of self.old + 1 }
         ensures left { OnOk result (next_of self.old < greatest_count) }
         ensures risen { next_of self.old ≤ next_of self.new }
+        ensures most { next_of self.new ≤ next_of self.old + 1 }
         ensures outputs { IfOk result (λ s. s.outputs.items ≡ command.now.output_paths) }
         ensures failed { IfErr result (IsUnstarted W.works) }
         ensures work { work_of self.new ≡ work_of self.old }
@@ -246,6 +244,9 @@ impl<W: Workshop + Drop, A: Allocator + Copy> Runner<A> for ProcessRunner<W, A> 
         ensures used { OnOk result (next_of self.new ≡ next_of self.old + 1) }
         ensures passed { IsErrAnd result IsFailure → next_of self.old < greatest_count
             → next_of self.new ≡ next_of self.old + 1 }
+        // No more than one number is used, whatever is answered.
+        ensures risen { next_of self.old ≤ next_of self.new }
+        ensures most { next_of self.new ≤ next_of self.old + 1 }
     {
         if !is_absolute(command) {
             return Err(RunError::NotAbsolute);
@@ -264,7 +265,23 @@ impl<W: Workshop + Drop, A: Allocator + Copy> Runner<A> for ProcessRunner<W, A> 
         &mut self,
         alloc: A,
         job: ProcessJob<W::Child, A>,
-    ) -> Result<Produced<A>, RunError<A>> {
+    ) -> Result<Produced<A>, RunError<A>>
+        ensures gave { IfOk result (λ p. may_come W.works job (made p)) }
+        ensures bad { (path : List (List ℕ)) → IsErrOf result (RunError.BadOutput path)
+            → may_come W.works job (bad_at path) }
+        ensures same { YieldsNoMore (may_yield W.works (work_of self.new))
+            (may_yield W.works (work_of self.old)) }
+        ensures unlisted { StartsNone
+            (HaveStarted W.works (work_of self.old) (next_of self.old))
+            (HaveStarted W.works (work_of self.new) (next_of self.new)) }
+        ensures closed { alive_of self.new ≡ alive_of self.old - 1 }
+        ensures absolute { IsErrOf result RunError.NotAbsolute → ⊥ }
+        ensures device { IfErr result (TellsRunFailure (may_come W.works job)) }
+        ensures counted { Counts (failures_of self.old) (failures_of self.new)
+            (IsErrAnd result IsFailure) }
+        // A wait uses no number.
+        ensures unused { next_of self.new ≡ next_of self.old }
+    {
         let ProcessJob { started, program } = job;
         let Started {
             child,
