@@ -42,6 +42,7 @@ place_weaker question result told other lacks less by by_lack h =
       ∥∥₁_map is.1 (by is.0),
       is.2,
       if_some_weaker answer.lack (λ l. ∥ lacks l ∥₁) (λ l. ∥ less l ∥₁) (λ l h. ∥∥₁_map h (by_lack l)) is.3,
+      is.4,
     )) h
 
 -- what the answer says is missing is what is so by the verdict

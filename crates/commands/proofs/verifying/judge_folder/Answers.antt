@@ -1,3 +1,4 @@
+use Rattle.std.proofs.Common.{◌≤◌, ◌+◌, length, subst}
 use Rattle.std.proofs.Math.Logic.{∥∥₁_map}
 use Rattle.remote.specs.Folder.{telling_of}
 use Rattle.commands.proofs.verifying.judge_folder.Goals as goal
@@ -8,4 +9,6 @@ returns-then-confirms-clause-answered g c = (
   ∥∥₁_map c.answer_question.new.source.told (λ is. is.told),
   c.in-Ok.ensures.answered,
   c.confirms.ensures c.if-confirms.true,
+  λ list covers. subst (λ n. (telling_of c.answer_question.new.source.store).calls ≤ n + length list)
+      c.new-shelf.ensures.calls (c.answer_question.ensures.few list covers),
 )
