@@ -8,7 +8,7 @@ use Rattle.blob_source.specs.declared.source.FetchError.TheVariants as refusals
 use Rattle.remote.specs.Line.{ConnectionValue, RefusesRequest}
 use Rattle.remote.specs.declared.fault.Fault.{Fault}
 use Rattle.commands.specs.Faults.{IsServerFault, OrMemory, TellsFailure, TellsRefusal, kept_failure}
-use Rattle.commands.specs.Places.{Access, Carries, Comes, FailsOver, KeepsRefused, MaySend, RefusesAt, puts_too, request_of}
+use Rattle.commands.specs.Places.{Access, Carries, Comes, FailsOver, KeepsRefused, MaySend, RefusesAt, puts_blobs, request_of}
 use Rattle.commands.specs.PutRefused.{RefusesPut}
 use Rattle.commands.specs.declared.error.CommandError.{CommandError}
 use Rattle.commands.specs.declared.error.CommandError.TheVariants.{Memory}
@@ -82,11 +82,11 @@ refused_at access start old new address method d body None refusal e came sent r
 
 -- a blob that is put
 pub blob_refused : (start old new : ConnectionValue) (address bytes : List ℕ) (before : Option Failure) (fault : Option Fault) (refusal : FetchError)
-    (e : CommandError) → ∥ Comes puts_too start old ∥₁ → RefusesRequest old new (request_of PutBlob (digest_of bytes).hash bytes) refusal → new.fault ≡ fault
+    (e : CommandError) → ∥ Comes puts_blobs start old ∥₁ → RefusesRequest old new (request_of PutBlob (digest_of bytes).hash bytes) refusal → new.fault ≡ fault
     → TellsFailure address (kept_failure {T = DigestValue} before PutBlob (digest_of bytes) (Err refusal) fault) refusal e → OrMemory (λ x. ∥ RefusesPut start address bytes x ∥₁) e
 blob_refused start old new address bytes before (Some fault) refusals.Failed e came refused is told = inr (∥∥₁_map came (λ comes. record {
   fault = fault;
-  why = record { old = old; new = new; before = comes; sent = tt; is = refused; kept = is };
+  why = record { old = old; new = new; before = comes; sent = refl; is = refused; kept = is };
   told = told;
 }))
 blob_refused start old new address bytes before None refusals.Failed e came refused is told =

@@ -15,6 +15,7 @@ use Rattle.remote.specs.Line.{ConnectionValue}
 use Rattle.tree.specs.Form.{NodeValue, no_children, node_value}
 use Rattle.commands.specs.Children.{AddsName, HasOneMore}
 use Rattle.commands.specs.Put.{IsPutAt, StandsAs, TakesBlob}
+use Rattle.commands.specs.Places.{puts_blobs}
 use Rattle.commands.specs.Put.IsPutAt.{folder_put, link_put}
 use Rattle.commands.specs.World.{Sight, a_link, what_stands}
 use Rattle.commands.specs.declared.error.CommandError.{CommandError}
@@ -72,7 +73,7 @@ module _ (sees : Sight) (start : ConnectionValue) (left : ℕ) (place : List ℕ
   }
 
   pub all_put : (names : List (List ℕ)) (d : DirectoryValue) → IsDirectory d → sees.lists place names → IsPutSoFar sees start left place names d
-      → ∥ TakesBlob start (directory_bytes d) ∥₁ → IsPutAt sees start (suc left) place (Dir (digest_of (directory_bytes d)))
+      → ∥ TakesBlob puts_blobs start (directory_bytes d) ∥₁ → IsPutAt sees start (suc left) place (Dir (digest_of (directory_bytes d)))
   all_put names d valid lists so_far taken = folder_put left place d valid (record { names = names; read = lists; all = so_far.all; only = so_far.only }) so_far.stand so_far.are_put taken
 
   -- the next of the names
@@ -96,10 +97,10 @@ module _ (sees : Sight) (start : ConnectionValue) (left : ℕ) (place : List ℕ
 
   -- and so is its Directory, where the put of that was answered
   pub put_answered : (names : List (List ℕ)) (d : DirectoryValue) (bytes : List ℕ) (result : Result DigestValue CommandError) → IsDirectory d → sees.lists place names
-      → IsPutSoFar sees start left place names d → bytes ≡ directory_bytes d → IfOk result (λ digest. digest ≡ digest_of bytes) → OnOk result (∥ TakesBlob start bytes ∥₁)
+      → IsPutSoFar sees start left place names d → bytes ≡ directory_bytes d → IfOk result (λ digest. digest ≡ digest_of bytes) → OnOk result (∥ TakesBlob puts_blobs start bytes ∥₁)
       → IfOk result (λ digest. IsPutAt sees start (suc left) place (Dir digest))
   put_answered names d bytes (Ok digest) valid lists so_far is named taken =
-      subst (λ x. IsPutAt sees start (suc left) place (Dir x)) (sym (named ∙ ap digest_of is)) (all_put names d valid lists so_far (subst (λ b. ∥ TakesBlob start b ∥₁) is taken))
+      subst (λ x. IsPutAt sees start (suc left) place (Dir x)) (sym (named ∙ ap digest_of is)) (all_put names d valid lists so_far (subst (λ b. ∥ TakesBlob puts_blobs start b ∥₁) is taken))
   put_answered names d bytes (Err e) valid lists so_far is named taken = tt
 
 -- what was found at a path is put as this node

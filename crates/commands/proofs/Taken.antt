@@ -5,10 +5,10 @@ use Rattle.blob_digest.specs.Digest.{digest_of}
 use Rattle.blob_source.specs.declared.source.FetchError.{FetchError}
 use Rattle.http_core.specs.declared.event.Area.TheVariants.{Cas}
 use Rattle.remote.specs.Line.{ConnectionValue, Puts}
-use Rattle.commands.specs.Places.{Comes, puts_too}
+use Rattle.commands.specs.Places.{Access, Comes}
 use Rattle.commands.specs.Put.{TakesBlob}
 
-pub taken_by_put : {T : Type 0} (start old new : ConnectionValue) (bytes : List ℕ) (result : Result T FetchError)
-    → OnOk result (Puts old new Cas (digest_of bytes).hash bytes) → ∥ Comes puts_too start old ∥₁ → OnOk result (∥ TakesBlob start bytes ∥₁)
-taken_by_put start old new bytes (Ok x) takes came = ∥∥₁_map came (λ comes. record { old = old; new = new; before = comes; is = takes })
-taken_by_put start old new bytes (Err e) takes came = tt
+pub taken_by_put : {T : Type 0} (access : Access) (start old new : ConnectionValue) (bytes : List ℕ) (result : Result T FetchError)
+    → OnOk result (Puts old new Cas (digest_of bytes).hash bytes) → ∥ Comes access start old ∥₁ → OnOk result (∥ TakesBlob access start bytes ∥₁)
+taken_by_put access start old new bytes (Ok x) takes came = ∥∥₁_map came (λ comes. record { old = old; new = new; before = comes; is = takes })
+taken_by_put access start old new bytes (Err e) takes came = tt

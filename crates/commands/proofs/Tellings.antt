@@ -22,7 +22,7 @@ use Rattle.remote.specs.Table.{HasAnswer, IsSameBut, KeepsNone, answers, bytes_k
 use Rattle.remote.specs.declared.files.FileError.{FileError}
 use Rattle.remote.specs.declared.table.Table.{Table}
 use Rattle.text_verifier.specs.declared.lack.Lack.{Lack}
-use Rattle.commands.specs.Places.{Access, CameAllOver, CameOver, Comes, FailsInStore, LacksAll, LacksOver, MaySend, file_of, gets_alone, puts_too}
+use Rattle.commands.specs.Places.{Access, CameAllOver, CameOver, Comes, FailsInStore, LacksAll, LacksOver, MaySend, file_of, gets_alone, puts_blobs, puts_too}
 use Rattle.commands.specs.Places.Comes.{got, taken, refused}
 use Rattle.commands.specs.World.{Sight}
 
@@ -86,6 +86,7 @@ told_anew P d before after held grows anew e b is = by (told_by before e) refl
 -- a GET may always be sent
 pub may_get : (access : Access) (area : Area) (hash : List ℕ) → MaySend access (get area hash)
 may_get gets_alone area hash = refl
+may_get puts_blobs area hash = tt
 may_get puts_too area hash = tt
 
 module _ {A : Type 0} (access : Access) (start : ConnectionValue) (area : Area) (d : DigestValue) (old new : ConnectionValue) (before after : Table A) where
@@ -113,10 +114,11 @@ module _ {A : Type 0} (access : Access) (start : ConnectionValue) (area : Area) 
       anew : (b : List ℕ) → told_by before d ≡ None → told_by after d ≡ Some b → CameOver access start area d.hash b
       anew b none is = absurd (some_not_none (sym is ∙ ap bytes_kept (looks.unheld.same d) ∙ none))
 
-pub comes_by_put : {T : Type 0} (start : ConnectionValue) (area : Area) (hash bytes : List ℕ) (old new : ConnectionValue) (result : Result T FetchError)
-    → OnOk result (Puts old new area hash bytes) → IfErr result (RefusesRequest old new (put area hash bytes)) → Comes puts_too start old → Comes puts_too start new
-comes_by_put start area hash bytes old new (Ok x) takes refuses came = taken old new area hash bytes came tt takes
-comes_by_put start area hash bytes old new (Err e) takes refuses came = refused old new (put area hash bytes) e came tt refuses
+pub comes_by_put : {T : Type 0} (access : Access) (start : ConnectionValue) (area : Area) (hash bytes : List ℕ) (old new : ConnectionValue) (result : Result T FetchError)
+    → OnOk result (Puts old new area hash bytes) → IfErr result (RefusesRequest old new (put area hash bytes)) → MaySend access (put area hash bytes)
+    → Comes access start old → Comes access start new
+comes_by_put access start area hash bytes old new (Ok x) takes refuses sent came = taken old new area hash bytes came sent takes
+comes_by_put access start area hash bytes old new (Err e) takes refuses sent came = refused old new (put area hash bytes) e came sent refuses
 
 module _ {A T : Type 0} (start : ConnectionValue) (area : Area) (d : DigestValue) (bytes : List ℕ) (old new : ConnectionValue) (before after : Table A) where
   -- what is kept came over it, or it took it

@@ -123,14 +123,17 @@ pub record IsConnected (sees : Sight) (server : ServerOptions) (c : ConnectionVa
   pub uncounted : c.failures ≡ 0
   pub unfailed : c.fault ≡ None
 
--- the requests that go over a connection: GETs alone, or PUTs too
+-- the requests that go over a connection: GETs alone, or PUTs of blobs too, or of results too
 pub data Access : Type 0 where
   gets_alone : Access
+  puts_blobs : Access
   puts_too : Access
 
--- this is such a request
+-- this is such a request; where only blobs are put, each is put under its own hash
 abbrev pub MaySend : Access → Request → Type 0
 MaySend gets_alone request = request.body ≡ None
+MaySend puts_blobs request =
+    IfSome request.body (λ bytes. request ≡ put Cas (digest_of bytes).hash bytes)
 MaySend puts_too request = Unit {0}
 
 -- the connection came to stand so by such requests, one after another, and replies to them

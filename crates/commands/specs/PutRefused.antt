@@ -16,7 +16,7 @@ use Rattle.remote.specs.Line.{ConnectionValue}
 use Rattle.tree.specs.Form.{NodeValue}
 use Rattle.remote.specs.declared.files.FileError.{FileError}
 use Rattle.commands.specs.Faults.{TellsOfEntry, error_of_file}
-use Rattle.commands.specs.Places.{FailsToConnect, RefusesAt, puts_too}
+use Rattle.commands.specs.Places.{FailsToConnect, RefusesAt, puts_blobs}
 use Rattle.commands.specs.Printed.{StartsPut}
 use Rattle.commands.specs.Put.{IsListed, IsPutAt, PutsPath}
 use Rattle.commands.specs.Refusal.{IsPrintFault}
@@ -45,7 +45,7 @@ pub record HasNameTwice (place : List ℕ) (names : List (List ℕ)) (e : Comman
 -- the server at the address refused a PUT of this blob over the connection, which was opened so
 abbrev pub RefusesPut : ConnectionValue → List ℕ → List ℕ → CommandError → Type 0
 RefusesPut start address bytes =
-    RefusesAt puts_too start address PutBlob (digest_of bytes) bytes
+    RefusesAt puts_blobs start address PutBlob (digest_of bytes) bytes
 
 -- the folder at the place was read, and has an entry of this name; what it has before that is put
 pub record ReachesEntry (sees : Sight) (start : ConnectionValue) (place name : List ℕ)

@@ -6,6 +6,7 @@ ghost use Rattle.blob_source.specs.Source.{AsksBlob, AsksResult, bytes_of};
 ghost use Rattle.commands.specs.Faults.{OrMemory, TellsFailure, TellsRefusal};
 ghost use Rattle.commands.specs.Places.{AreLacked, FailsOver, FailsToConnect, IsClientOver};
 ghost use Rattle.commands.specs.Places.{IsConnected, IsFresh, KeepsRefused, LacksIt, LacksOver};
+ghost use Rattle.commands.specs.Places.{puts_blobs, puts_too};
 ghost use Rattle.commands.specs.Put.{TakesBlob};
 ghost use Rattle.commands.specs.PutRefused.{RefusesPut};
 ghost use Rattle.commands.specs.Status.{exit_status};
@@ -53,7 +54,16 @@ impl Permit for GetsAlone {
     ghost access = { gets_alone };
 }
 
-/// It puts too.
+/// It puts blobs too, each under its own hash, and no results.
+pub(crate) struct PutsBlobs;
+
+impl Permit for PutsBlobs {
+    ghost use Rattle.commands.specs.Places.{puts_blobs};
+
+    ghost access = { puts_blobs };
+}
+
+/// It puts blobs and results too.
 pub struct PutsToo;
 
 impl Permit for PutsToo {
@@ -76,7 +86,7 @@ pub struct Client<S: Stream + Drop, K: Origin, U: Permit> {
     ghost refused: { ∥ KeepsRefused U.access K.start (connection_of S.flow remote) failure ∥₁ },
 }
 
-impl<S: Stream + Drop, K: Origin> Client<S, K, PutsToo> {
+impl<S: Stream + Drop, K: Origin> Client<S, K, PutsBlobs> {
     /// Puts a blob that isn't asked for again.
     pub(crate) fn put(
         &mut self,
@@ -85,7 +95,7 @@ impl<S: Stream + Drop, K: Origin> Client<S, K, PutsToo> {
         bytes: &[u8],
     ) -> Result<Digest, CommandError>
         ensures named { IfOk result (λ digest. digest ≡ digest_of bytes.now) }
-        ensures taken { OnOk result (∥ TakesBlob K.start bytes.now ∥₁) }
+        ensures taken { OnOk result (∥ TakesBlob puts_blobs K.start bytes.now ∥₁) }
         ensures refused { IfErr result (OrMemory
             (λ e. ∥ RefusesPut K.start (string_bytes server.now.address) bytes.now e ∥₁)) }
     {
@@ -221,7 +231,7 @@ impl<S: Stream + Drop, K: Origin> BlobSink<Global> for Client<S, K, PutsToo> {
             (telling_of self.old.remote).blobs (telling_of self.new.remote).blobs) }
         ensures called { Calls (PutsBlob bytes.now) (telling_of self.old.remote)
             (telling_of self.new.remote) (IsErrOf result FetchError.Failed) }
-        ensures taken { OnOk result (∥ TakesBlob K.start bytes.now ∥₁) }
+        ensures taken { OnOk result (∥ TakesBlob puts_too K.start bytes.now ∥₁) }
     {
         let put = self.remote.put_blob(alloc, bytes);
         let digest = digest_put(&put, bytes);

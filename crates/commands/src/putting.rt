@@ -16,7 +16,7 @@ ghost use Rattle.remote.specs.Remote.{connection_of};
 ghost use Rattle.tree.specs.Form.{node_value};
 
 use crate::children::Children;
-use crate::client::{Client, Origin, PutsToo, open};
+use crate::client::{Client, Origin, PutsBlobs, open};
 use crate::connecting::{ServerOptions, read_server};
 use crate::error::{CommandError, entry_error};
 use crate::printing::print_all;
@@ -64,7 +64,7 @@ fn put_file<W: World, K: Origin, P: Counter>(
     alloc: Global,
     world: &W,
     server: &ServerOptions,
-    client: &mut Client<W::Link, K, PutsToo>,
+    client: &mut Client<W::Link, K, PutsBlobs>,
     progress: &mut P,
     place: &str,
 ) -> Result<Digest, CommandError>
@@ -90,7 +90,7 @@ fn put_node<W: World, K: Origin, P: Counter>(
     alloc: Global,
     world: &W,
     server: &ServerOptions,
-    client: &mut Client<W::Link, K, PutsToo>,
+    client: &mut Client<W::Link, K, PutsBlobs>,
     progress: &mut P,
     place: &str,
     left: u32,
@@ -124,7 +124,7 @@ fn put_folder<W: World, K: Origin, P: Counter>(
     alloc: Global,
     world: &W,
     server: &ServerOptions,
-    client: &mut Client<W::Link, K, PutsToo>,
+    client: &mut Client<W::Link, K, PutsBlobs>,
     progress: &mut P,
     place: &str,
     left: u32,
@@ -166,7 +166,7 @@ fn put_over<W: World, K: Origin, P: Counter>(
     ensures refused { IfErr result (OrMemory (λ e. FailsBelow W.sees K.start
         (string_bytes server.now.address) e 64 (string_bytes place))) }
 {
-    let mut client: Client<W::Link, K, PutsToo> = Client::new(remote);
+    let mut client: Client<W::Link, K, PutsBlobs> = Client::new(remote);
     let place = place.as_str();
     if world.is_folder(alloc, place)? {
         put_folder(

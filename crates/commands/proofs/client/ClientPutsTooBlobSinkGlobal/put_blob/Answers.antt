@@ -25,7 +25,7 @@ invariant_of-self g c =
     c.digest_put-digest.ensures c.keep_failure.ensures in
     record {
       over = ∥∥₁_map c.args.self.now.over (λ over. record {
-        came = comes_by_put start Cas d.hash bytes (connection_of flow old) (connection_of flow new) c.put_blob-put.result put.stored.taken put.stored.refused over.came;
+        came = comes_by_put puts_too start Cas d.hash bytes (connection_of flow old) (connection_of flow new) c.put_blob-put.result put.stored.taken put.stored.refused tt over.came;
         blobs = came_by_put start Cas d bytes (connection_of flow old) (connection_of flow new) (blobs_of old) (blobs_of new) c.put_blob-put.result put.stored over.came
             put.called.asked.blobs over.blobs;
         results = subst (λ t. CameAllOver puts_too start Ac (told_by t)) (sym put.untouched) over.results;
@@ -45,5 +45,5 @@ returns-clause-taken g c =
     let flow = g.S.Stream.flow in
     let old = c.args.self.now.remote in
     let new = c.put_blob-put.new.self in
-    taken_by_put g.K.Origin.start (connection_of flow old) (connection_of flow new) c.args.bytes.now c.put_blob-put.result c.put_blob-put.ensures.stored.taken
+    taken_by_put puts_too g.K.Origin.start (connection_of flow old) (connection_of flow new) c.args.bytes.now c.put_blob-put.result c.put_blob-put.ensures.stored.taken
     (∥∥₁_map c.args.self.now.over (λ over. over.came))

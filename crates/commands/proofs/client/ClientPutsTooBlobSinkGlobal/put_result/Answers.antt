@@ -21,7 +21,7 @@ invariant_of-self g c =
     let kept = c.keep_failure.ensures in
     record {
       over = ∥∥₁_map c.args.self.now.over (λ over. record {
-        came = comes_by_put start Ac d.hash bytes (connection_of flow old) (connection_of flow new) c.put_result-put.result put.stored.taken put.stored.refused over.came;
+        came = comes_by_put puts_too start Ac d.hash bytes (connection_of flow old) (connection_of flow new) c.put_result-put.result put.stored.taken put.stored.refused tt over.came;
         results = came_by_put start Ac d bytes (connection_of flow old) (connection_of flow new) (results_of old) (results_of new) c.put_result-put.result put.stored over.came
             put.called.asked.results over.results;
         blobs = subst (λ t. CameAllOver puts_too start Cas (told_by t)) (sym put.untouched) over.blobs;

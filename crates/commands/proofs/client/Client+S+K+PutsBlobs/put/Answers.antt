@@ -6,13 +6,13 @@ use Rattle.remote.specs.Line.{RefusesRequest, put}
 use Rattle.remote.specs.Remote.{connection_of}
 use Rattle.remote.specs.Table.{told_by}
 use Rattle.commands.specs.Faults.{TellsFailure, kept_failure}
-use Rattle.commands.specs.Places.{CameAllOver, KeepsRefused, puts_too}
+use Rattle.commands.specs.Places.{CameAllOver, KeepsRefused, puts_blobs}
 use Rattle.commands.specs.declared.failure.Method.TheVariants.{PutBlob}
 use Rattle.commands.specs.Put.{TakesBlob}
 use Rattle.commands.proofs.Failures.{blob_refused, keeps_after}
 use Rattle.commands.proofs.Taken.{taken_by_put}
 use Rattle.commands.proofs.Tellings.{LacksAllOver, comes_by_put}
-use Rattle.commands.proofs.client.Client+S+K+PutsToo.put.Goals as goal
+use Rattle.commands.proofs.client.Client+S+K+PutsBlobs.put.Goals as goal
 
 -- what is told stays, and the connection comes on
 pub invariant_of-self : goal.invariant_of-self
@@ -27,24 +27,24 @@ invariant_of-self g c =
     c.digest_put-digest.ensures c.keep_failure.ensures in
     record {
       over = ∥∥₁_map c.args.self.now.over (λ over. record {
-        came = comes_by_put start Cas (digest_of bytes).hash bytes old new c.send_blob-put.result sent.taken sent.refused over.came;
-        blobs = subst (λ t. CameAllOver puts_too start Cas (told_by t)) (sym sent.blobs) over.blobs;
-        results = subst (λ t. CameAllOver puts_too start Ac (told_by t)) (sym sent.results) over.results;
+        came = comes_by_put puts_blobs start Cas (digest_of bytes).hash bytes old new c.send_blob-put.result sent.taken sent.refused refl over.came;
+        blobs = subst (λ t. CameAllOver puts_blobs start Cas (told_by t)) (sym sent.blobs) over.blobs;
+        results = subst (λ t. CameAllOver puts_blobs start Ac (told_by t)) (sym sent.results) over.results;
       });
       lacked = ∥∥₁_map c.args.self.now.lacked (λ lacked. record {
-        blobs = subst (LacksAllOver puts_too start Cas) (sym sent.blobs) lacked.blobs;
-        results = subst (LacksAllOver puts_too start Ac) (sym sent.results) lacked.results;
+        blobs = subst (LacksAllOver puts_blobs start Cas) (sym sent.blobs) lacked.blobs;
+        results = subst (LacksAllOver puts_blobs start Ac) (sym sent.results) lacked.results;
       });
-      refused = subst (λ f. ∥ KeepsRefused puts_too start new f ∥₁) (sym kept)
-          (∥∥₁_map₂ c.args.self.now.over c.args.self.now.refused (λ over before. keeps_after puts_too start old new c.args.self.now.failure PutBlob (digest_of bytes) bytes
-          c.send_blob-put.result c.last_fault-fault.result sent.refused sent.called.unfailed (sym c.last_fault-fault.ensures) refl tt over.came before));
+      refused = subst (λ f. ∥ KeepsRefused puts_blobs start new f ∥₁) (sym kept)
+          (∥∥₁_map₂ c.args.self.now.over c.args.self.now.refused (λ over before. keeps_after puts_blobs start old new c.args.self.now.failure PutBlob (digest_of bytes) bytes
+          c.send_blob-put.result c.last_fault-fault.result sent.refused sent.called.unfailed (sym c.last_fault-fault.ensures) refl refl over.came before));
     }
 
 pub returns-in-Ok-clause-taken : goal.returns-in-Ok-clause-taken
 returns-in-Ok-clause-taken g c =
     let flow = g.S.Stream.flow in
-    subst (λ r. OnOk r (∥ TakesBlob g.K.Origin.start c.args.bytes.now ∥₁)) c.in-Ok.is
-    (taken_by_put g.K.Origin.start (connection_of flow c.args.self.now.remote) (connection_of flow c.send_blob-put.new.self) c.args.bytes.now c.send_blob-put.result
+    subst (λ r. OnOk r (∥ TakesBlob puts_blobs g.K.Origin.start c.args.bytes.now ∥₁)) c.in-Ok.is
+    (taken_by_put puts_blobs g.K.Origin.start (connection_of flow c.args.self.now.remote) (connection_of flow c.send_blob-put.new.self) c.args.bytes.now c.send_blob-put.result
     c.send_blob-put.ensures.sent.taken (∥∥₁_map c.args.self.now.over (λ over. over.came)))
 
 pub returns-in_ok-error-in-Err-clause-refused : goal.returns-in_ok-error-in-Err-clause-refused
