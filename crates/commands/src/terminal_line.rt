@@ -34,6 +34,7 @@ impl<T: Write + Drop> TerminalLine<T> {
     pub fn write(&mut self, text: &str)
         ensures written { IsSome self.old.terminal → self.new.is_written ≡ true }
         ensures silent { self.old.terminal ≡ None → self.new ≡ self.old }
+        ensures kept { is_some self.new.terminal ≡ is_some self.old.terminal }
     {
         if let Some(terminal) = &mut self.terminal {
             let _ = write!(terminal, "\r\x1b[K\x1b[?7l{text}\x1b[?7h");
@@ -47,6 +48,7 @@ impl<T: Write + Drop> TerminalLine<T> {
         ensures idle { self.old.is_written ≡ false → self.new ≡ self.old }
         ensures cleared { self.new.is_written ≡ false }
         ensures silent { self.old.terminal ≡ None → self.new.terminal ≡ None }
+        ensures kept { is_some self.new.terminal ≡ is_some self.old.terminal }
     {
         if !self.is_written {
             return;
