@@ -2,7 +2,6 @@
 -- connection and work. Of a file, that it can't be read comes before what is wrong in its text.
 use Rattle.std.specs.Prelude.{◌≡◌, ◌⊎◌, ℕ, List, codes, string_bytes}
 use Rattle.std.specs.declared.alloc.Global.{Global}
-use Rattle.blob_digest.specs.declared.error.DigestError.{DigestError}
 use Rattle.clap.specs.Words.{Row}
 use Rattle.plan.specs.Faults.{IsPlanFault}
 use Rattle.plan.specs.Record.{IsRecordFault, names_of}
@@ -10,15 +9,14 @@ use Rattle.plan.specs.Values.{PlanValue}
 use Rattle.plan.specs.declared.error.PlanError.{PlanError}
 use Rattle.remote.specs.Line.{ConnectionValue}
 use Rattle.remote.specs.declared.files.FileError.{FileError}
-use Rattle.text_verifier.specs.Refused.{IsNoDigest, IsSpelled}
+use Rattle.text_verifier.specs.Refused.{IsSpelled}
 use Rattle.text_verifier.specs.Texts.{HasPlan, Question}
 use Rattle.verifier.specs.declared.verdict.Verdict.{Verdict}
 use Rattle.command_lines.specs.CommandLine.{option_text}
 use Rattle.commands.specs.declared.connecting.ServerOptions.{ServerOptions}
 use Rattle.commands.specs.declared.error.CommandError.{CommandError}
-use Rattle.commands.specs.declared.error.CommandError.TheVariants.{Digest, Memory, Output}
-use Rattle.commands.specs.declared.error.CommandError.TheVariants.{Text}
-use Rattle.commands.specs.Faults.{error_of_file}
+use Rattle.commands.specs.declared.error.CommandError.TheVariants.{Memory, Output, Text}
+use Rattle.commands.specs.Faults.{IsDigestFault, error_of_file}
 use Rattle.commands.specs.Hints.{IsHint, TellsOfFault}
 use Rattle.commands.specs.Options.{OnNamedServer}
 use Rattle.commands.specs.Places.{FailsInFolder, FailsOver, FailsToConnect, IsConnected}
@@ -48,21 +46,12 @@ abbrev pub IsPrintFault : CommandError → Type 0
 IsPrintFault (Output fault) = Unit {0}
 IsPrintFault _ = ⊥
 
--- the text of an option spells no digest
-pub record IsNoDigestOf (options : List Row) (option text : List ℕ) (fault : DigestError)
-    : Type 0 where
-  pub text_is : text ≡ option_text options option
-  pub none : IsNoDigest text fault
-
 -- the digest of the sources is at fault, or else that of the claim
 abbrev pub FailsDigests : List Row → CommandError → Type 0
-FailsDigests options (Digest option text fault) =
-    ((option.now ≡ codes "sources")
-    × IsNoDigestOf options (codes "sources") (string_bytes text) fault)
-    ⊎ ((option.now ≡ codes "claim") × IsSpelled (option_text options (codes "sources"))
-    × IsNoDigestOf options (codes "claim") (string_bytes text) fault)
-FailsDigests options Memory = Unit {0}
-FailsDigests options _ = ⊥
+FailsDigests options e =
+    IsDigestFault (codes "sources") (option_text options (codes "sources")) e
+    ⊎ (IsSpelled (option_text options (codes "sources"))
+    × IsDigestFault (codes "claim") (option_text options (codes "claim")) e)
 
 -- a file can't be read, or the text that was read of it is at fault, or memory ran out
 abbrev pub FailsText : Sight → List ℕ → (List ℕ → PlanError → Type 0) → CommandError → Type 0

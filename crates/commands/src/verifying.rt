@@ -26,6 +26,7 @@ use crate::connecting::{ServerOptions, read_server};
 use crate::ended::{Ended, Note};
 use crate::error::CommandError;
 use crate::hint::Hint;
+use crate::options::read_digest;
 use crate::shelf::{Place, Shelf};
 use crate::telling::write_bytes;
 use crate::world::{FilesOf, World};
@@ -36,9 +37,7 @@ use remote::{FileError, Remote, Stream};
 use std::alloc::{AllocError, Global};
 use std::io::{ErrorKind, Write};
 use std::marker::Brand;
-use text_verifier::{
-    Answer, Case, Digests, Lack, TextError, answer_question, read_digests, read_plan,
-};
+use text_verifier::{Answer, Case, Digests, Lack, TextError, answer_question, read_plan};
 use tree::FetchError;
 
 /// Where the recorded build is.
@@ -48,7 +47,7 @@ enum Build {
     Server(ServerOptions),
 }
 
-/// The digests that the words spell.
+/// The digests that the words spell. That of the sources is read first.
 fn typed_digests(alloc: Global, matches: &ArgMatches<'_>) -> Result<Digests, CommandError>
     ensures sources { IfOk result (λ digests.
         IsDigestText (option_text (rows_of (found_of matches.now)) (codes "sources"))
@@ -57,22 +56,9 @@ fn typed_digests(alloc: Global, matches: &ArgMatches<'_>) -> Result<Digests, Com
         IsDigestText (option_text (rows_of (found_of matches.now)) (codes "claim")) digests.claim) }
     ensures fault { IfErr result (FailsDigests (rows_of (found_of matches.now))) }
 {
-    let sources = text_of(matches, "sources");
-    let claim = text_of(matches, "claim");
-    match read_digests(sources.as_bytes(), claim.as_bytes()) {
-        Ok(digests) => Ok(digests),
-        Err(TextError::Sources(fault)) => Err(CommandError::Digest {
-            option: "sources",
-            text: String::from_str(alloc, sources)?,
-            fault,
-        }),
-        Err(TextError::Claim(fault)) => Err(CommandError::Digest {
-            option: "claim",
-            text: String::from_str(alloc, claim)?,
-            fault,
-        }),
-        Err(_e) => Err(CommandError::Memory),
-    }
+    let sources = read_digest(alloc, matches, "sources")?;
+    let claim = read_digest(alloc, matches, "claim")?;
+    Ok(Digests { sources, claim })
 }
 
 /// The plan in the file that the words name.
