@@ -217,7 +217,11 @@ def try_trees(builds):
     builds.rows.tell("and it is as it was", standing_at(f"{place}/empty") == made)
     expect("into a file", get(root, f"{place}/plan"), "", 3)
     expect("below a folder that isn't there", get(root, f"{place}/none/tree"), "", 3)
-    expect("the digest of a file", get(Digest.of(NINE).text(), f"{place}/file"), "", 3)
+    blob = Digest.of(NINE).text()
+    unlike = get(blob, f"{place}/file")
+    expect("the digest of a file", unlike, "", 3)
+    said = f"error: {builds.address}: get of blob {blob}: not a Directory; the bytes of a file are got without --into\n"
+    builds.rows.tell("and it is told how those bytes are got", unlike.stderr == said.encode(), unlike)
     outside = {"l": Link("../../plan"), "m": Link("/etc"), "x": File(Digest.of(NINE))}
     made = {"l": "../../plan", "m": "/etc", "x": (NINE, True)}
     expect_tree("links and a program", builds.put(directory_message(outside)), f"{place}/links", made)

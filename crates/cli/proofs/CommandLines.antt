@@ -28,7 +28,7 @@ use Rattle.commands.specs.Told.{PrintsNoLine}
 use Rattle.commands.specs.declared.error.CommandError.{CommandError}
 use Rattle.commands.specs.declared.error.CommandError.TheVariants.{Words, Digest, Number, Text as TextFault, Unlike, File}
 use Rattle.commands.specs.declared.error.CommandError.TheVariants.{NotAFile, TooLarge, Entry, Connection}
-use Rattle.commands.specs.declared.error.CommandError.TheVariants.{Server, WrongBytes, Accept, Address, Random}
+use Rattle.commands.specs.declared.error.CommandError.TheVariants.{Server, Blob, Accept, Address, Random}
 use Rattle.commands.specs.declared.error.CommandError.TheVariants.{Output, Memory, Process}
 
 -- the rows of the subcommand that was found are those of the one that the words call
@@ -120,7 +120,7 @@ status_is (TooLarge path) = inr refl
 status_is (Entry path fault) = inr refl
 status_is (Connection server fault) = inr refl
 status_is (Server server asked digest fault) = inr refl
-status_is (WrongBytes server digest) = inr refl
+status_is (Blob server digest fault) = inr refl
 status_is (Address text fault) = inr refl
 status_is (Accept fault) = inr refl
 status_is (Process fault) = inr refl

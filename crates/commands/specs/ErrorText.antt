@@ -5,12 +5,11 @@ use Rattle.std.specs.Prelude.{◌≡◌, ℕ, List, [], ◌++◌, Option, None, 
 use Rattle.std.specs.Prelude.{bytes_eq, if◌then◌else◌, string_bytes}
 use Rattle.std.specs.Fmt.{debug_str, signed_decimal}
 use Rattle.commands.specs.declared.error.CommandError.{CommandError}
-use Rattle.commands.specs.declared.error.CommandError.TheVariants.{Accept, Address, Connection}
-use Rattle.commands.specs.declared.error.CommandError.TheVariants.{Digest, Entry, File, Memory}
-use Rattle.commands.specs.declared.error.CommandError.TheVariants.{NotAFile, Number, Output}
+use Rattle.commands.specs.declared.error.CommandError.TheVariants.{Accept, Address, Blob}
+use Rattle.commands.specs.declared.error.CommandError.TheVariants.{Connection, Digest, Entry, File}
+use Rattle.commands.specs.declared.error.CommandError.TheVariants.{Memory, NotAFile, Number, Output}
 use Rattle.commands.specs.declared.error.CommandError.TheVariants.{Process, Random, Server, Text}
 use Rattle.commands.specs.declared.error.CommandError.TheVariants.{TooLarge, Unlike, Words}
-use Rattle.commands.specs.declared.error.CommandError.TheVariants.{WrongBytes}
 use Rattle.commands.specs.declared.hint.Hint.{Hint}
 use Rattle.commands.specs.declared.hint.Hint.TheVariants.{BlankAtEnd, CarriageReturn, LaterStep}
 use Rattle.commands.specs.declared.hint.Hint.TheVariants.{NoLine, NoNewline, NoStep, NotEscaped}
@@ -104,12 +103,14 @@ IsErrorText (TooLarge path) text =
 IsErrorText (Unlike option wanted given) text =
     IsOfOption option.now (wanted.now ++ codes " is wanted") (string_bytes given) text
 IsErrorText (Entry path fault) text = IsOfPath (string_bytes path) fault.now text
-IsErrorText (Connection server fault) text = IsWordsOf (string_bytes server) text
+IsErrorText (Connection server fault) text = (said : List ℕ)
+    × IsWordsOf (codes "can't connect") said × (text ≡ said_of (string_bytes server) said)
 IsErrorText (Server server asked digest fault) text =
     IsWordsOfRequest (string_bytes server) asked.now (string_bytes digest) text
-IsErrorText (WrongBytes server digest) text = text ≡ said_of (string_bytes server)
-    (said_of (codes "get of blob " ++ string_bytes digest) (codes "other bytes came"))
-IsErrorText (Address place fault) text = IsWordsAt (string_bytes place) text
+IsErrorText (Blob server digest fault) text = text ≡ said_of (string_bytes server)
+    (said_of (codes "get of blob " ++ string_bytes digest) fault.now)
+IsErrorText (Address place fault) text = (said : List ℕ)
+    × IsWordsOf (codes "can't listen") said × IsOfPath (string_bytes place) said text
 IsErrorText (Accept fault) text =
     IsWordsOf (codes "no more connections are served after " ++ decimal fault.accepted) text
 IsErrorText (Process fault) text = IsProcessText fault text

@@ -85,7 +85,7 @@ kept_failure before method d (Err refusals.Failed) (Some fault) =
     Some (record { method = method; digest = d; fault = fault })
 kept_failure before method d (Err refusals.Memory) (Some fault) = before
 
--- the error tells this of what stands at the place, or under the digest
+-- the error tells this of what stands at the place
 abbrev pub TellsOfEntry : List ℕ → List ℕ → CommandError → Type 0
 TellsOfEntry place words (Entry p fault) = (string_bytes p ≡ place) × (fault.now ≡ words)
 TellsOfEntry place words _ = ⊥

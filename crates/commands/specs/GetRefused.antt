@@ -20,18 +20,18 @@ use Rattle.commands.specs.Trees.{AsksTree}
 use Rattle.commands.specs.Words.{AllValid, FailsFirst, server_words}
 use Rattle.commands.specs.World.{Sight}
 use Rattle.commands.specs.declared.error.CommandError.{CommandError}
-use Rattle.commands.specs.declared.error.CommandError.TheVariants.{File, Memory, WrongBytes}
+use Rattle.commands.specs.declared.error.CommandError.TheVariants.{Blob, File, Memory}
 use Rattle.commands.specs.declared.failure.Method.TheVariants.{GetBlob}
 use Rattle.http_core.specs.declared.event.Area.TheVariants.{Cas}
 use Rattle.messages.specs.Path.{path_text}
 use Rattle.remote.specs.Line.{ConnectionValue}
 use Rattle.text_verifier.specs.Refused.{IsSpelled}
 
--- the error tells that the server sent other bytes for the digest
-abbrev pub IsWrongBytes : List ℕ → DigestValue → CommandError → Type 0
-IsWrongBytes address d (WrongBytes server digest) =
-    (string_bytes server ≡ address) × (string_bytes digest ≡ digest_text d)
-IsWrongBytes address d _ = ⊥
+-- the error tells this of what the server sent for the digest
+abbrev pub IsBadBlob : List ℕ → DigestValue → List ℕ → CommandError → Type 0
+IsBadBlob address d words (Blob server digest fault) = (string_bytes server ≡ address)
+    × (string_bytes digest ≡ digest_text d) × (fault.now ≡ words)
+IsBadBlob address d words _ = ⊥
 
 -- ---- a blob
 
@@ -47,7 +47,8 @@ pub data FailsGetBlob (start : ConnectionValue) (address : List ℕ) (digest : D
     (e : CommandError) : Type 0 where
   in_reply : digest ≢ empty_digest → RefusesAt gets_alone start address GetBlob digest [] e
       → FailsGetBlob start address digest e
-  in_bytes : digest ≢ empty_digest → ComesWrong start digest → IsWrongBytes address digest e
+  in_bytes : digest ≢ empty_digest → ComesWrong start digest
+      → IsBadBlob address digest (codes "other bytes came") e
       → FailsGetBlob start address digest e
   in_output : (bytes : List ℕ) → IsBlobOver start digest bytes → IsPrintFault e
       → FailsGetBlob start address digest e
@@ -59,9 +60,9 @@ pub data FailsGetBlob (start : ConnectionValue) (address : List ℕ) (digest : D
 abbrev pub TellsCheckout : ConnectionValue → List ℕ → CheckoutError Global → CommandError → Type 0
 TellsCheckout start address (trees.Missing d) e = ∥ FailsOver gets_alone start address e ∥₁
     ⊎ (∥ LacksOver gets_alone start Cas d.hash ∥₁ × IsPrintFault e)
-TellsCheckout start address (trees.Wrong d) e = IsWrongBytes address d e
+TellsCheckout start address (trees.Wrong d) e = IsBadBlob address d (codes "other bytes came") e
 TellsCheckout start address (trees.Malformed d) e =
-    TellsOfEntry (digest_text d) (codes "not a Directory") e
+    IsBadBlob address d (codes "not a Directory; the bytes of a file are got without --into") e
 TellsCheckout start address (trees.TooDeep path) e =
     TellsOfEntry (path_text path) (codes "a path of more than 64 names") e
 TellsCheckout start address trees.Fetch e = ∥ FailsOver gets_alone start address e ∥₁

@@ -5,7 +5,7 @@ use Rattle.commands.specs.declared.error.CommandError.TheVariants.{Words, Digest
 use Rattle.commands.specs.declared.error.CommandError.TheVariants.{Unlike, File, NotAFile, TooLarge}
 use Rattle.commands.specs.declared.error.CommandError.TheVariants.{Entry, Connection, Server}
 use Rattle.commands.specs.declared.error.CommandError.TheVariants.{Accept, Address, Random, Output}
-use Rattle.commands.specs.declared.error.CommandError.TheVariants.{Memory, Process, WrongBytes}
+use Rattle.commands.specs.declared.error.CommandError.TheVariants.{Blob, Memory, Process}
 
 -- 2 where the words or the texts that they name are at fault, and 3 where a file, a socket, a
 -- server, the output or memory is
@@ -21,7 +21,7 @@ exit_status (TooLarge path) = 3
 exit_status (Entry path fault) = 3
 exit_status (Connection server fault) = 3
 exit_status (Server server asked digest fault) = 3
-exit_status (WrongBytes server digest) = 3
+exit_status (Blob server digest fault) = 3
 exit_status (Address text fault) = 3
 exit_status (Accept fault) = 3
 exit_status (Process fault) = 3

@@ -53,7 +53,7 @@ pub enum CommandError {
         wanted: &'static str,
         text: String,
     },
-    /// What stands at the path, or under the digest, can't be put or be part of a tree.
+    /// What stands at the path can't be put or be part of a tree.
     Entry {
         path: String,
         fault: &'static str,
@@ -70,10 +70,11 @@ pub enum CommandError {
         digest: String,
         fault: Fault,
     },
-    /// The server sent bytes that don't have the digest.
-    WrongBytes {
+    /// What the server sent for the digest can't be taken.
+    Blob {
         server: String,
         digest: String,
+        fault: &'static str,
     },
     /// No socket could be bound at the address.
     Address {
@@ -109,7 +110,7 @@ impl CommandError {
             | CommandError::Entry { .. }
             | CommandError::Connection { .. }
             | CommandError::Server { .. }
-            | CommandError::WrongBytes { .. }
+            | CommandError::Blob { .. }
             | CommandError::Address { .. }
             | CommandError::Accept(_)
             | CommandError::Process(_)

@@ -134,24 +134,47 @@ fn fault_of_request(
     said_of(alloc, server, said.as_str())
 }
 
-/// That other bytes came for a digest.
-fn wrong_bytes(alloc: Global, server: &str, digest: &str) -> Result<String, AllocError>
-    ensures { IfOk result (λ text. string_bytes text ≡ said_of server.now
-        (said_of (codes "get of blob " ++ digest.now) (codes "other bytes came"))) }
+/// Why what a server sent for a digest can't be taken.
+fn bad_blob(
+    alloc: Global,
+    server: &str,
+    digest: &str,
+    fault: &str,
+) -> Result<String, AllocError>
+    ensures { IfOk result (λ text. string_bytes text
+        ≡ said_of server.now (said_of (codes "get of blob " ++ digest.now) fault.now)) }
 {
     let request = format!(in alloc; "get of blob {digest}")?;
-    let said = said_of(alloc, request.as_str(), "other bytes came")?;
+    let said = said_of(alloc, request.as_str(), fault)?;
     said_of(alloc, server, said.as_str())
 }
 
-/// That no more connections are served.
+/// That no connection to a server could be opened.
+fn not_connected(alloc: Global, server: &str, fault: &io::Error) -> Result<String, AllocError>
+    ensures { IfOk result (λ text. (said : List ℕ) × IsWordsOf (codes "can't connect") said
+        × (string_bytes text ≡ said_of server.now said)) }
+{
+    let said = fault_of(alloc, "can't connect", fault)?;
+    said_of(alloc, server, said.as_str())
+}
+
+/// That no socket could be bound at an address.
+fn not_listening(alloc: Global, address: &str, fault: &io::Error) -> Result<String, AllocError>
+    ensures { IfOk result (λ text. (said : List ℕ) × IsWordsOf (codes "can't listen") said
+        × IsOfPath address.now said (string_bytes text)) }
+{
+    let said = fault_of(alloc, "can't listen", fault)?;
+    of_path(alloc, address, said.as_str())
+}
+
+/// That no more connections could be accepted.
 fn not_accepted(alloc: Global, fault: &NotAccepted) -> Result<String, AllocError>
     ensures { IfOk result (λ text. IsWordsOf
-        (codes "no more connections are served after " ++ decimal fault.now.accepted)
+        (codes "no connection could be accepted after " ++ decimal fault.now.accepted)
         (string_bytes text)) }
 {
     let accepted = fault.accepted;
-    let head = format!(in alloc; "no more connections are served after {accepted}")?;
+    let head = format!(in alloc; "no connection could be accepted after {accepted}")?;
     fault_of(alloc, head.as_str(), &fault.fault)
 }
 
@@ -210,17 +233,19 @@ pub(crate) fn error_text(alloc: Global, error: &CommandError) -> Result<String, 
         CommandError::NotAFile { path } => of_path(alloc, path.as_str(), "not a file"),
         CommandError::TooLarge { path } => of_path(alloc, path.as_str(), TOO_LARGE),
         CommandError::Entry { path, fault } => of_path(alloc, path.as_str(), fault),
-        CommandError::Connection { server, fault } => fault_of(alloc, server.as_str(), fault),
+        CommandError::Connection { server, fault } => not_connected(alloc, server.as_str(), fault),
         CommandError::Server {
             server,
             asked,
             digest,
             fault,
         } => fault_of_request(alloc, server.as_str(), asked, digest.as_str(), fault),
-        CommandError::WrongBytes { server, digest } => {
-            wrong_bytes(alloc, server.as_str(), digest.as_str())
-        }
-        CommandError::Address { address, fault } => fault_at(alloc, address.as_str(), fault),
+        CommandError::Blob {
+            server,
+            digest,
+            fault,
+        } => bad_blob(alloc, server.as_str(), digest.as_str(), fault),
+        CommandError::Address { address, fault } => not_listening(alloc, address.as_str(), fault),
         CommandError::Accept(fault) => not_accepted(alloc, fault),
         CommandError::Process(fault) => process_text(alloc, fault),
         CommandError::Random(fault) => fault_of(alloc, "random bytes", fault),

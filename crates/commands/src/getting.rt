@@ -63,9 +63,10 @@ fn get_blob<S: Stream + Drop>(
             if has_digest(&bytes, digest) {
                 return Ok(Some(bytes));
             }
-            Err(CommandError::WrongBytes {
+            Err(CommandError::Blob {
                 server: String::from_str(alloc, server.address.as_str())?,
                 digest: digest.write_text(alloc)?,
+                fault: "other bytes came",
             })
         }
         Err(refusal) => {

@@ -70,13 +70,15 @@ fn print_lack<S: Stream + Drop, K: Origin, O: Write>(
         }
         CheckoutError::Place { path, fault } => Err(CommandError::File { path, fault }),
         CheckoutError::Fetch => Err(client.error(alloc, server, FetchError::Failed)?),
-        CheckoutError::Wrong(digest) => Err(CommandError::WrongBytes {
+        CheckoutError::Wrong(digest) => Err(CommandError::Blob {
             server: String::from_str(alloc, server.address.as_str())?,
             digest: digest.write_text(alloc)?,
+            fault: "other bytes came",
         }),
-        CheckoutError::Malformed(digest) => Err(CommandError::Entry {
-            path: digest.write_text(alloc)?,
-            fault: "not a Directory",
+        CheckoutError::Malformed(digest) => Err(CommandError::Blob {
+            server: String::from_str(alloc, server.address.as_str())?,
+            digest: digest.write_text(alloc)?,
+            fault: "not a Directory; the bytes of a file are got without --into",
         }),
         CheckoutError::TooDeep(path) => Err(CommandError::Entry {
             path: String::from_str(alloc, path.as_str())?,

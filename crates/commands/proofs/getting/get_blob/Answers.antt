@@ -45,7 +45,7 @@ returns-in_ok-write_text-in-Ok-Some-clause-fault g c =
       came = got_bytes Cas digest (connection_of flow old) (connection_of flow new) (blobs_of old) (blobs_of new) c.fetch.result c.in-Ok-Some.bytes
           c.fetch.ensures.asked (c.requires.blobs digest) is;
       other = other;
-    }) (c.in_ok-from_str-in-Ok-Some.ensures.ok ∙ c.as_str.ensures.value, c.in_ok-write_text-in-Ok-Some.ensures))
+    }) (c.in_ok-from_str-in-Ok-Some.ensures.ok ∙ c.as_str.ensures.value, c.in_ok-write_text-in-Ok-Some.ensures, refl))
 
 pub returns-in_ok-server_error-in-Err-clause-fault : goal.returns-in_ok-server_error-in-Err-clause-fault
 returns-in_ok-server_error-in-Err-clause-fault g c =
