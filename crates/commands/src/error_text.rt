@@ -167,14 +167,14 @@ fn not_listening(alloc: Global, address: &str, fault: &io::Error) -> Result<Stri
     of_path(alloc, address, said.as_str())
 }
 
-/// That no more connections could be accepted.
+/// That no more connections are served.
 fn not_accepted(alloc: Global, fault: &NotAccepted) -> Result<String, AllocError>
     ensures { IfOk result (λ text. IsWordsOf
-        (codes "no connection could be accepted after " ++ decimal fault.now.accepted)
+        (codes "no more connections are served after " ++ decimal fault.now.accepted)
         (string_bytes text)) }
 {
     let accepted = fault.accepted;
-    let head = format!(in alloc; "no connection could be accepted after {accepted}")?;
+    let head = format!(in alloc; "no more connections are served after {accepted}")?;
     fault_of(alloc, head.as_str(), &fault.fault)
 }
 
