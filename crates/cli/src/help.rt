@@ -16,6 +16,12 @@ Commands:
 Options:
   -h, --help     Print help
   -V, --version  Print version
+
+Status:
+  0  Yes, or done
+  1  No, or a step was refused, as standard output says; or no such blob
+  2  The words, a digest, the plan or the record are at fault
+  3  A file, the server, a process or memory failed: no verdict
 ";
 
 const SERVE: &str = "\
@@ -27,7 +33,7 @@ Usage: buildcache serve [OPTIONS] --listen <ADDR> --connections <N> --limit <BYT
 Options:
       --listen <ADDR>         Where to listen, HOST:PORT; port 0 is any that is free
       --connections <N>       How many connections to serve before it ends
-      --limit <BYTES>         How many bytes the blobs may have together
+      --limit <BYTES>         How many bytes the blobs may have together; one has at most 16777216
       --result-limit <BYTES>  The same of the results, and 64 for each
       --prefix <P>            What stands before /cas and /ac
       --idle <SECONDS>        How long a client may be silent (60; 0: for ever)
@@ -39,7 +45,7 @@ const VERIFY: &str = "\
 Say whether every build of a plan ends in exactly the claimed root
 
 Usage: buildcache verify [OPTIONS] --sources <DIGEST> --plan <FILE> --record <FILE> \
---claim <DIGEST>
+--claim <DIGEST> <--server <ADDR>|--store <FOLDER>>
 
 Options:
       --server <ADDR>      The server that has the recorded build, HOST:PORT
@@ -51,6 +57,12 @@ Options:
       --record <FILE>      The record of the recorded build
       --claim <DIGEST>     The digest of the root that is claimed, as HASH/SIZE
   -h, --help               Print help
+
+Status:
+  0  Yes
+  1  No
+  2  The words, a digest, the plan or the record are at fault
+  3  A file, the server or memory failed: no verdict
 ";
 
 const PUT: &str = "\
