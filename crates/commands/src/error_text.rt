@@ -135,12 +135,7 @@ fn fault_of_request(
 }
 
 /// Why what a server sent for a digest can't be taken.
-fn bad_blob(
-    alloc: Global,
-    server: &str,
-    digest: &str,
-    fault: &str,
-) -> Result<String, AllocError>
+fn bad_blob(alloc: Global, server: &str, digest: &str, fault: &str) -> Result<String, AllocError>
     ensures { IfOk result (λ text. string_bytes text
         ≡ said_of server.now (said_of (codes "get of blob " ++ digest.now) fault.now)) }
 {
