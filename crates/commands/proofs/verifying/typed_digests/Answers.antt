@@ -5,10 +5,10 @@ use Rattle.commands.proofs.Exits.{exit_by}
 use Rattle.commands.proofs.verifying.typed_digests.Goals as goal
 
 pub returns-in_err-sources-clause-fault : goal.returns-in_err-sources-clause-fault
-returns-in_err-sources-clause-fault g c =
+returns-in_err-sources-clause-fault c =
     exit_by (FailsDigests (rows_of (found_of c.args.matches.now))) _ c.from_residual.ensures.1 (inl c.in_err-sources.ensures.fault)
 
 pub returns-in_err-claim-clause-fault : goal.returns-in_err-claim-clause-fault
-returns-in_err-claim-clause-fault g c =
+returns-in_err-claim-clause-fault c =
     exit_by (FailsDigests (rows_of (found_of c.args.matches.now))) _ c.from_residual-in_err-claim.ensures.1
     (inr ((c.in_ok-sources.sources, c.in_ok-sources.ensures.found), c.in_err-claim.ensures.fault))
