@@ -261,11 +261,7 @@ impl<W: Workshop + Drop, A: Allocator + Copy> Runner<A> for ProcessRunner<W, A> 
         }
     }
 
-    fn finish(
-        &mut self,
-        alloc: A,
-        job: ProcessJob<W::Child, A>,
-    ) -> Result<Produced<A>, RunError<A>>
+    fn finish(&mut self, alloc: A, job: ProcessJob<W::Child, A>) -> Result<Produced<A>, RunError<A>>
         ensures gave { IfOk result (λ p. may_come W.works job (made p)) }
         ensures bad { (path : List (List ℕ)) → IsErrOf result (RunError.BadOutput path)
             → may_come W.works job (bad_at path) }
