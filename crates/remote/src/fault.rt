@@ -8,7 +8,7 @@ pub enum Fault {
     #[error("the connection failed, ended, or was silent too long")]
     Io,
     /// What came isn't a reply that a client here reads: one of HTTP/1.1 with one `Content-Length`.
-    #[error("the server's reply is none of HTTP/1.1")]
+    #[error("the server's reply isn't of HTTP/1.1 with one Content-Length of at most 16777216")]
     BadReply,
     /// The reply has another status than those that answer.
     #[error("the server answered with status {0}")]

@@ -65,8 +65,7 @@ impl<'r, R: Files + Alloc<A = A>, A: Allocator + Copy> FileReader<A> for SystemF
 
     ghost fails = { λ _ _. Unit {0} };
 
-    fn read_at(&self, alloc: A, path: &str) -> Result<Vec<u8, A>, FileError<A>> {
-        let _alloc = alloc;
+    fn read_at(&self, _alloc: A, path: &str) -> Result<Vec<u8, A>, FileError<A>> {
         read_file(self.0, path)
     }
 }

@@ -14,6 +14,9 @@ use std::alloc::Allocator;
 /// The greatest length of a block.
 const MAX_BLOCK: usize = 16384;
 
+/// As many bytes as a block's end has.
+const END: usize = 4;
+
 /// The greatest length of a piece that is read at once.
 const PIECE: usize = 16384;
 
@@ -88,6 +91,7 @@ fn read_block<S: Stream, A: Allocator + Copy>(
         (S.flow stream.new) block.items) }
     ensures err { IfErr result (ReadsNone (S.flow stream.old) (S.flow stream.new)) }
 {
+    let mut buffer = [0; END];
     let mut block = Vec::new(alloc);
     let mut missing = wanting(&block);
     while missing > 0 {
@@ -95,7 +99,7 @@ fn read_block<S: Stream, A: Allocator + Copy>(
         if room == 0 {
             return Err(Refusal::BadReply);
         }
-        receive_piece(stream, &mut block, missing.min(room))?;
+        receive_piece(stream, &mut block, missing.min(room), &mut buffer)?;
         missing = wanting(&block);
     }
     Ok(block)
@@ -112,27 +116,30 @@ fn read_body<S: Stream, A: Allocator + Copy>(
         (S.flow stream.new) body.items) }
     ensures err { IfErr result (InterruptsBody (S.flow stream.old) (S.flow stream.new) size) }
 {
+    let mut buffer = [0; PIECE];
     let mut body = Vec::new(alloc);
     while body.len() < size {
         let missing = size - body.len();
-        receive_piece(stream, &mut body, missing)?;
+        receive_piece(stream, &mut body, missing, &mut buffer)?;
     }
     Ok(body)
 }
 
-/// Adds some bytes that are read, at most `most`, to those at hand.
+/// Adds some bytes that are read, at most `most`, to those at hand. They go through the buffer.
 fn receive_piece<S: Stream, A: Allocator + Copy>(
     stream: &mut S,
     bytes: &mut Vec<u8, A>,
     most: usize,
+    buffer: &mut [u8],
 ) -> Result<(), Refusal>
-    requires { 0 < most }
+    requires some { 0 < most }
+    requires room { 0 < length buffer.old }
     ensures ok { OnOk result (Adds (S.flow stream.old)
         (S.flow stream.new) most bytes.old.items bytes.new.items) }
     ensures err { IfErr result (Interrupts (S.flow stream.old) (S.flow stream.new)) }
+    ensures buffer { length buffer.new ≡ length buffer.old }
 {
-    let mut buffer = [0; PIECE];
-    let (room, _) = buffer.split_at_mut(most.min(PIECE));
+    let (room, _) = buffer.split_at_mut(most.min(buffer.len()));
     let Ok(count) = stream.receive(room) else {
         return Err(Refusal::Io);
     };

@@ -10,13 +10,13 @@ pub returns-in_err-receive_piece-clause-err : goal.returns-in_err-receive_piece-
 returns-in_err-receive_piece-clause-err g c =
     let flow = g.S.Stream.flow in
     let old = flow c.args.stream.now in
-    let mid = flow c.loop-body.stream in
+    let mid = flow c.loop-buffer.stream in
     let new = flow c.receive_piece.new.stream in
-    let body = c.loop-body.body.items in
-    let reads : Receives old mid body = c.loop-body.invariant.read in
+    let body = c.loop-buffer.body.items in
+    let reads : Receives old mid body = c.loop-buffer.invariant.read in
     let ends : (e : Refusal) → Interrupts mid new e → InterruptsBody old new c.args.size e = λ e i. record {
       other = i.other;
-      part = λ is. (body, omega (arith, c.loop-body-test.true, c.len-in-loop-body.ensures), receives_no_more old mid new body reads (i.none is));
+      part = λ is. (body, omega (arith, c.loop-buffer-test.true, c.len-in-loop-buffer.ensures), receives_no_more old mid new body reads (i.none is));
       stopped = i.stopped;
       some = λ is. some_after old mid new body reads (i.some is);
       sent = i.sent ∙ reads.sent;
