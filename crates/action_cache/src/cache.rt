@@ -156,6 +156,7 @@ impl<A: Allocator + Copy> ActionCache<A> {
             (λ s. s ≡ (blob_got by_messages self.old hash.now).1)) }
         ensures value { option_copied result
             ≡ bytes_given (blob_got by_messages self.old hash.now).0 }
+        ensures hash { HasHash (option_copied result) hash.now }
     {
         use_blob(&mut self.blobs, hash);
         let bytes = self.blobs.peek(hash)?;

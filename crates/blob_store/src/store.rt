@@ -174,6 +174,7 @@ impl<A: Allocator + Copy> BlobStore<A> {
         ensures* moves { sem 𝓛 (Ends A.row A.Allocator self.entry
             (λ s. s ≡ used self.old hash.now)) }
         ensures value { option_copied result ≡ held_under (found_in self.old.entries) hash.now }
+        ensures hash { HasHash (option_copied result) hash.now }
     {
         let no_bytes = self.no_bytes;
         use_blob(&mut self.blobs, &no_bytes, hash);

@@ -19,7 +19,8 @@ returns-in_err-bytes g c =
     let h = c.args.hash.now in
     let s = ap (λ (t : Kept (List ℕ)). state_of t.limit i.results.limit t.entries i.results.entries) c.use_blob.ensures ∙ used_got by_messages i.blobs i.results.limit i.results.entries h in
     let v = (rw c.in_err-bytes.was at c.peek.ensures.value) ∙ ap (λ (t : Kept (List ℕ)). held_under (found_in t.entries) h) c.use_blob.ensures ∙ held_used i.blobs h h ∙ given_is by_messages i.blobs i.results.limit i.results.entries h in
-    rw (← c.self.view_is, c.from_residual.ensures) ((refl, λ _. tt, s), record { moves = tt; value = v })
+    let k = rw c.in_err-bytes.was at c.peek.ensures.hash in
+    rw (← c.self.view_is, c.from_residual.ensures) ((refl, λ _. tt, s), record { moves = tt; value = v; hash = k })
 
 pub returns : goal.returns
 returns g c =
@@ -27,4 +28,5 @@ returns g c =
     let h = c.args.hash.now in
     let s = ap (λ (t : Kept (List ℕ)). state_of t.limit i.results.limit t.entries i.results.entries) c.use_blob.ensures ∙ used_got by_messages i.blobs i.results.limit i.results.entries h in
     let v = (rw c.in_ok-bytes.was at c.peek.ensures.value) ∙ ap (λ (t : Kept (List ℕ)). held_under (found_in t.entries) h) c.use_blob.ensures ∙ held_used i.blobs h h ∙ given_is by_messages i.blobs i.results.limit i.results.entries h in
-    rw (← c.self.view_is) ((refl, λ _. tt, s), record { moves = tt; value = v })
+    let k = rw c.in_ok-bytes.was at c.peek.ensures.hash in
+    rw (← c.self.view_is) ((refl, λ _. tt, s), record { moves = tt; value = v; hash = k })
