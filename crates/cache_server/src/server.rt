@@ -43,6 +43,7 @@ impl<A: Allocator + Copy> Server<A> {
     pub fn new(alloc: A, cache: Cache<A>, prefix: Prefix<A>) -> Server<A>
         ensures stands { ServerStands cache result [] }
         ensures prefix { result.prefix ≡ prefix }
+        ensures none { (k : ℕ) → session_at result k ≡ None }
     {
         Server {
             cache,
