@@ -1,9 +1,9 @@
 -- What a cache answers to the events of a stream.
-use Rattle.std.specs.Prelude.{ℕ, List, [], ◌∷◌, ◌++◌, false}
+use Rattle.std.specs.Prelude.{ℕ, List, [], ◌∷◌, ◌++◌}
 use Rattle.http_core.specs.Event.{EventValue, Asked, Refused}
 use Rattle.http_core.specs.Reply.{ReplyValue, bare, reply_text}
 use Rattle.cache_server.specs.Cache.{CacheValue, MayWant, applied}
-use Rattle.cache_server.specs.Counts.{count_one}
+use Rattle.cache_server.specs.Counts.{with_request}
 
 -- the text that answers the event, and the cache after it; a refused request is counted
 unfoldable pub answered : CacheValue → EventValue → List ℕ × CacheValue
@@ -11,7 +11,7 @@ answered c (Asked ask close) =
     let out : ReplyValue × CacheValue = applied c ask in (reply_text out.0 close, out.1)
 answered c (Refused status close) = (
   reply_text (bare status) close,
-  record { state = c.state; counts = count_one false false c.counts },
+  record { state = c.state; counts = with_request c.counts },
 )
 
 -- what memory may be wanting for: a refused request is answered without any

@@ -191,13 +191,12 @@ impl<A: Allocator + Copy> Cache<A> {
         match ask {
             Ask::Get(area, hash) => {
                 let reply = look_up(alloc, &mut self.store, area, &hash)?;
-                let found = reply.status == 200;
-                self.counts.add(found, !found);
+                self.counts.count_look_up(reply.status == 200);
                 Ok(reply)
             }
             Ask::Put(area, hash, body) => {
                 let status = put(alloc, &mut self.store, area, hash, body)?;
-                self.counts.add(false, false);
+                self.counts.count_other();
                 Ok(Reply::bare(alloc, status))
             }
         }
@@ -216,7 +215,7 @@ impl<A: Allocator + Copy> Cache<A> {
                 Ok(Answer::new(reply, close))
             }
             Event::Refuse(status, close) => {
-                self.counts.add(false, false);
+                self.counts.count_other();
                 Ok(Answer::new(Reply::bare(alloc, status), close))
             }
         }

@@ -1,5 +1,5 @@
 ghost use Rattle.std.specs.Prelude.{◌≡◌};
-ghost use Rattle.cache_server.specs.Counts.{count_one, no_counts, with_later};
+ghost use Rattle.cache_server.specs.Counts.{no_counts, with_later, with_look_up, with_request};
 
 /// How many requests were answered, how many of them were look-ups that found what they asked for,
 /// and how many look-ups didn't.
@@ -34,16 +34,22 @@ impl Counts {
         self.misses = self.misses.saturating_add(misses);
     }
 
-    /// Counts a request, and whether it found what it looked up or didn't.
-    pub(crate) fn add(&mut self, hit: bool, miss: bool)
-        ensures { self.new ≡ count_one hit miss self.old }
+    /// Counts a look-up, and whether it found what it asked for.
+    pub(crate) fn count_look_up(&mut self, found: bool)
+        ensures { self.new ≡ with_look_up found self.old }
     {
-        self.requests = self.requests.saturating_add(1);
-        if hit {
+        self.count_other();
+        if found {
             self.hits = self.hits.saturating_add(1);
-        }
-        if miss {
+        } else {
             self.misses = self.misses.saturating_add(1);
         }
+    }
+
+    /// Counts a request, which looks nothing up.
+    pub(crate) fn count_other(&mut self)
+        ensures { self.new ≡ with_request self.old }
+    {
+        self.requests = self.requests.saturating_add(1);
     }
 }

@@ -23,8 +23,8 @@ returns-in-Refuse-clause-ok g c =
     let status = c.in-Refuse.status in
     let close = c.in-Refuse.close in
     let state = c.self.inside.store in
-    let new : CacheValue = record { state = state; counts = c.add.new.self } in
+    let new : CacheValue = record { state = state; counts = c.count_other.new.self } in
     ap (λ e. answered c.args.self.now (event_of e)) c.in-Refuse.is
     ∙ ap (λ (z : CacheValue). answered z (Refused status close)) (sym c.self.view_is)
-    ∙ ap (λ (k : Counts). let z : CacheValue = record { state = state; counts = k } in (reply_text (bare status) close, z)) (sym c.add.ensures)
+    ∙ ap (λ (k : Counts). let z : CacheValue = record { state = state; counts = k } in (reply_text (bare status) close, z)) (sym c.count_other.ensures)
     ∙ ap (λ (t : List ℕ). (t, new)) (ap (λ (r : ReplyValue). reply_text r close) (sym c.bare.ensures) ∙ sym c.new-in-Refuse.ensures)
