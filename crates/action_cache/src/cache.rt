@@ -29,6 +29,9 @@ use std::alloc::{AllocError, Allocator};
 use std::hash::RandomState;
 use std::marker::Model;
 
+/// What a result costs beyond its bytes.
+const RESULT_OVERHEAD: u64 = 64;
+
 /// Blobs under their hashes, and results under those of their actions, each most recently used
 /// first. Clauses see them without counts of pins: a result has a mark, and a blob is pinned where
 /// a marked result refers to it.
@@ -102,7 +105,7 @@ impl<A: Allocator + Copy> ActionCache<A> {
         ensures { IfOk result (λ c. c ≡ empty_cache limit result_limit) }
     {
         let blobs = BlobStore::new(alloc, state, limit)?;
-        let results = Bounded::new(alloc, state, result_limit, 64)?;
+        let results = Bounded::new(alloc, state, result_limit, RESULT_OVERHEAD)?;
         Ok(ActionCache { blobs, results })
     }
 

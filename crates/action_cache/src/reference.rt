@@ -63,12 +63,11 @@ fn push_stream<A: Allocator>(
 ) -> Result<(), AllocError>
     ensures { OnOk result (out.new.items ≡ out.old.items ++ to_stream digest) }
 {
-    match digest {
-        Some(digest) => out.push(Reference {
+    if let Some(digest) = digest {
+        out.push(Reference {
             digest,
             is_tree: false,
-        })?,
-        None => (),
+        })?;
     }
     Ok(())
 }

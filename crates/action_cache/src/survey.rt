@@ -7,7 +7,7 @@ ghost use Rattle.action_cache.specs.Reading.{by_messages};
 ghost use Rattle.action_cache.specs.Survey.{known, AreOnce, IsSurvey};
 
 use crate::reference::{Reference, read_outputs};
-use crate::trees::{Trees, blob_of, files_of, read_trees};
+use crate::trees::{Trees, files_of, read_trees};
 use blob_digest::Digest;
 use blob_store::BlobStore;
 use std::alloc::{AllocError, Allocator};
@@ -35,9 +35,8 @@ fn push_output<A: Allocator + Copy>(
 {
     out.push(output.digest)?;
     if output.is_tree {
-        match files_of(trees, &output.digest) {
-            Some(files) => out.extend_from_slice(files)?,
-            None => (),
+        if let Some(files) = files_of(trees, &output.digest) {
+            out.extend_from_slice(files)?;
         }
     }
     Ok(())
@@ -64,7 +63,7 @@ fn first_missing<A: Allocator + Copy>(blobs: &BlobStore<A>, digests: &[Digest]) 
     ensures { result ≡ find (λ d. not (is_held (found_in blobs.now.entries) d)) digests.now }
 {
     for digest in digests {
-        if blob_of(blobs, digest).is_none() {
+        if !blobs.contains(digest) {
             return Some(*digest);
         }
     }
@@ -80,7 +79,7 @@ fn fault_of<A: Allocator + Copy>(
 ) -> Option<Digest>
     ensures { result ≡ fault_by (found_in blobs.now.entries) (known trees.now) output.now }
 {
-    if blob_of(blobs, &output.digest).is_none() {
+    if !blobs.contains(&output.digest) {
         return Some(output.digest);
     }
     if !output.is_tree {
@@ -101,9 +100,8 @@ fn first_fault<A: Allocator + Copy>(
     ensures { result ≡ first_fault_by (found_in blobs.now.entries) (known trees.now) outputs.now }
 {
     for output in outputs {
-        match fault_of(blobs, trees, output) {
-            Some(digest) => return Some(digest),
-            None => (),
+        if let Some(digest) = fault_of(blobs, trees, output) {
+            return Some(digest);
         }
     }
     None
@@ -140,9 +138,8 @@ pub(crate) fn walk<A: Allocator + Copy>(
 ) -> Result<Option<Survey<A>>, AllocError>
     ensures { IfOk result (IsSurvey by_messages (found_in blobs.now.entries) bytes.now) }
 {
-    let outputs = match read_outputs(alloc, bytes)? {
-        Some(outputs) => outputs,
-        None => return Ok(None),
+    let Some(outputs) = read_outputs(alloc, bytes)? else {
+        return Ok(None);
     };
     let trees = read_trees(alloc, blobs, &outputs)?;
     let references = list_references(alloc, &trees, &outputs)?;

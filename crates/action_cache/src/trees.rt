@@ -18,10 +18,7 @@ use std::collections::BTreeMap;
 pub(crate) type Trees<A> = BTreeMap<Digest, Option<Vec<Digest, A>>, A>;
 
 /// The blob that a digest names, if it is held.
-pub(crate) fn blob_of<'a, A: Allocator + Copy>(
-    blobs: &'a BlobStore<A>,
-    digest: &Digest,
-) -> Option<&'a [u8]>
+fn blob_of<'a, A: Allocator + Copy>(blobs: &'a BlobStore<A>, digest: &Digest) -> Option<&'a [u8]>
     ensures { option_copied result ≡ blob_of (found_in blobs.now.entries) digest.now }
 {
     match blobs.peek(&digest.hash()) {
@@ -85,9 +82,8 @@ fn read_files<A: Allocator + Copy>(
     ensures { IfOk result (λ files. files_listed files
         ≡ files_of (found_in blobs.now.entries) by_messages digest.now) }
 {
-    let bytes = match blob_of(blobs, digest) {
-        Some(bytes) => bytes,
-        None => return Ok(None),
+    let Some(bytes) = blob_of(blobs, digest) else {
+        return Ok(None);
     };
     match Tree::decode(alloc, bytes) {
         Ok(tree) => Ok(Some(files_in_tree(alloc, &tree)?)),
@@ -143,7 +139,6 @@ pub(crate) fn files_of<'a, A: Allocator + Copy>(
 {
     match trees.get(digest) {
         Some(Some(files)) => Some(files.as_slice()),
-        Some(None) => None,
-        None => None,
+        Some(None) | None => None,
     }
 }
