@@ -21,16 +21,8 @@ pub(crate) type Trees<A> = BTreeMap<Digest, Option<Vec<Digest, A>>, A>;
 fn blob_of<'a, A: Allocator + Copy>(blobs: &'a BlobStore<A>, digest: &Digest) -> Option<&'a [u8]>
     ensures { option_copied result ≡ blob_of (found_in blobs.now.entries) digest.now }
 {
-    match blobs.peek(&digest.hash()) {
-        Some(bytes) => {
-            if bytes.len() as u64 == digest.size() {
-                Some(bytes)
-            } else {
-                None
-            }
-        }
-        None => None,
-    }
+    let bytes = blobs.peek(&digest.hash())?;
+    (bytes.len() as u64 == digest.size()).then_some(bytes)
 }
 
 /// Appends the digests of the files.
