@@ -4,7 +4,7 @@ use Rattle.blob_digest.specs.Digest.{DigestValue}
 use Rattle.plan.specs.Record.{build_record_text}
 use Rattle.plan.specs.Values.{PlanValue}
 use Rattle.worker.specs.Outcomes.{Yields}
-use Rattle.worker.specs.Values.{items_of}
+use Rattle.tree.specs.Folded.{items_of}
 use Rattle.runs.specs.declared.error.RunsError.TheVariants as runs
 use Rattle.builder.specs.declared.error.BuildPlanError.{BuildPlanError}
 use Rattle.builder.specs.declared.error.BuildPlanError.TheVariants.{Root}

@@ -25,7 +25,7 @@ pub struct Built<A: Allocator> {
 
 impl<A: Allocator> Model for Built<A> {
     ghost use Rattle.builder.specs.Built.{BuiltValue};
-    ghost use Rattle.worker.specs.Values.{items_of};
+    ghost use Rattle.tree.specs.Folded.{items_of};
 
     ghost Value = { BuiltValue };
 

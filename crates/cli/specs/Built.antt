@@ -26,7 +26,7 @@ use Rattle.commands.specs.declared.ended.Note.TheVariants.{Refused}
 use Rattle.plan.specs.Values.{PlanValue}
 use Rattle.text_verifier.specs.Texts.{IsDigestText}
 use Rattle.worker.specs.Outcomes.{HasAllRight, Yields}
-use Rattle.worker.specs.Values.{items_of}
+use Rattle.tree.specs.Folded.{items_of}
 
 -- what may come of a step whose process runs below a folder
 abbrev pub Below : Type 1

@@ -25,7 +25,7 @@ use Rattle.tree.specs.declared.error.AddError.TheVariants as adding
 use Rattle.tree.proofs.DirectoryBytes.{directory_bytes_injective}
 use Rattle.tree.proofs.OwnDirectories.{no_refusal}
 use Rattle.tree.proofs.TreeDigests.{valid_digests}
-use Rattle.worker.specs.Values.{items_of}
+use Rattle.tree.specs.Folded.{items_of}
 use Rattle.processes.specs.declared.trouble.Trouble.{Trouble}
 use Rattle.processes.specs.declared.trouble.Trouble.TheVariants as troubles
 use Rattle.processes.specs.Collected.{IsListedTwice, IsUnread, IsUnreadFolder, MakesNoTree}

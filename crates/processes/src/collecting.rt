@@ -2,7 +2,8 @@ ghost use Rattle.std.specs.Prelude.{◌≡◌, ℕ, List, Err, IfErr, IfOk, IsEr
 ghost use Rattle.std.specs.Prelude.{string_bytes};
 ghost use Rattle.std.specs.declared.io.Error.{Error};
 ghost use Rattle.worker.specs.Counted.{TellsRunFailure};
-ghost use Rattle.worker.specs.Values.{items_of, failed};
+ghost use Rattle.worker.specs.Values.{failed};
+ghost use Rattle.tree.specs.Folded.{items_of};
 ghost use Rattle.worker.specs.declared.failure.Cause.TheVariants.{Unread};
 ghost use Rattle.processes.specs.Collected.{AreCollected, HasNoOutput, IsFirstBad, IsMore};
 ghost use Rattle.processes.specs.Collected.{IsUnread};

@@ -10,7 +10,7 @@ ghost use Rattle.messages.specs.DirectoryRules.{IsDirectory};
 ghost use Rattle.messages.specs.Name.{IsName};
 ghost use Rattle.tree.specs.Lookup.{names_in};
 ghost use Rattle.worker.specs.Outcomes.{directories_of};
-ghost use Rattle.worker.specs.Values.{items_of};
+ghost use Rattle.tree.specs.Folded.{items_of};
 ghost use Rattle.processes.specs.Collected.{IsBadFolder, IsTreeAt, IsUnreadFolder};
 ghost use Rattle.processes.specs.Walking.{AreOfNone, AreOfNoTree, IsBare, IsWalked, TellsTrouble};
 

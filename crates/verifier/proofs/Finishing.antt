@@ -120,7 +120,7 @@ module _ (S : List ℕ → Type 0) (apart : NoClash S) (B C : Blobs) (t : Tree L
         let mid : State = record s { jobs = (w, (n, a.0)) ∷ s.jobs } in
         let starts : happens plan meaning t s (start n w) ≡ Some mid = ap (λ q. started s n w q (action_of plan meaning t s n)) free ∙ ap (started s n w None) a.1 in
         let started_kept : IsKept mid = keeps_event S apart B C t chosen within src plan ds claim meaning X ordered sources fits table agrees rules h s mid (start n w) r.kept tt
-            (event_ahead r.events s (start n w) mid r.happened tt starts) starts in
+        (event_ahead r.events s (start n w) mid r.happened tt starts) starts in
         let run = run_more X plan meaning t now r.events s (start n w) mid r.happened tt starts in
         let busy : job_of w mid ≡ Some (n, a.0) = own_entry w (n, a.0) s.jobs in
         let comes = (nothing_is_stuck S apart B C t chosen within src plan ds claim meaning X ordered sources fits table agrees rules h mid started_kept).finishes w (n, a.0) busy in

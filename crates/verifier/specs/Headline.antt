@@ -146,8 +146,8 @@ pub record IsNotStuck (X : List (ActionMeaning × Outcome)) (plan : PlanValue) (
 -- the blobs of what may still happen in a state
 abbrev pub IsBlobAhead : List (ActionMeaning × Outcome) → PlanValue → Meaning → Tree Leaf → State
     → List ℕ → Type 0
-IsBlobAhead X plan meaning t s b = (es : List Event) × (end : State) × IsRun X plan meaning t s es end
-    × IsBlobOfEvents plan meaning t s es b
+IsBlobAhead X plan meaning t s b = (es : List Event) × (end : State)
+    × IsRun X plan meaning t s es end × IsBlobOfEvents plan meaning t s es b
 
 -- Under the same premises no run is stuck, complete or not.
 pub record NoRunIsStuck (blobs results : Blobs) (sources : DigestValue) (plan : PlanValue)

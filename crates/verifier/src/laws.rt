@@ -38,8 +38,8 @@ ghost use Rattle.verifier.specs.Verdict.{IsVerdict, IsYes};
 use std::alloc::Allocator;
 
 /// Every complete run of a valid plan that is as recorded ends in exactly the claimed root, no run
-/// of it is stuck and every one can be finished, and each runs the recorded actions and comes to the recorded outcomes. A law: it
-/// does nothing.
+/// of it is stuck and every one can be finished, and each runs the recorded actions and comes to
+/// the recorded outcomes. A law: it does nothing.
 pub fn recorded_plans_end_in_the_claim()
     ensures ends { (blobs results : Blobs) (sources : DigestValue) (plan : PlanValue)
         (recorded : List DigestValue) (claim : DigestValue) → IsPlan plan

@@ -144,7 +144,8 @@ fn decide<A: Allocator + Copy, S: BlobSource<A>>(
 /// The verdict on a plan and its record. Yes says that every build of the plan, from sources with
 /// this digest, ends in the claimed root, under the premises of `EveryRunEndsIn`; no says what the
 /// first fault is, and where. The record says which actions the steps had. The steps are checked in
-/// the order of the plan, and then the lines of the root. A file's content is never fetched.
+/// the order of the plan, and then the lines of the root. No blob is asked for but those that the
+/// checks look at, and so no file's content.
 pub fn verify<A: Allocator + Copy, S: BlobSource<A>>(
     alloc: A,
     sources: &Digest,

@@ -5,7 +5,7 @@ use Rattle.std.specs.List.{AllByRecursion}
 use Rattle.std.proofs.lemmas.Bool.Decides.{eqb_tells}
 use Rattle.std.proofs.lemmas.List.{map-append, take_more}
 use Rattle.std.specs.declared.vec.Vec.{Vec}
-use Rattle.worker.specs.Values.{items_of}
+use Rattle.tree.specs.Folded.{items_of}
 use Rattle.blob_digest.specs.Digest.{DigestValue, digest_of}
 use Rattle.blob_source.specs.Source.{Blobs, Telling, Grows, AsksResult, Asks, AsksSome}
 use Rattle.blob_source.specs.Sink.{PutsBlob, PutsResult, HasRight, IsPut, KeepsRight}

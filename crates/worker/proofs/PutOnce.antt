@@ -15,7 +15,7 @@ use Rattle.tree.proofs.MergeCounts.{digest_itself}
 use Rattle.action_messages.proofs.Apart.{weaker}
 use Rattle.worker.specs.declared.remembering.Remembered.{Remembered}
 use Rattle.worker.specs.Storing.{HasPut, HasPutAll, StaysPut, StaysRemembered, WerePut, Remembers, not_put}
-use Rattle.worker.specs.Values.{items_of}
+use Rattle.tree.specs.Folded.{items_of}
 use Rattle.worker.proofs.Keeping.{right_still}
 use Rattle.worker.proofs.Knowing.{knows_still}
 

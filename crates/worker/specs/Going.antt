@@ -19,7 +19,8 @@ use Rattle.worker.specs.declared.turns.Turn.{Turn}
 use Rattle.worker.specs.declared.turns.Turn.TheVariants as turns
 use Rattle.worker.specs.Layout.{IsLayoutOf}
 use Rattle.worker.specs.Values.{LayoutValue, ProducedValue, EndValue, made, Starts, StartsOne}
-use Rattle.worker.specs.Values.{StartsNone, items_of}
+use Rattle.worker.specs.Values.{StartsNone}
+use Rattle.tree.specs.Folded.{items_of}
 use Rattle.worker.specs.Storing.{IsKeptBut, HasFewTrees, HasResultOf, IsHeldWhole, not_put}
 use Rattle.worker.specs.Storing.{tree_blobs}
 use Rattle.worker.specs.declared.remembering.Remembered.{Remembered}

@@ -47,9 +47,6 @@ abbrev pub contents_of : {A : Type 0} → List (List (List ℕ) × Vec ℕ A)
     → List (List (List ℕ) × List ℕ)
 contents_of files = map (λ f. (f.0, f.1.items)) files
 
-abbrev pub items_of : {A : Type 0} → List (Vec ℕ A) → List (List ℕ)
-items_of blobs = map (λ b. b.items) blobs
-
 -- the command names its program by a path from the root of the file system
 abbrev pub IsAbsolute : CommandValue → Type 0
 IsAbsolute c = (text : List ℕ) × (rest : List (List ℕ)) × (c.arguments ≡ (47 ∷ text) ∷ rest)

@@ -11,7 +11,7 @@ ghost use Rattle.worker.specs.Storing.{HasPut, HasPutAll, HasResultOf, IsKeptBut
 ghost use Rattle.worker.specs.Storing.{StaysPut, WerePut, not_put, tree_blobs};
 ghost use Rattle.worker.specs.Outcomes.{HasAllRight, HasTrees, directories_of};
 ghost use Rattle.worker.specs.Counted.{Counts, IsFetch};
-ghost use Rattle.worker.specs.Values.{items_of};
+ghost use Rattle.tree.specs.Folded.{items_of};
 ghost use Rattle.worker.specs.Stopped.{IsStoreFault};
 ghost use Rattle.worker.specs.Stored.{IsKept};
 

@@ -21,7 +21,8 @@ pub struct Produced<A: Allocator> {
 }
 
 impl<A: Allocator> Model for Produced<A> {
-    ghost use Rattle.worker.specs.Values.{ProducedValue, items_of};
+    ghost use Rattle.worker.specs.Values.{ProducedValue};
+    ghost use Rattle.tree.specs.Folded.{items_of};
 
     ghost Value = { ProducedValue };
 

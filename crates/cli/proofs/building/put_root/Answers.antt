@@ -3,7 +3,7 @@ use Rattle.std.proofs.Math.Logic.{∥∥₁_map}
 use Rattle.remote.specs.Remote.{connection_of, telling_of}
 use Rattle.commands.specs.Places.{IsToldOver, puts_too}
 use Rattle.worker.specs.Outcomes.{HasAllRight}
-use Rattle.worker.specs.Values.{items_of}
+use Rattle.tree.specs.Folded.{items_of}
 use Rattle.cli.specs.Built.{HoldsRoot}
 use Rattle.cli.proofs.building.put_root.Goals as goal
 

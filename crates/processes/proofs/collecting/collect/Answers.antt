@@ -1,7 +1,7 @@
 use Rattle.std.proofs.Common.{◌≡◌, ap, ◌∙◌, ◌≤◌, Err, length, take, subst, sym, arith}
 use Rattle.std.specs.List.{AllByRecursion}
 use Rattle.std.proofs.lemmas.List.{take_all}
-use Rattle.worker.specs.Values.{items_of}
+use Rattle.tree.specs.Folded.{items_of}
 use Rattle.processes.specs.Laying.{place_in}
 use Rattle.messages.specs.Path.{path_text}
 use Rattle.worker.specs.declared.runner.RunError.{RunError}

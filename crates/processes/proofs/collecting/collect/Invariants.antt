@@ -1,5 +1,5 @@
 use Rattle.std.proofs.Common.{take}
-use Rattle.worker.specs.Values.{items_of}
+use Rattle.tree.specs.Folded.{items_of}
 use Rattle.processes.proofs.Gathered.{IsSoFar}
 use Rattle.processes.proofs.collecting.collect.Given as goal
 

@@ -1,5 +1,5 @@
 use Rattle.std.proofs.Common.{◌≡◌, ℕ, List, [], ◌∷◌, ◌++◌, Some, sym, subst, inl, inr, refl, arith, append-nil}
-use Rattle.worker.specs.Values.{items_of}
+use Rattle.tree.specs.Folded.{items_of}
 use Rattle.actions.specs.Outcome.{AddsOutput, output_value}
 use Rattle.processes.specs.Collected.{IsOutputAt}
 use Rattle.processes.proofs.Walks.{contains_one}

@@ -5,7 +5,7 @@ use Rattle.std.proofs.lemmas.Result.{err_from_is_err_and}
 use Rattle.messages.specs.Name.{IsName}
 use Rattle.tree.specs.Tree.{Name, a_directory}
 use Rattle.tree.specs.Lookup.{names_in}
-use Rattle.worker.specs.Values.{items_of}
+use Rattle.tree.specs.Folded.{items_of}
 use Rattle.processes.specs.declared.trouble.Trouble.TheVariants.{NoOutput}
 use Rattle.processes.specs.declared.workshop.Standing.TheVariants as standings
 use Rattle.processes.specs.Collected.{IsBadFolder}

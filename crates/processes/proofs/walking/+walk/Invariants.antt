@@ -1,7 +1,7 @@
 use Rattle.std.proofs.Common.{take}
 use Rattle.std.specs.Prelude.{map, string_bytes}
 use Rattle.tree.specs.Lookup.{names_in}
-use Rattle.worker.specs.Values.{items_of}
+use Rattle.tree.specs.Folded.{items_of}
 use Rattle.processes.proofs.Walks.{IsSoFar}
 use Rattle.processes.proofs.walking.+walk.Given as goal
 

@@ -1,5 +1,5 @@
 use Rattle.std.proofs.Common.{◌∙◌, ap, sym}
-use Rattle.worker.specs.Values.{items_of}
+use Rattle.tree.specs.Folded.{items_of}
 use Rattle.processes.proofs.Unread.{tree_unread}
 use Rattle.processes.proofs.Walks.{folder_tree, walked_folder}
 use Rattle.processes.proofs.walking.keep_folder.Goals as goal

@@ -1,7 +1,8 @@
 use Rattle.std.proofs.Common.{ap, subst}
 use Rattle.std.proofs.lemmas.Result.{err_from_is_err_and}
 use Rattle.worker.proofs.Stopping.{end_comes}
-use Rattle.worker.specs.Values.{ProducedValue, items_of}
+use Rattle.worker.specs.Values.{ProducedValue}
+use Rattle.tree.specs.Folded.{items_of}
 use Rattle.worker.specs.Outcomes.{HasAllRight}
 use Rattle.worker.proofs.Keeping.{kept_trans, all_right_still}
 use Rattle.std.proofs.Common.{◌∙◌}

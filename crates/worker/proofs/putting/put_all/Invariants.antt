@@ -3,7 +3,7 @@ use Rattle.std.specs.List.{AllByRecursion}
 use Rattle.blob_digest.specs.Digest.{DigestValue, digest_of}
 use Rattle.worker.specs.Stored.{IsKept}
 use Rattle.worker.specs.Outcomes.{HasAllRight}
-use Rattle.worker.specs.Values.{items_of}
+use Rattle.tree.specs.Folded.{items_of}
 use Rattle.worker.proofs.putting.put_all.Given as goal
 
 abbrev pub invariant-loop-blob : goal.invariant-loop-blob

@@ -5,7 +5,7 @@ use Rattle.blob_source.specs.Sink.{HasRight}
 use Rattle.worker.specs.Stored.{IsKept}
 use Rattle.worker.specs.Storing.{HasPutAll, StaysPut, WerePut, not_put}
 use Rattle.worker.specs.Outcomes.{HasAllRight}
-use Rattle.worker.specs.Values.{items_of}
+use Rattle.tree.specs.Folded.{items_of}
 use Rattle.worker.proofs.putting.put_input.Given as goal
 
 abbrev pub invariant-loop-directory : goal.invariant-loop-directory
