@@ -1,26 +1,21 @@
 -- What a get wrote, over the connection that was opened, or why nothing was written.
-use Rattle.std.proofs.Common.{◌≡◌, ◌+◌, ◌≤◌, ◌∙◌, ℕ, List, ap, inr, length, subst, sym, Ok, Err, IfErr, IfOk, OnErr, string_bytes}
+use Rattle.std.proofs.Common.{◌≡◌, ℕ, List, inr, subst, sym, Ok, Err, IfErr, IfOk, OnErr, string_bytes}
 use Rattle.std.specs.Prelude.{Option, Result, codes}
 use Rattle.std.specs.declared.alloc.Global.{Global}
 use Rattle.blob_digest.specs.Digest.{DigestValue}
 use Rattle.blob_source.specs.Source.{Telling}
 use Rattle.checkout.specs.Refused.{FailsCheckout}
-use Rattle.checkout.specs.Written.{AsksEachOnce, CheckoutLooksAt}
 use Rattle.checkout.specs.declared.error.CheckoutError.{CheckoutError}
 use Rattle.clap.specs.Words.{Row, first_of}
 use Rattle.command_lines.specs.CommandLine.{option_text}
 use Rattle.remote.specs.Line.{ConnectionValue}
-use Rattle.remote.specs.Remote.{blobs_of, telling_of}
-use Rattle.remote.specs.declared.remote.Remote.{Remote}
-use Rattle.tree.specs.Memo.{AsksNoOther}
 use Rattle.text_verifier.specs.Texts.{IsDigestText}
 use Rattle.commands.specs.Faults.{OrMemory}
 use Rattle.commands.specs.GetRefused.{FailsGet, FailsGot, FailsGetTree, TellsCheckout}
 use Rattle.commands.specs.GetRefused.FailsGet.{in_memory, in_work}
 use Rattle.commands.specs.Options.{IsServerOf}
-use Rattle.commands.specs.Places.{IsConnected, IsFresh, IsToldOver, gets_alone}
+use Rattle.commands.specs.Places.{IsConnected, IsToldOver, gets_alone}
 use Rattle.commands.specs.Printed.{BeginsGot, GetsAsked, GetsPart, IsGot, StartsGet}
-use Rattle.commands.specs.Trees.{AsksTree}
 use Rattle.commands.specs.Words.{AllValid, server_words}
 use Rattle.commands.specs.World.{Sight}
 use Rattle.commands.specs.declared.connecting.ServerOptions.{ServerOptions}
@@ -28,31 +23,16 @@ use Rattle.commands.specs.declared.ended.Ended.{Ended}
 use Rattle.commands.specs.declared.error.CommandError.{CommandError}
 use Rattle.commands.proofs.Placed.{opened_to}
 use Rattle.commands.proofs.Refused.{or_memory, or_weaker}
-use Rattle.commands.proofs.Tellings.{none_unasked}
 
 pub on_err : {T E : Type 0} {P Q : Type 0} (r : Result T E) → OnErr r P → (P → Q) → OnErr r Q
 on_err (Ok x) h by = h
 on_err (Err e) h by = by h
 
 pub tree_fails : (sees : Sight) (start : ConnectionValue) (address : List ℕ) (digest : DigestValue) (folder : List ℕ) (told : Telling)
-    (error : CheckoutError Global) (e : CommandError) → AsksTree start digest told → FailsCheckout sees.holds sees.unwritten sees.tries told.blobs digest folder error
+    (error : CheckoutError Global) (e : CommandError) → ∥ IsToldOver gets_alone start told ∥₁ → FailsCheckout sees.holds sees.unwritten sees.tries told.blobs digest folder error
     → OrMemory (TellsCheckout start address error) e → OrMemory (FailsGetTree sees start address digest folder) e
-tree_fails sees start address digest folder told error e asks fails = or_weaker (TellsCheckout start address error) (FailsGetTree sees start address digest folder) e
-    (λ tells. record { told = told; asks = asks; error = error; fails = fails; tells = tells })
-
--- what a checkout over a fresh client asks for
-pub asks_tree : {S : Type 0} (start : ConnectionValue) (digest : DigestValue) (fresh remote : Remote S Global) (told : Telling)
-    → remote ≡ fresh → IsFresh fresh → ∥ IsToldOver gets_alone start told ∥₁ → AsksNoOther (CheckoutLooksAt told.blobs digest) (telling_of remote).blobs told.blobs
-    → AsksEachOnce digest (telling_of remote) told → AsksTree start digest told
-asks_tree {S} start digest fresh remote told same unasked over only once = record {
-  over = over;
-  only = record { same = λ d other. only.same d other ∙ ap (λ (r : Remote S Global). (telling_of r).blobs d) same ∙ none_unasked (blobs_of fresh) d (unasked.blobs d) };
-  few = record {
-    places = once.places;
-    found_there = once.found_there;
-    few = subst (λ n. told.calls ≤ n + length once.places) (ap (λ (r : Remote S Global). (telling_of r).calls) same ∙ unasked.calls) once.few;
-  };
-}
+tree_fails sees start address digest folder told error e over fails = or_weaker (TellsCheckout start address error) (FailsGetTree sees start address digest folder) e
+    (λ tells. record { told = told; over = over; error = error; fails = fails; tells = tells })
 
 -- ---- by the options
 

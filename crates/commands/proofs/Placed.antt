@@ -1,5 +1,5 @@
 -- Where the recorded build is, by the options.
-use Rattle.std.proofs.Common.{◌≡◌, ◌≤◌, ◌+◌, ◌∙◌, ℕ, List, Result, IfErr, IfOk, ap, arith, inl, inr, subst, string_bytes}
+use Rattle.std.proofs.Common.{◌≡◌, List, Result, IfErr, IfOk, inl, inr, subst, string_bytes}
 use Rattle.std.proofs.Math.Logic.{∥∥₁_map}
 use Rattle.std.proofs.lemmas.Result.{IfErr-weaker, IfOk-weaker}
 use Rattle.std.specs.declared.alloc.Global.{Global}
@@ -13,8 +13,6 @@ use Rattle.verifier.specs.declared.verdict.Verdict.{Verdict}
 use Rattle.text_verifier.specs.declared.answering.Answer.{Answer}
 use Rattle.text_verifier.specs.declared.lack.Lack.{Lack}
 use Rattle.remote.specs.Line.{ConnectionValue}
-use Rattle.remote.specs.Remote.{telling_of}
-use Rattle.remote.specs.declared.remote.Remote.{Remote}
 use Rattle.commands.specs.Faults.{OrMemory}
 use Rattle.commands.specs.Options.{IsServerOf}
 use Rattle.commands.specs.Places.{Access, FailsInFolder, IsOfFolder, IsOfServer, IsConnected, IsAnsweredBy, IsToldOver, LacksAtServer, LacksInFolder, gets_alone}
@@ -44,20 +42,7 @@ place_weaker question result told other lacks less by by_lack h =
       ∥∥₁_map is.1 (by is.0),
       is.2,
       if_some_weaker answer.lack (λ l. ∥ lacks l ∥₁) (λ l. ∥ less l ∥₁) (λ l h. ∥∥₁_map h (by_lack l)) is.3,
-      is.4,
     )) h
-
--- ---- how often it was asked
-
--- of a source that was asked nothing before
-pub few_of_none : (calls before most : ℕ) → before ≡ 0 → calls ≤ before + most → calls ≤ most
-few_of_none calls before most none few = omega arith
-
--- and that is a client over a connection that was asked nothing
-pub few_of_fresh : {S : Type 0} (fresh remote : Remote S Global) (calls most : ℕ) → remote ≡ fresh → (telling_of fresh).calls ≡ 0
-    → calls ≤ (telling_of remote).calls + most → calls ≤ most
-few_of_fresh {S} fresh remote calls most same none few =
-    few_of_none calls (telling_of remote).calls most (ap (λ (r : Remote S Global). (telling_of r).calls) same ∙ none) few
 
 -- ---- what the answer lacks
 

@@ -13,10 +13,10 @@ use Rattle.clap.specs.Words.{Row, first_of}
 use Rattle.command_lines.specs.CommandLine.{option_text}
 use Rattle.commands.specs.Faults.{IsDigestFault, TellsOfEntry}
 use Rattle.commands.specs.Got.{GetsFirst, IsBlobOver}
-use Rattle.commands.specs.Places.{FailsOver, FailsToConnect, LacksOver, RefusesAt, gets_alone}
+use Rattle.commands.specs.Places.{FailsOver, FailsToConnect, IsToldOver, LacksOver, RefusesAt}
+use Rattle.commands.specs.Places.{gets_alone}
 use Rattle.commands.specs.Printed.{StartsGet}
 use Rattle.commands.specs.Refusal.{IsPrintFault}
-use Rattle.commands.specs.Trees.{AsksTree}
 use Rattle.commands.specs.Words.{AllValid, FailsFirst, server_words}
 use Rattle.commands.specs.World.{Sight}
 use Rattle.commands.specs.declared.error.CommandError.{CommandError}
@@ -73,7 +73,7 @@ TellsCheckout start address trees.Memory e = e ≡ Memory
 pub record FailsGetTree (sees : Sight) (start : ConnectionValue) (address : List ℕ)
     (digest : DigestValue) (folder : List ℕ) (e : CommandError) : Type 0 where
   pub told : Telling
-  pub asks : AsksTree start digest told
+  pub over : ∥ IsToldOver gets_alone start told ∥₁
   pub error : CheckoutError Global
   pub fails : FailsCheckout sees.holds sees.unwritten sees.tries told.blobs digest folder error
   pub tells : TellsCheckout start address error e

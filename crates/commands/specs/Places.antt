@@ -1,6 +1,6 @@
 -- What a source over a place outside tells: a store folder, or a server.
-use Rattle.std.specs.Prelude.{◌≡◌, ◌≢◌, ◌⊎◌, ◌≤◌, ℕ, false, List, [], Option, Some, None, codes}
-use Rattle.std.specs.Prelude.{IfSome, length, string_bytes}
+use Rattle.std.specs.Prelude.{◌≡◌, ◌≢◌, ◌⊎◌, ℕ, false, List, [], Option, Some, None, codes}
+use Rattle.std.specs.Prelude.{IfSome, string_bytes}
 use Rattle.std.specs.IoError.{error_kind}
 use Rattle.std.specs.declared.alloc.Global.{Global}
 use Rattle.std.specs.declared.io.ErrorKind.TheVariants.{OutOfMemory}
@@ -21,12 +21,11 @@ use Rattle.remote.specs.declared.files.FileError.{FileError}
 use Rattle.remote.specs.declared.folder.FolderSource.{FolderSource}
 use Rattle.remote.specs.declared.remote.Remote.{Remote}
 use Rattle.remote.specs.declared.table.Table.{Table}
-use Rattle.text_verifier.specs.Answered.{AnswerLooksAt, IsAnswer}
+use Rattle.text_verifier.specs.Answered.{IsAnswer}
 use Rattle.text_verifier.specs.Texts.{Question}
 use Rattle.text_verifier.specs.declared.answering.Answer.{Answer}
 use Rattle.text_verifier.specs.declared.lack.Lack.{Lack}
 use Rattle.text_verifier.specs.declared.lack.Lack.TheVariants.{Blob, ActionResult}
-use Rattle.tree.specs.Memo.{Asked, Covers}
 use Rattle.commands.specs.Faults.{IsServerFault, error_of_file}
 use Rattle.commands.specs.World.{Sight}
 use Rattle.commands.specs.declared.connecting.ServerOptions.{ServerOptions}
@@ -43,17 +42,11 @@ pub record IsFresh {S A : Type 0} (r : Remote S A) : Type 0 where
   pub results : (d : DigestValue) → HasAnswer (results_of r) d → ⊥
   pub calls : (telling_of r).calls ≡ 0
 
--- no more calls were made than one for each thing that the verifier looks at
-abbrev pub AsksFew : Telling → Question → Type 0
-AsksFew told question = (list : List Asked)
-    → Covers (AnswerLooksAt Global told question) list → told.calls ≤ length list
-
--- The answer to the question by what such a source told, which was asked no more than that. What is
--- missing by the answer is so lacked.
+-- The answer to the question by what such a source told. What it says is missing is so lacked.
 abbrev pub IsAnsweredBy : (Telling → Type 0) → (Lack → Type 0) → Question → Answer Global → Type 0
 IsAnsweredBy source lacks question answer =
     (told : Telling) × (∥ source told ∥₁) × IsAnswer told question answer
-    × IfSome answer.lack (λ lack. ∥ lacks lack ∥₁) × AsksFew told question
+    × IfSome answer.lack (λ lack. ∥ lacks lack ∥₁)
 
 -- what is kept as nothing is lacked so
 abbrev pub LacksAll : {A : Type 0} → (DigestValue → Type 0) → Table A → Type 0

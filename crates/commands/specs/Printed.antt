@@ -22,7 +22,7 @@ use Rattle.text_verifier.specs.declared.lack.Lack.{Lack}
 use Rattle.commands.specs.Got.{BeginsBlob, Writes}
 use Rattle.commands.specs.Options.{IsServerOf, OnNamedServer, decimal_number, number_or}
 use Rattle.commands.specs.Places.{IsOfFolder, IsOfServer, IsConnected, LacksAtServer}
-use Rattle.commands.specs.Places.{Access, AsksFew, LacksInFolder, gets_alone}
+use Rattle.commands.specs.Places.{Access, LacksInFolder, gets_alone}
 use Rattle.commands.specs.Put.{PutsPath}
 use Rattle.commands.specs.Told.{AppendsBeginning}
 use Rattle.commands.specs.Trees.{BeginsLack, IsTreeGot}
@@ -84,9 +84,8 @@ pub record AsksQuestion (sees : Sight) (options : List Row) (question : Question
   pub texts : HasTexts (option_text options (codes "sources")) (option_text options (codes "claim"))
       plan_bytes noted_bytes question
 
--- The verdict is the one on that question, by what a source over the place that they name told,
--- which was asked at most once for each thing that the verifier looks at. What is missing by the
--- verdict is lacked there.
+-- The verdict is the one on that question, by what a source over the place that they name told.
+-- What is missing by the verdict is lacked there.
 pub record JudgesAsked (sees : Sight) (options : List Row) (verdict : Verdict Global)
     : Type 0 where
   pub question : Question
@@ -94,7 +93,6 @@ pub record JudgesAsked (sees : Sight) (options : List Row) (verdict : Verdict Gl
   pub told : Telling
   pub source : ∥ IsOfPlace sees options told ∥₁
   pub judged : IsJudged told question verdict
-  pub few : AsksFew told question
   pub lacks : IfSome (lack_of question verdict) (λ lack. ∥ LacksAtPlace sees options lack ∥₁)
 
 -- the line of that verdict was printed

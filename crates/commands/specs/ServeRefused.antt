@@ -18,7 +18,7 @@ abbrev pub IsRandomFault : CommandError → Type 0
 IsRandomFault (Random fault) = Unit {0}
 IsRandomFault _ = ⊥
 
--- no more connections could be accepted
+-- no more connections are served
 abbrev pub IsAcceptFault : CommandError → Type 0
 IsAcceptFault (Accept fault) = Unit {0}
 IsAcceptFault _ = ⊥

@@ -1,17 +1,16 @@
 -- What `get --into` comes to.
-use Rattle.std.specs.Prelude.{◌≡◌, ◌⊎◌, ℕ, List, [], ◌++◌, Option, None, Some, codes}
+use Rattle.std.specs.Prelude.{◌≡◌, ◌⊎◌, ℕ, List, ◌++◌, Option, None, Some, codes}
 use Rattle.std.specs.Io.KnownBytes.{Appends}
 use Rattle.std.specs.declared.alloc.Global.{Global}
 use Rattle.blob_digest.specs.Digest.{DigestValue}
 use Rattle.blob_digest.specs.Text.{digest_text}
 use Rattle.blob_source.specs.Source.{Telling}
 use Rattle.checkout.specs.Refused.{FailsCheckout}
-use Rattle.checkout.specs.Written.{AsksEachOnce, CheckoutLooksAt, HoldsTree, TriesTree}
+use Rattle.checkout.specs.Written.{HoldsTree, TriesTree}
 use Rattle.checkout.specs.declared.error.CheckoutError.{CheckoutError}
 use Rattle.checkout.specs.declared.error.CheckoutError.TheVariants.{Missing}
 use Rattle.http_core.specs.declared.event.Area.TheVariants.{Cas}
 use Rattle.remote.specs.Line.{ConnectionValue}
-use Rattle.tree.specs.Memo.{AsksNoOther}
 use Rattle.commands.specs.Places.{IsToldOver, LacksOver, gets_alone}
 use Rattle.commands.specs.Told.{AppendsBeginning}
 use Rattle.commands.specs.World.{Sight}
@@ -22,30 +21,12 @@ use Rattle.commands.specs.declared.ended.Ended.TheVariants.{Done, No}
 abbrev pub missing_line : DigestValue → List ℕ
 missing_line digest = codes "missing " ++ digest_text digest ++ codes "\n"
 
--- what is told where nothing was asked
-abbrev pub nothing_asked : Telling
-nothing_asked = record {
-  blobs = λ digest. None;
-  results = λ digest. None;
-  failures = 0;
-  calls = 0;
-  puts = [];
-}
-
--- This was told over the connection for a tree. No other blob was asked for than the tree's, and by
--- one call at most for each path of it.
-pub record AsksTree (start : ConnectionValue) (digest : DigestValue) (told : Telling)
-    : Type 0 where
-  pub over : ∥ IsToldOver gets_alone start told ∥₁
-  pub only : AsksNoOther (CheckoutLooksAt told.blobs digest) nothing_asked.blobs told.blobs
-  pub few : AsksEachOnce digest nothing_asked told
-
--- The tree that was told so was written into the folder, each entry tried once, and nothing was
--- printed.
+-- The tree that was told over the connection was written into the folder, each entry tried once,
+-- and nothing was printed.
 pub record WritesTree (sees : Sight) (start : ConnectionValue) (digest : DigestValue)
     (folder : List ℕ) (old new : Option (List ℕ)) : Type 0 where
   pub told : Telling
-  pub asks : AsksTree start digest told
+  pub over : ∥ IsToldOver gets_alone start told ∥₁
   pub tried : TriesTree sees.tries told.blobs digest folder
   pub holds : HoldsTree sees.holds told.blobs digest folder
   pub unprinted : new ≡ old
@@ -63,7 +44,7 @@ pub record PrintsLack (start : ConnectionValue) (error : CheckoutError Global)
 pub record LacksTree (sees : Sight) (start : ConnectionValue) (digest : DigestValue)
     (folder : List ℕ) (appends : List ℕ → Type 0) : Type 0 where
   pub told : Telling
-  pub asks : AsksTree start digest told
+  pub over : ∥ IsToldOver gets_alone start told ∥₁
   pub error : CheckoutError Global
   pub fails : FailsCheckout sees.holds sees.unwritten sees.tries told.blobs digest folder error
   pub lacks : PrintsLack start error appends

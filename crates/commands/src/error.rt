@@ -81,7 +81,7 @@ pub enum CommandError {
         address: String,
         fault: io::Error,
     },
-    /// No more connections could be accepted.
+    /// No more connections are served.
     Accept(NotAccepted),
     /// A process of a step came to nothing.
     Process(ProcessFault),

@@ -8,7 +8,7 @@ use Rattle.commands.specs.Faults.{OrMemory}
 use Rattle.commands.specs.GetRefused.{FailsGetTree}
 use Rattle.commands.specs.Refusal.{IsPrintFault}
 use Rattle.commands.proofs.Exits.{exit_by, or_else}
-use Rattle.commands.proofs.Gotten.{asks_tree, tree_fails}
+use Rattle.commands.proofs.Gotten.{tree_fails}
 use Rattle.commands.proofs.Writing.{where_err}
 use Rattle.commands.proofs.trees.get_over.Goals as goal
 
@@ -17,8 +17,7 @@ returns-in-Ok-clause-got g c =
     let source = c.check_out.new.source in
     record {
       told = telling_of source.remote;
-      asks = asks_tree g.K.Origin.start c.args.digest.now c.args.remote c.new-client.result.remote (telling_of source.remote)
-          c.new-client.ensures c.requires.fresh (∥∥₁_map source.over (λ over. (connection_of g.S.Stream.flow source.remote, over))) c.check_out.ensures.only c.check_out.ensures.few;
+      over = ∥∥₁_map source.over (λ over. (connection_of g.S.Stream.flow source.remote, over));
       tried = subst (TriesTree g.W.World.sees.tries (telling_of source.remote).blobs c.args.digest.now) c.as_str.ensures.value c.in-Ok.ensures.tried;
       holds = subst (λ f. HoldsTree g.W.World.sees.holds (telling_of source.remote).blobs c.args.digest.now f) c.as_str.ensures.value c.in-Ok.ensures.written;
       unprinted = refl;
@@ -29,8 +28,7 @@ returns-clause-got g c =
     let source = c.check_out.new.source in
     record {
       told = telling_of source.remote;
-      asks = asks_tree g.K.Origin.start c.args.digest.now c.args.remote c.new-client.result.remote (telling_of source.remote)
-          c.new-client.ensures c.requires.fresh (∥∥₁_map source.over (λ over. (connection_of g.S.Stream.flow source.remote, over))) c.check_out.ensures.only c.check_out.ensures.few;
+      over = ∥∥₁_map source.over (λ over. (connection_of g.S.Stream.flow source.remote, over));
       error = c.in-Err.error;
       fails = subst (λ f. FailsCheckout {A = Global} g.W.World.sees.holds g.W.World.sees.unwritten g.W.World.sees.tries (telling_of source.remote).blobs c.args.digest.now f c.in-Err.error) c.as_str.ensures.value c.in-Err.ensures.refused;
       lacks = c.in_ok-print_lack-in-Err.ensures.printed;
@@ -41,8 +39,7 @@ returns-in_err-print_lack-in-Err-clause-begun g c =
     let source = c.check_out.new.source in
     where_err c.from_residual.result (or_else c.in_err-print_lack-in-Err.ensures.begun (λ lacks. record {
       told = telling_of source.remote;
-      asks = asks_tree g.K.Origin.start c.args.digest.now c.args.remote c.new-client.result.remote (telling_of source.remote)
-          c.new-client.ensures c.requires.fresh (∥∥₁_map source.over (λ over. (connection_of g.S.Stream.flow source.remote, over))) c.check_out.ensures.only c.check_out.ensures.few;
+      over = ∥∥₁_map source.over (λ over. (connection_of g.S.Stream.flow source.remote, over));
       error = c.in-Err.error;
       fails = subst (λ f. FailsCheckout {A = Global} g.W.World.sees.holds g.W.World.sees.unwritten g.W.World.sees.tries (telling_of source.remote).blobs c.args.digest.now f c.in-Err.error) c.as_str.ensures.value c.in-Err.ensures.refused;
       lacks = lacks;
@@ -58,8 +55,7 @@ returns-in_err-print_lack-in-Err-clause-fault g c =
     let digest = c.args.digest.now in
     exit_by (OrMemory (FailsGetTree sees start address digest folder)) _ c.from_residual.ensures.1
     (tree_fails sees start address digest folder (telling_of source.remote) c.in-Err.error _
-    (asks_tree start digest c.args.remote c.new-client.result.remote (telling_of source.remote)
-    c.new-client.ensures c.requires.fresh (∥∥₁_map source.over (λ over. (connection_of g.S.Stream.flow source.remote, over))) c.check_out.ensures.only c.check_out.ensures.few)
+    (∥∥₁_map source.over (λ over. (connection_of g.S.Stream.flow source.remote, over)))
     (subst (λ f. FailsCheckout {A = Global} sees.holds sees.unwritten sees.tries (telling_of source.remote).blobs digest f c.in-Err.error) c.as_str.ensures.value c.in-Err.ensures.refused)
     c.in_err-print_lack-in-Err.ensures.fault)
 

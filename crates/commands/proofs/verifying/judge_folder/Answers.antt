@@ -1,7 +1,5 @@
-use Rattle.std.proofs.Common.{length}
 use Rattle.std.proofs.Math.Logic.{∥∥₁_map}
 use Rattle.remote.specs.Folder.{telling_of}
-use Rattle.commands.proofs.Placed.{few_of_none}
 use Rattle.commands.proofs.verifying.judge_folder.Goals as goal
 
 pub returns-then-confirms-clause-answered : goal.returns-then-confirms-clause-answered
@@ -10,6 +8,4 @@ returns-then-confirms-clause-answered g c = (
   ∥∥₁_map c.answer_question.new.source.told (λ is. is.told),
   c.in-Ok.ensures.answered,
   c.confirms.ensures c.if-confirms.true,
-  λ list covers. few_of_none (telling_of c.answer_question.new.source.store).calls (telling_of c.new-shelf.result.store).calls (length list)
-      c.new-shelf.ensures.calls (c.answer_question.ensures.few list covers),
 )

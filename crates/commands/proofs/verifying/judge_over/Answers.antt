@@ -1,10 +1,9 @@
-use Rattle.std.proofs.Common.{inl, length, refl, string_bytes}
+use Rattle.std.proofs.Common.{inl, refl, string_bytes}
 use Rattle.std.proofs.Math.Logic.{∥∥₁_map}
 use Rattle.remote.specs.Remote.{connection_of, telling_of}
 use Rattle.commands.specs.Faults.{OrMemory}
 use Rattle.commands.specs.Places.{FailsOver, gets_alone}
 use Rattle.commands.proofs.Exits.{exit_by}
-use Rattle.commands.proofs.Placed.{few_of_fresh}
 use Rattle.commands.proofs.verifying.judge_over.Goals as goal
 
 pub returns-in-Ok-clause-answered : goal.returns-in-Ok-clause-answered
@@ -14,8 +13,6 @@ returns-in-Ok-clause-answered g c =
       ∥∥₁_map c.answer_question.new.source.over (λ over. (connection_of g.S.Stream.flow remote, over)),
       c.in-Ok.ensures.answered,
       c.in_ok-confirm_lack-in-Ok.ensures.lacked,
-      λ list covers. few_of_fresh c.args.remote c.new-client.result.remote (telling_of remote).calls (length list)
-          c.new-client.ensures c.requires.fresh.calls (c.answer_question.ensures.few list covers),
     )
 
 -- memory ran out
