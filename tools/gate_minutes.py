@@ -77,7 +77,7 @@ def timed(file, environment):
         log = open(file, "w", encoding="utf-8")
     except OSError as fault:
         fail(3, fault)
-    seen, stopped, began = {}, threading.Event(), time.time()
+    seen, stopped, began, last = {}, threading.Event(), time.time(), ""
     watcher = threading.Thread(target=watch, args=(seen, stopped), daemon=True)
     watcher.start()
     how = {"stdout": subprocess.PIPE, "stderr": subprocess.STDOUT, "text": True, "errors": "replace", "env": environment}

@@ -56,7 +56,7 @@ class ServerStore:
             self.connection.request(method, f"{self.prefix}/{part}/{name}", content)
             answer = self.connection.getresponse()
             return answer.status, answer.read()
-        except (OSError, http.client.HTTPException) as fault:
+        except (OSError, UnicodeError, http.client.HTTPException) as fault:
             raise NotAnswered(f"{method} {self.place(part, name)}: {fault or type(fault).__name__}") from None
 
     def get(self, part, name):
@@ -77,7 +77,7 @@ class ServerStore:
 
 def is_address(text):
     """Whether a text is HOST:PORT, as the program takes it."""
-    return re.fullmatch(r"[^/\s]+:0*[0-9]{1,5}", text) is not None and int(text.rpartition(":")[2]) < 65536
+    return re.fullmatch(r"[A-Za-z0-9._~!$&'()*+,;=%:\[\]-]+:0*[0-9]{1,5}", text) is not None and int(text.rpartition(":")[2]) < 65536
 
 
 def is_prefix(text):

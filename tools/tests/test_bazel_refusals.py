@@ -57,7 +57,7 @@ class Servers(Case):
 
     def test_words_of_servers(self):
         text = log(spawn({}, ["a"]))
-        for address in ("127.0.0.1:x", "127.0.0.1", ":1", "127.0.0.1:65536", "http://127.0.0.1:1"):
+        for address in ("127.0.0.1:x", "127.0.0.1", ":1", "127.0.0.1:65536", "http://127.0.0.1:1", "a\x01:80"):
             self.refuse(f"{address!r} is no server's address", text, "--server", address)
         self.refuse("'cache/' is no prefix", text, *self.words, "--prefix", "cache/")
         self.refuse("--prefix is for --server", text, "--prefix", "/cache")

@@ -261,7 +261,8 @@ class OtherPrograms(Case):
         self.assertEqual(found, ("no stage 1 root cause blob-missing x\n", "note: none\n", 1))
 
     def test_a_fault_is_no_verdict(self):
-        for script, status in (("exit 2", 2), ("exit 3", 3), ("kill -9 $$", 3), ("echo yes y steps 1", 3), ("exit 101", 3)):
+        faults = ("exit 1", "exit 3", "exit 101", "kill -9 $$", "echo yes y steps 1")
+        for script, status in (("exit 2", 2), *((it, 3) for it in faults)):
             with self.subTest(script):
                 out, err, found = self.answer(script)
                 self.assertEqual((out, err.count("\n"), err[:7], found), ("", 1, "error: ", status))
