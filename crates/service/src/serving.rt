@@ -12,7 +12,7 @@ use std::io;
 use std::net::TcpListener;
 use std::time::{Clock, Duration};
 
-/// How often in a row it is tried to accept a connection.
+/// How often in a row it is tried to accept a connection; of many at once, while none is open.
 pub(crate) const TRIES: u32 = 100;
 
 /// Serves so many connections of the listener, one after another: `serve_listener` over sockets of

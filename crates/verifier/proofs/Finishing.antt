@@ -1,5 +1,5 @@
 -- Each run can be finished: the steps start and finish once more, one after another.
-use Rattle.std.proofs.Common.{◌≡◌, ℕ, zero, suc, Bool, true, false, cond, List, [], ◌∷◌, ◌++◌, Option, Some, None, length, refl, ap, sym, ◌∙◌, subst, arith, inl, inr}
+use Rattle.std.proofs.Common.{◌≡◌, ℕ, zero, suc, Bool, true, false, cond, List, [], ◌∷◌, ◌++◌, Some, None, length, refl, ap, sym, ◌∙◌, subst, arith, inl, inr}
 use Rattle.std.specs.Prelude.{◌==◌, ◌<◌, ◌≤◌, ◌+◌, ◌⊎◌, slice_get, get_or, Contains}
 use Rattle.std.specs.List.{AllByRecursion}
 use Rattle.std.specs.Map.{lookup, remove_entry}
@@ -14,7 +14,7 @@ use Rattle.tree.specs.Tree.{Tree, Leaf, IsOrdered}
 use Rattle.tree.specs.Form.{form, root}
 use Rattle.blob_source.specs.Source.{Blobs}
 use Rattle.verifier.specs.AsRecorded.{IsPlanAsRecorded}
-use Rattle.verifier.specs.Build.{Meaning, ActionMeaning, Outcome, MeaningFits, Event, start, finish, State, outcome_of, job_of, action_of, started, finished, happens, IsTable, Obeys, IsRun, HasFinishedAll}
+use Rattle.verifier.specs.Build.{Meaning, ActionMeaning, Outcome, MeaningFits, Event, start, finish, State, job_of, action_of, started, finished, happens, IsTable, Obeys, IsRun, HasFinishedAll}
 use Rattle.verifier.specs.Headline.{IsBlobOfEvent, IsBlobOfEvents, IsBlobAhead, HasFinished}
 use Rattle.verifier.specs.Recorded.{Agrees}
 use Rattle.verifier.proofs.FreshRuns.{one_answer, Within, Keeps, keeps_event, may_start, nothing_is_stuck}

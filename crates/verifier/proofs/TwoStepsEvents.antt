@@ -141,3 +141,15 @@ of_all b (inr (es, end, run, h)) = of_events b two.end es end (own_end opening t
 
 pub no_clash_ahead : NoClash (λ b. IsConcerned two.blobs two.plan two.meaning two.tree two.table two.events b ⊎ IsBlobAhead two.table two.plan two.meaning two.tree two.end b)
 no_clash_ahead x y c d e = none_clash x y (of_all x c) (of_all y d) e
+
+-- ---- the run in which nothing has happened, and whatever may follow it
+
+of_fresh : (b : List ℕ) → IsConcerned two.blobs two.plan two.meaning two.tree two.table [] b ⊎ IsBlobAhead two.table two.plan two.meaning two.tree opening b → Contains all_blobs b
+of_fresh b (inl (inl h)) = concerned_one two.tree of_nothing b (inl h)
+of_fresh b (inl (inr (inl h))) = concerned_one two.tree of_nothing b (inr (inl h))
+of_fresh b (inl (inr (inr (inl h)))) = concerned_one two.tree of_nothing b (inr (inr (inl h)))
+of_fresh b (inl (inr (inr (inr h)))) = absurd h
+of_fresh b (inr (es, end, run, h)) = of_events b opening es end own_opening run h
+
+pub no_clash_fresh : NoClash (λ b. IsConcerned two.blobs two.plan two.meaning two.tree two.table [] b ⊎ IsBlobAhead two.table two.plan two.meaning two.tree opening b)
+no_clash_fresh x y c d e = none_clash x y (of_fresh x c) (of_fresh y d) e

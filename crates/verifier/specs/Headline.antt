@@ -143,7 +143,7 @@ pub record IsNotStuck (X : List (ActionMeaning × Outcome)) (plan : PlanValue) (
   pub finishes : (w : ℕ) (job : ℕ × ActionMeaning) → job_of w s ≡ Some job → (o : Outcome)
       × Contains X (job.1, o) × (o.exit_code ≡ pos 0)
 
--- the blobs of what may still happen in a state
+-- the blobs of the actions and outcomes of each run that may follow a state
 abbrev pub IsBlobAhead : List (ActionMeaning × Outcome) → PlanValue → Meaning → Tree Leaf → State
     → List ℕ → Type 0
 IsBlobAhead X plan meaning t s b = (es : List Event) × (end : State)

@@ -26,7 +26,7 @@ ghost use Rattle.verifier.specs.Together.{Earlier, Resolves};
 ghost use Rattle.verifier.specs.StepChecks.{step_check};
 ghost use Rattle.verifier.specs.declared.verdict.Cause.{Cause};
 ghost use Rattle.verifier.specs.Build.{Outcome, IsTreeOutcome, output_at, State, HasFinishedAll};
-ghost use Rattle.verifier.specs.Build.{AreLinesOf, merge_of, origins};
+ghost use Rattle.verifier.specs.Build.{AreLinesOf, merge_of, opening, origins};
 ghost use Rattle.verifier.specs.Headline.{PlanRun, RunsFrom, EveryRunEndsIn, EveryRunIsAsChosen};
 ghost use Rattle.verifier.specs.Headline.{NoRunIsStuck, IsNotStuck, IsConcerned, IsBlobAhead};
 ghost use Rattle.verifier.specs.BuildStages.{BuildStage, AreYes, last_claim, RunsStage};
@@ -170,7 +170,14 @@ pub fn a_build_meets_the_premises()
     ensures tree { IsOrdered two.tree × (root (form two.tree) ≡ two.sources) }
     ensures run { RunsFrom two.blobs two.results two.plan two.recorded two.tree two.run }
     ensures complete { HasFinishedAll two.plan two.end }
-    // Whatever may happen after the run, no two different blobs share a digest.
+    // So are they where nothing has happened yet, and whatever may happen then, no two different
+    // blobs share a digest.
+    ensures fresh { RunsFrom two.blobs two.results two.plan two.recorded two.tree
+        (record two.run { events = []; now = opening }) }
+    ensures open { NoClash (λ b. IsConcerned two.blobs two.plan two.run.meaning two.tree
+        two.run.chosen [] b
+        ⊎ IsBlobAhead two.run.table two.plan two.run.meaning two.tree opening b) }
+    // Nor do they after the run.
     ensures ahead { NoClash (λ b. IsConcerned two.blobs two.plan two.run.meaning two.tree
         two.run.chosen two.run.events b
         ⊎ IsBlobAhead two.run.table two.plan two.run.meaning two.tree two.run.now b) }

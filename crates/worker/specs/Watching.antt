@@ -1,4 +1,4 @@
--- How far a build is, and what its watcher is told.
+-- How far a build is, what its watcher is told, and in which order children's jobs finish.
 use Rattle.std.specs.Prelude.{suc, ◌≡◌, ◌⊎◌, ◌++◌, ◌≤◌, ◌==◌, not, ℕ, List, [], ◌∷◌, length, filter}
 use Rattle.std.specs.Prelude.{Option, Some, None}
 use Rattle.blob_source.specs.Sink.{KeepsRight}
@@ -67,16 +67,16 @@ first_step [] = None
 first_step ((id, i) ∷ js) = Some i
 
 -- a job is the first of these
-abbrev pub IsFirst : ℕ → List (ℕ × ℕ) → Type 0
-IsFirst id [] = ⊥
-IsFirst id (j ∷ js) = j.0 ≡ id
+abbrev pub IsFirstJob : ℕ → List (ℕ × ℕ) → Type 0
+IsFirstJob id [] = ⊥
+IsFirstJob id (j ∷ js) = j.0 ≡ id
 
 -- where a child's job finishes, it is the one of those that run that was started first
 abbrev pub FinishInOrder : List (ℕ × ℕ) → List Call → Type 0
 FinishInOrder js [] = Unit {0}
 FinishInOrder js (started i id ∷ cs) = FinishInOrder (js ++ (id, i) ∷ []) cs
 FinishInOrder js (launched id d s ∷ cs) = FinishInOrder js cs
-FinishInOrder js (ran id d v ∷ cs) = IsFirst id js × FinishInOrder (without_number id js) cs
+FinishInOrder js (ran id d v ∷ cs) = IsFirstJob id js × FinishInOrder (without_number id js) cs
 FinishInOrder js (taken id d v ∷ cs) = FinishInOrder (without_number id js) cs
 FinishInOrder js (lost id ∷ cs) = FinishInOrder (without_number id js) cs
 

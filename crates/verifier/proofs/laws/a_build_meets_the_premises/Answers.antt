@@ -1,4 +1,4 @@
-use Rattle.std.proofs.Common.{refl, subst}
+use Rattle.std.proofs.Common.{inl, refl, subst}
 use Rattle.blob_digest.specs.DigestValue.{IsDigest}
 use Rattle.tree.specs.Form.{form, top}
 use Rattle.tree.proofs.TreeDigests.{IsDigest-digest_of}
@@ -7,7 +7,7 @@ use Rattle.verifier.proofs.TwoSteps.{sources_named, plan_valid}
 use Rattle.verifier.proofs.TwoStepsRecorded.{as_recorded}
 use Rattle.verifier.proofs.TwoStepsRun.{is_complete}
 use Rattle.verifier.proofs.TwoStages.{runs_once}
-use Rattle.verifier.proofs.TwoStepsEvents.{no_clash_ahead}
+use Rattle.verifier.proofs.TwoStepsEvents.{no_clash_ahead, no_clash_fresh}
 use Rattle.verifier.proofs.laws.a_build_meets_the_premises.Goals as goal
 
 pub returns-clause-plan : goal.returns-clause-plan
@@ -24,6 +24,18 @@ returns-clause-run c = runs_once
 
 pub returns-clause-complete : goal.returns-clause-complete
 returns-clause-complete c = is_complete
+
+pub returns-clause-fresh : goal.returns-clause-fresh
+returns-clause-fresh c = record {
+  fits = runs_once.fits;
+  table = runs_once.table;
+  agrees = runs_once.agrees;
+  apart = λ x y h k e. no_clash_fresh x y (inl h) (inl k) e;
+  happened = refl;
+}
+
+pub returns-clause-open : goal.returns-clause-open
+returns-clause-open c = no_clash_fresh
 
 pub returns-clause-ahead : goal.returns-clause-ahead
 returns-clause-ahead c = no_clash_ahead
