@@ -4,7 +4,7 @@ use Rattle.std.specs.Prelude.{option_map}
 use Rattle.http_core.specs.Reply.{bare}
 use Rattle.action_cache.specs.declared.error.CacheError.{CacheError}
 use Rattle.action_cache.specs.CacheError.{refusal_of, IsRefused}
-use Rattle.action_cache.specs.Machine.{CacheState, Answer, done, given, nothing, refused, Refusal, under, got_blob, get_blob}
+use Rattle.action_cache.specs.Machine.{CacheState, Answer, done, nothing, refused, Refusal, get_blob}
 use Rattle.action_cache.specs.Machine as machine
 use Rattle.action_cache.specs.Reading.{by_messages}
 use Rattle.http_core.specs.declared.event.Area.{Area}

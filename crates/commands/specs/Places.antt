@@ -14,7 +14,7 @@ use Rattle.remote.specs.Flow.{unknown_flow}
 use Rattle.remote.specs.Folder.{IsNothingAt, entry_path}
 use Rattle.remote.specs.Folder as folders
 use Rattle.remote.specs.Line.{ConnectionValue, Gets, Puts, RefusesRequest, Request, get, put}
-use Rattle.remote.specs.Remote.{blobs_of, results_of, telling_of}
+use Rattle.remote.specs.Remote.{blobs_of, results_of}
 use Rattle.remote.specs.Table.{HasAnswer, KeepsNone}
 use Rattle.remote.specs.declared.fault.Fault.{Fault}
 use Rattle.remote.specs.declared.files.FileError.{FileError}
@@ -40,7 +40,6 @@ use Rattle.commands.specs.declared.failure.Method.TheVariants.{PutResult}
 pub record IsFresh {S A : Type 0} (r : Remote S A) : Type 0 where
   pub blobs : (d : DigestValue) → HasAnswer (blobs_of r) d → ⊥
   pub results : (d : DigestValue) → HasAnswer (results_of r) d → ⊥
-  pub calls : (telling_of r).calls ≡ 0
 
 -- The answer to the question by what such a source told. What it says is missing is so lacked.
 abbrev pub IsAnsweredBy : (Telling → Type 0) → (Lack → Type 0) → Question → Answer Global → Type 0

@@ -15,7 +15,6 @@ use Rattle.messages.specs.Gives.{FailsUnlessMemory}
 use Rattle.messages.specs.Path.{Overlap, AreApart}
 use Rattle.messages.specs.Tree.{IsTree, tree_with}
 use Rattle.messages.specs.declared.error.MessageError.{MessageError}
-use Rattle.messages.specs.declared.error.MessageError.TheVariants as messages
 use Rattle.std.specs.Prelude.{Ok}
 use Rattle.tree.specs.FlatTree.{FlatValue, standing_in, IsTaken}
 use Rattle.tree.specs.Tree.{Name, a_directory}

@@ -76,7 +76,8 @@ abbrev pub Covers : (Asked → Type 0) → List Asked → Type 0
 Covers Looks list = (a : Asked) → Looks a → Contains list a
 
 -- Calls that look at these alone. What was known stays known, and what is known is what the source
--- told. Nothing else becomes known, but for the empty blob, which is always there and may.
+-- told. Nothing else becomes known but the empty blob, which is always there, and no other blob is
+-- asked for.
 -- Of a list with all that they look at, the source is asked at most once for each that isn't known.
 -- What it was asked for is known then; where they are refused, all of it but the last.
 pub record Learns (Looks : Asked → Type 0) (refused : Type 0) (old new : Known)
