@@ -13,11 +13,10 @@ use Rattle.plan.specs.Values.{OriginValue, source, output, LineValue, StepValue,
 use Rattle.tree.specs.Tree.{Tree, Leaf, IsOrdered}
 use Rattle.tree.specs.Form.{form, root}
 use Rattle.blob_source.specs.Source.{Blobs}
-use Rattle.verifier.specs.AsRecorded.{IsPlanAsRecorded}
 use Rattle.verifier.specs.Build.{Meaning, ActionMeaning, Outcome, MeaningFits, Event, start, finish, State, job_of, action_of, started, finished, happens, IsTable, Obeys, IsRun, HasFinishedAll}
 use Rattle.verifier.specs.Headline.{IsBlobOfEvent, IsBlobOfEvents, IsBlobAhead, HasFinished}
 use Rattle.verifier.specs.Recorded.{Agrees}
-use Rattle.verifier.proofs.FreshRuns.{one_answer, Within, Keeps, keeps_event, may_start, nothing_is_stuck}
+use Rattle.verifier.proofs.FreshRuns.{one_answer, FirstAsRecorded, Within, Keeps, keeps_event, may_start, nothing_is_stuck}
 
 -- ---- a number that no job has
 
@@ -89,10 +88,11 @@ module _ (X : List (ActionMeaning × Outcome)) (plan : PlanValue) (meaning : Mea
 -- ---- all steps
 
 module _ (S : List ℕ → Type 0) (apart : NoClash S) (B C : Blobs) (t : Tree Leaf) (chosen : List (ActionMeaning × Outcome)) (within : Within S B t chosen)
-    (src : DigestValue) (plan : PlanValue) (ds : List DigestValue) (claim : DigestValue) (meaning : Meaning) (X : List (ActionMeaning × Outcome))
-    (ordered : IsOrdered t) (sources : root (form t) ≡ src) (fits : MeaningFits plan meaning) (table : IsTable X) (agrees : Agrees B C X chosen ds) (rules : IsPlan plan) (h : IsPlanAsRecorded B C src plan ds claim) where
+    (src : DigestValue) (plan : PlanValue) (ds : List DigestValue) (meaning : Meaning) (X : List (ActionMeaning × Outcome))
+    (ordered : IsOrdered t) (sources : root (form t) ≡ src) (fits : MeaningFits plan meaning) (table : IsTable X) (agrees : Agrees B C X chosen ds) (rules : IsPlan plan) (h : FirstAsRecorded B C src plan ds)
+    (all_first : (i : ℕ) (s : StepValue) → slice_get plan.steps i ≡ Some s → slice_get h.first i ≡ Some s) where
   abbrev IsKept : State → Type 0
-  IsKept = Keeps S apart B C t chosen within src plan ds claim meaning X ordered sources fits table agrees rules h
+  IsKept = Keeps S apart B C t chosen within src plan ds meaning X ordered sources fits table agrees rules h
 
   module _ (now : State) (begun : IsKept now) (ahead : (b : List ℕ) → IsBlobAhead X plan meaning t now b → S b) where
     -- what can be reached with the first steps finished
@@ -116,14 +116,14 @@ module _ (S : List ℕ → Type 0) (apart : NoClash S) (B C : Blobs) (t : Tree L
         let free : job_of w s ≡ None = none_above w s.jobs above.1 in
         let none : length {A = StepValue} [] + n ≡ n = omega arith in
         let lines = subst (λ n. AllByRecursion (IsLine n) step.lines) none (step_lines [] plan.steps rules.steps n step at) in
-        let a = may_start S apart B C t chosen within src plan ds claim meaning X ordered sources fits table agrees rules h s r.kept n step at (lines_done n s r.first step.lines lines) in
+        let a = may_start S apart B C t chosen within src plan ds meaning X ordered sources fits table agrees rules h all_first s r.kept n step at (lines_done n s r.first step.lines lines) in
         let mid : State = record s { jobs = (w, (n, a.0)) ∷ s.jobs } in
         let starts : happens plan meaning t s (start n w) ≡ Some mid = ap (λ q. started s n w q (action_of plan meaning t s n)) free ∙ ap (started s n w None) a.1 in
-        let started_kept : IsKept mid = keeps_event S apart B C t chosen within src plan ds claim meaning X ordered sources fits table agrees rules h s mid (start n w) r.kept tt
+        let started_kept : IsKept mid = keeps_event S apart B C t chosen within src plan ds meaning X ordered sources fits table agrees rules h s mid (start n w) r.kept tt
         (event_ahead r.events s (start n w) mid r.happened tt starts) starts in
         let run = run_more X plan meaning t now r.events s (start n w) mid r.happened tt starts in
         let busy : job_of w mid ≡ Some (n, a.0) = own_entry w (n, a.0) s.jobs in
-        let comes = (nothing_is_stuck S apart B C t chosen within src plan ds claim meaning X ordered sources fits table agrees rules h mid started_kept).finishes w (n, a.0) busy in
+        let comes = (nothing_is_stuck S apart B C t chosen within src plan ds meaning X ordered sources fits table agrees rules h all_first mid started_kept).finishes w (n, a.0) busy in
         let o = comes.0 in
         let obeys : Obeys X mid (finish w o) = λ job is. let same : (n, a.0) ≡ job = one_answer (job_of w mid) (n, a.0) job busy is in subst (λ (j : ℕ × ActionMeaning). Contains X (j.1, o)) same comes.1 in
         let end : State = record { done = (n, o) ∷ mid.done; jobs = remove_entry (λ k. k == w) mid.jobs } in
@@ -132,7 +132,7 @@ module _ (S : List ℕ → Type 0) (apart : NoClash S) (B C : Blobs) (t : Tree L
           events = (r.events ++ start n w ∷ []) ++ finish w o ∷ [];
           end = end;
           happened = run_more X plan meaning t now (r.events ++ start n w ∷ []) mid (finish w o) end run obeys finishes;
-          kept = keeps_event S apart B C t chosen within src plan ds claim meaning X ordered sources fits table agrees rules h mid end (finish w o) started_kept obeys
+          kept = keeps_event S apart B C t chosen within src plan ds meaning X ordered sources fits table agrees rules h mid end (finish w o) started_kept obeys
               (event_ahead (r.events ++ start n w ∷ []) mid (finish w o) end run obeys finishes) finishes;
           first = one_more_done n o s.done r.first;
         }

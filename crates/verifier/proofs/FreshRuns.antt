@@ -1,6 +1,6 @@
--- What runs of a plan keep, where the plan is as recorded and no two different blobs concerned share a digest.
+-- What runs of a plan keep, where its first steps are as recorded and no two different blobs concerned share a digest.
 use Rattle.std.proofs.Common.{◌≡◌, ℕ, zero, suc, Bool, true, false, cond, List, [], ◌∷◌, Option, Some, None, length, refl, ap, sym, ◌∙◌, subst, arith, inl, inr}
-use Rattle.std.specs.Prelude.{◌==◌, pos, option_map, option_and_then, slice_get, Contains}
+use Rattle.std.specs.Prelude.{◌==◌, ◌≢◌, pos, option_map, option_and_then, slice_get, Contains}
 use Rattle.std.specs.List.{AllByRecursion}
 use Rattle.std.specs.Map.{lookup, remove_entry}
 use Rattle.std.proofs.lemmas.Bool.Decides.{Decides-eqb}
@@ -28,22 +28,23 @@ use Rattle.tree.specs.Tree.{Name, Tree, Leaf, Entry, single, whole, entry_of, be
 use Rattle.tree.specs.Form.{NodeValue, entry_node, form, top, root, IsBlobOf}
 use Rattle.tree.specs.Merge.{merge}
 use Rattle.tree.specs.MergeAgrees.{IsBlobIn, IsBlobOfOne}
-use Rattle.tree.specs.Merging.{NodeWithin, MergeLines, IsHeldIn, merged}
+use Rattle.tree.specs.Merging.{NodeWithin, MergeLines, conflict, unreadable, IsHeldIn, merged}
+use Rattle.tree.specs.Stage.{◌and_then◌}
 use Rattle.blob_source.specs.Source.{Blobs, IsUnder, IsBlobUnder}
-use Rattle.blob_source.specs.Told.{IsTold, TellsDirectory, FailsDirectory}
-use Rattle.tree.specs.Lookup.{found, LooksFrom, IsValue}
+use Rattle.blob_source.specs.Told.{Fault, IsTold, TellsDirectory, FailsDirectory}
+use Rattle.tree.specs.Lookup.{Looked, fault, nothing, found, LooksFrom, IsValue, AgreesWith}
 use Rattle.tree.proofs.LookupLemmas.{looks_from, told_reads, entry_blobs}
 use Rattle.tree.proofs.LookupLemmas as lookups
 use Rattle.tree.proofs.OrderLemmas.{IsOrderedAt, ordered_at}
 use Rattle.tree.proofs.SameRoot.{same_root}
 use Rattle.tree.proofs.TreeDigests.{IsDigest-digest_of, only_empty}
-use Rattle.verifier.specs.Together.{LooksUpOrigin, StandsAtOrigin, Resolves}
-use Rattle.verifier.specs.AsRecorded.{IsPlanAsRecorded}
+use Rattle.verifier.specs.Together.{LooksUpOrigin, StandsAtOrigin, Resolves, LinesFault, not_read, IsFaultOfLook, FirstFault, put_together}
+use Rattle.verifier.specs.AsRecorded.{AreAsRecorded, IsAccepted}
 use Rattle.verifier.specs.Build.{Meaning, ActionMeaning, action_digest, Outcome, output_at, StepFits, MeaningFits, Event, start, finish, lose, State, opening, outcome_of, job_of, origin_at, origins, merge_of, step_action, action_of, started, finished, lost, happens, IsTable, Obeys, IsRun, HasFinishedAll}
 use Rattle.verifier.specs.Headline.{IsDirectoryInTree, IsBlobOfEntry, IsBlobOfAction, IsBlobOfOutcome, IsBlobOfEvent, IsBlobOfEvents, IsBlobOfChosen, HasFinished, IsNotStuck, IsAsChosen}
 use Rattle.verifier.specs.Recorded.{Agrees, IsRecordedAs, RecordsAt}
 use Rattle.verifier.proofs.HeldOrigins.{source_held, outcome_held}
-use Rattle.verifier.proofs.LinesTold.{valid_tree, tree_blobs, IsRead, LinesTell, no_lines, one_more, told_graft}
+use Rattle.verifier.proofs.LinesTold.{valid_tree, tree_blobs, IsRead, LinesTell, no_lines, one_more, told_graft, no_graft_told}
 use Rattle.verifier.proofs.OutputLookups.{HoldsTree, HoldsOutput, output_found, outputs_tell}
 use Rattle.verifier.proofs.RecordedSteps.{get_other, as_many, IsRecordedStep, step_at}
 use Rattle.verifier.proofs.Targets.{ArePaths, paths_of, step_paths, output_ordered}
@@ -92,6 +93,15 @@ pub record Within (S : List ℕ → Type 0) (B : Blobs) (t : Tree Leaf) (chosen 
   pub own : (b : List ℕ) → IsBlobOf t b → S b
   pub picked : (b : List ℕ) → IsBlobOfChosen chosen b → S b
 
+-- ---- steps that are as recorded
+
+-- the first steps of a plan
+pub record FirstAsRecorded (B C : Blobs) (src : DigestValue) (plan : PlanValue) (ds : List DigestValue) : Type 0 where
+  pub first : List StepValue
+  pub outcomes : List OutcomeValue
+  pub planned : (i : ℕ) (s : StepValue) → slice_get first i ≡ Some s → slice_get plan.steps i ≡ Some s
+  pub steps : AreAsRecorded B C src [] first ds outcomes
+
 module _ (S : List ℕ → Type 0) (apart : NoClash S) where
   -- what a source tells under a digest is each blob of the set with that digest
   pub told_bytes : (B : Blobs) (d : DigestValue) (bytes other : List ℕ) → ((b : List ℕ) → IsValue B b → S b) → IsBlobUnder B d bytes → S other → digest_of other ≡ d → bytes ≡ other
@@ -118,8 +128,8 @@ module _ (S : List ℕ → Type 0) (apart : NoClash S) where
     holds_outputs (directory d ∷ xs) (y ∷ es) h e (zero, lt, is) = subst (λ (z : List Name × OutputValue). HoldsOutput S apart z.1) is (subst (HoldsOutput S apart) (sym h.1.2) (holds_told d.tree h.1.0 h.1.1))
     holds_outputs (x ∷ xs) (y ∷ es) h e (suc k, lt, is) = holds_outputs xs es h.2 e (k, omega (arith, lt), is)
 
-    module _ (src : DigestValue) (plan : PlanValue) (ds : List DigestValue) (claim : DigestValue) (meaning : Meaning) (X : List (ActionMeaning × Outcome))
-        (ordered : IsOrdered t) (sources : root (form t) ≡ src) (fits : MeaningFits plan meaning) (table : IsTable X) (agrees : Agrees B C X chosen ds) (rules : IsPlan plan) (h : IsPlanAsRecorded B C src plan ds claim) where
+    module _ (src : DigestValue) (plan : PlanValue) (ds : List DigestValue) (meaning : Meaning) (X : List (ActionMeaning × Outcome))
+        (ordered : IsOrdered t) (sources : root (form t) ≡ src) (fits : MeaningFits plan meaning) (table : IsTable X) (agrees : Agrees B C X chosen ds) (rules : IsPlan plan) (h : FirstAsRecorded B C src plan ds) where
       -- ---- the steps, each with its chosen pair
 
       -- what was recorded of a step, and what was chosen for it
@@ -131,9 +141,9 @@ module _ (S : List ℕ → Type 0) (apart : NoClash S) where
         digest : action_digest pair.0 ≡ kept.digest
         recorded_as : IsRecordedAs B C kept.digest pair.1
 
-      chosen_at : (i : ℕ) (s : StepValue) → slice_get plan.steps i ≡ Some s → Chosen i s
+      chosen_at : (i : ℕ) (s : StepValue) → slice_get h.first i ≡ Some s → Chosen i s
       chosen_at i s at =
-          let step = step_at B C src plan.steps ds h.outcomes h.steps i s at in
+          let step = step_at B C src h.first ds h.outcomes h.steps i s at in
           let pair = get_other ds chosen i step.digest (sym agrees.each) step.digest_at in
           let facts = agrees.pairs i step.digest pair.0 step.digest_at pair.1 in
           record { kept = step; pair = pair.0; pair_at = pair.1; in_table = facts.0; digest = facts.1; recorded_as = facts.2 }
@@ -153,60 +163,66 @@ module _ (S : List ℕ → Type 0) (apart : NoClash S) where
       succeeds : (i : ℕ) (s : StepValue) (c : Chosen i s) → c.pair.1.exit_code ≡ pos 0
       succeeds i s c = c.recorded_as.exit_code ∙ ap (λ (r : ActionResultValue). r.exit_code) (sym (same_result i s c)) ∙ c.kept.step.exit_code
 
-      -- at each path it has the node that was recorded there
-      chosen_tells : (i : ℕ) (s : StepValue) (c : Chosen i s) (p : List Name) (x : NodeValue) → LooksIn c.kept.outcome p (found x) → option_map entry_node (output_at c.pair.1.outputs p) ≡ Some x
-      chosen_tells i s c p x look =
+      -- at each path it has what was recorded there
+      chosen_tells : (i : ℕ) (s : StepValue) (c : Chosen i s) (p : List Name) (r : Looked) → LooksIn c.kept.outcome p r → AgreesWith (option_map entry_node (output_at c.pair.1.outputs p)) r
+      chosen_tells i s c p r look =
           let v = c.kept.outcome in
           let told = c.kept.step.recorded in
           outputs_tell S apart c.pair.1 v (table.actions c.pair.0 c.pair.1 c.in_table).1 (λ b k. within.picked b (c.pair, holds_at chosen i c.pair c.pair_at, inr k)) (holds_outputs told.recorded v.outputs told.outputs)
-          (λ q y inside. (c.recorded_as.outputs q y).1 (subst (λ r. RecordsAt B r q y) (same_result i s c) ((recorded_at B c.kept.step.result v q y told).0 inside))) p x look
+          (λ q y. (
+            (λ inside. (c.recorded_as.outputs q y).1 (subst (λ r. RecordsAt B r q y) (same_result i s c) ((recorded_at B c.kept.step.result v q y told).0 inside))),
+            (λ there. (recorded_at B c.kept.step.result v q y told).1 (subst (λ r. RecordsAt B r q y) (sym (same_result i s c)) ((c.recorded_as.outputs q y).0 there))),
+          )) p r look
 
-      -- ---- what a run keeps: each published outcome is the chosen one of its step, and each job runs the chosen action
+      -- ---- what a run keeps: each published outcome of one of the first steps is the chosen one, and each job of one runs the chosen action
 
       abbrev IsPublished : ℕ × Outcome → Type 0
-      IsPublished e = (pair : ActionMeaning × Outcome) × (slice_get chosen e.0 ≡ Some pair) × (e.1 ≡ pair.1)
+      IsPublished e = (s : StepValue) × (slice_get plan.steps e.0 ≡ Some s) × (slice_get h.first e.0 ≡ Some s → (pair : ActionMeaning × Outcome) × (slice_get chosen e.0 ≡ Some pair) × (e.1 ≡ pair.1))
 
       abbrev IsJob : ℕ × (ℕ × ActionMeaning) → Type 0
-      IsJob j = (s : StepValue) × (slice_get plan.steps j.1.0 ≡ Some s) × (pair : ActionMeaning × Outcome) × (slice_get chosen j.1.0 ≡ Some pair) × (j.1.1 ≡ pair.0)
+      IsJob j = (s : StepValue) × (slice_get plan.steps j.1.0 ≡ Some s) × (slice_get h.first j.1.0 ≡ Some s → (pair : ActionMeaning × Outcome) × (slice_get chosen j.1.0 ≡ Some pair) × (j.1.1 ≡ pair.0))
 
       pub record Keeps (s : State) : Type 0 where
         pub done : AllByRecursion IsPublished s.done
         pub jobs : AllByRecursion IsJob s.jobs
 
       -- the outcome of a step that has finished
-      published : (s : State) → Keeps s → (i : ℕ) (step : StepValue) (c : Chosen i step) (o : Outcome) → outcome_of i s ≡ Some o → o ≡ c.pair.1
-      published s keeps i step c o is =
+      published : (s : State) → Keeps s → (i : ℕ) (step : StepValue) → slice_get h.first i ≡ Some step → (c : Chosen i step) (o : Outcome) → outcome_of i s ≡ Some o → o ≡ c.pair.1
+      published s keeps i step at c o is =
           let e = found_one IsPublished i s.done o keeps.done is in
-          e.2 ∙ ap (λ (z : ActionMeaning × Outcome). z.1) (one_answer (slice_get chosen i) e.0 c.pair e.1 c.pair_at)
+          let same = one_answer (slice_get plan.steps i) step e.0 (h.planned i step at) e.1 in
+          let k = e.2 (subst (λ z. slice_get h.first i ≡ Some z) same at) in
+          k.2 ∙ ap (λ (z : ActionMeaning × Outcome). z.1) (one_answer (slice_get chosen i) k.0 c.pair k.1 c.pair_at)
 
       -- an outcome that is looked into is that of a step
-      origin_step : (j : ℕ) (v : OutcomeValue) → slice_get h.outcomes j ≡ Some v → (s : StepValue) × (slice_get plan.steps j ≡ Some s)
-      origin_step j v e = get_other h.outcomes plan.steps j v (as_many B C src plan.steps ds h.outcomes h.steps) e
+      origin_step : (j : ℕ) (v : OutcomeValue) → slice_get h.outcomes j ≡ Some v → (s : StepValue) × (slice_get h.first j ≡ Some s)
+      origin_step j v e = get_other h.outcomes h.first j v (as_many B C src h.first ds h.outcomes h.steps) e
 
-      -- an origin has the node that was looked up
-      origin_tells : (s : State) → Keeps s → (o : OriginValue) (x : NodeValue) → LooksUpOrigin B src (slice_get h.outcomes) o (found x) → HasFinished s o → option_map entry_node (origin_at t s o) ≡ Some x
-      origin_tells s keeps (source p) x look done =
-          looks_from (TellsDirectory B) (FailsDirectory B) S (told_reads B S within.values apart) p (Some (whole t)) (found x) ordered within.own
-          (subst (λ d. LooksFrom (TellsDirectory B) (FailsDirectory B) p (Some (Dir d)) (found x)) (sym sources) look)
-      origin_tells s keeps (output j p) x look done =
+      -- an origin has what was looked up
+      origin_tells : (s : State) → Keeps s → (o : OriginValue) (r : Looked) → LooksUpOrigin B src (slice_get h.outcomes) o r → HasFinished s o → AgreesWith (option_map entry_node (origin_at t s o)) r
+      origin_tells s keeps (source p) r look done =
+          looks_from (TellsDirectory B) (FailsDirectory B) S (told_reads B S within.values apart) p (Some (whole t)) r ordered within.own
+          (subst (λ d. LooksFrom (TellsDirectory B) (FailsDirectory B) p (Some (Dir d)) r) (sym sources) look)
+      origin_tells s keeps (output j p) r look done =
           let step = origin_step j look.0 look.1 in
           let c = chosen_at j step.0 step.1 in
           let outcome = one_answer (slice_get h.outcomes j) look.0 c.kept.outcome look.1 c.kept.outcome_at in
-          let is = published s keeps j step.0 c done.0 done.1 in
-          ap (λ q. option_map entry_node (option_and_then (λ (o : Outcome). output_at o.outputs p) q)) done.1
-          ∙ ap (λ (o : Outcome). option_map entry_node (output_at o.outputs p)) is
-          ∙ chosen_tells j step.0 c p x (subst (λ v. LooksIn v p (found x)) outcome look.2)
+          let is = published s keeps j step.0 step.1 c done.0 done.1 in
+          let at : origin_at t s (output j p) ≡ output_at c.pair.1.outputs p =
+          ap (option_and_then (λ (o : Outcome). output_at o.outputs p)) done.1 ∙ ap (λ (o : Outcome). output_at o.outputs p) is in
+          subst (λ z. AgreesWith (option_map entry_node z) r) (sym at) (chosen_tells j step.0 c p r (subst (λ v. LooksIn v p r) outcome look.2))
 
-      origin_ordered : (s : State) → Keeps s → (o : OriginValue) → IsOrderedAt (origin_at t s o)
-      origin_ordered s keeps (source p) = ordered_at p (Some (whole t)) ordered
-      origin_ordered s keeps (output j p) = by (outcome_of j s) refl
+      origin_ordered : (s : State) → Keeps s → (o : OriginValue) (x : NodeValue) → LooksUpOrigin B src (slice_get h.outcomes) o (found x) → IsOrderedAt (origin_at t s o)
+      origin_ordered s keeps (source p) x look = ordered_at p (Some (whole t)) ordered
+      origin_ordered s keeps (output j p) x look = by (outcome_of j s) refl
         where
           by : (q : Option Outcome) → outcome_of j s ≡ q → IsOrderedAt (option_and_then (λ (o : Outcome). output_at o.outputs p) q)
           by None is = tt
           by (Some o) is =
-              let e = found_one IsPublished j s.done o keeps.done is in
-              let valid = (table.actions e.0.0 e.0.1 (pair_in_table j e.0 e.1)).1 in
-              subst (λ (z : Outcome). IsOrderedAt (output_at z.outputs p)) (sym e.2) (output_ordered e.0.1.outputs p valid.outputs)
+              let step = origin_step j look.0 look.1 in
+              let c = chosen_at j step.0 step.1 in
+              let valid = (table.actions c.pair.0 c.pair.1 c.in_table).1 in
+              subst (λ (z : Outcome). IsOrderedAt (output_at z.outputs p)) (sym (published s keeps j step.0 step.1 c o is)) (output_ordered c.pair.1.outputs p valid.outputs)
 
       -- ---- lines and their grafts
 
@@ -214,17 +230,18 @@ module _ (S : List ℕ → Type 0) (apart : NoClash S) where
       HaveFinished s ls = AllByRecursion (λ (l : LineValue). HasFinished s l.origin) ls
 
       -- the blobs of what stands at an origin
-      origin_blobs : (s : State) → Keeps s → (o : OriginValue) (e : Entry Leaf) → origin_at t s o ≡ Some e → (b : List ℕ) → IsBlobOfOne e b → S b
-      origin_blobs s keeps (source p) e is b q = within.own b (blobs_below p (Some (whole t)) e b is q)
-      origin_blobs s keeps (output j p) e is b q = by (outcome_of j s) refl is
+      origin_blobs : (s : State) → Keeps s → (o : OriginValue) (x : NodeValue) → LooksUpOrigin B src (slice_get h.outcomes) o (found x) → (e : Entry Leaf) → origin_at t s o ≡ Some e → (b : List ℕ) → IsBlobOfOne e b → S b
+      origin_blobs s keeps (source p) x look e is b q = within.own b (blobs_below p (Some (whole t)) e b is q)
+      origin_blobs s keeps (output j p) x look e is b q = by (outcome_of j s) refl is
         where
           by : (q : Option Outcome) → outcome_of j s ≡ q → option_and_then (λ (o : Outcome). output_at o.outputs p) q ≡ Some e → S b
           by None at is = absurd cc
           by (Some o) at is =
-              let done = found_one IsPublished j s.done o keeps.done at in
+              let step = origin_step j look.0 look.1 in
+              let c = chosen_at j step.0 step.1 in
               let there = output_found o.outputs p e is in
               let own = blob_of_entry there.0.1 b (blobs_below there.2 (Some there.0.1) e b there.4 q) in
-              within.picked b (done.0, holds_at chosen j done.0 done.1, inr (subst (λ (z : Outcome). IsBlobOfOutcome z b) done.2 (there.0, there.1, own)))
+              within.picked b (c.pair, holds_at chosen j c.pair c.pair_at, inr (subst (λ (z : Outcome). IsBlobOfOutcome z b) (published s keeps j step.0 step.1 c o at) (there.0, there.1, own)))
 
       -- where what is below an origin is read
       origin_read : (o : OriginValue) (x : NodeWithin) → StandsAtOrigin B src (slice_get h.outcomes) o x → IsRead S x
@@ -252,7 +269,8 @@ module _ (S : List ℕ → Type 0) (apart : NoClash S) where
       lines_tell s keeps [] paths xs r done = subst (LinesTell S t s []) (sym r) (no_lines S t s)
       lines_tell s keeps (l ∷ ls) paths xs r done =
           subst (LinesTell S t s (l ∷ ls)) (sym r.4)
-          (one_more S t s l r.0 ls r.2 paths.0 (origin_tells s keeps l.origin r.0.node r.1.node done.0) (origin_ordered s keeps l.origin) (origin_read l.origin r.0 r.1) (origin_blobs s keeps l.origin)
+          (one_more S t s l r.0 ls r.2 paths.0 (origin_tells s keeps l.origin (found r.0.node) r.1.node done.0) (origin_ordered s keeps l.origin r.0.node r.1.node) (origin_read l.origin r.0 r.1)
+          (origin_blobs s keeps l.origin r.0.node r.1.node)
           (lines_tell s keeps ls paths.1 r.2 r.3 done.1))
 
       -- what lines whose steps have finished put together is there, with the digest that was found
@@ -285,6 +303,40 @@ module _ (S : List ℕ → Type 0) (apart : NoClash S) where
           by : (q : Option (List (List Name × Entry Leaf))) → origins t s ls ≡ q → option_and_then merge q ≡ Some g → HaveFinished s ls
           by None those is = absurd cc
           by (Some es) those is = origins_finished s ls es those
+
+      -- where lines have a fault, other than a Directory that isn't told, they put nothing together
+      missing : (s : State) → Keeps s → (why : LinesFault) → ((f : Fault) → why ≢ not_read f) → (o : OriginValue) (r : Looked) → LooksUpOrigin B src (slice_get h.outcomes) o r → IsFaultOfLook o r why → origin_at t s o ≡ None
+      missing s keeps why told o (fault f) look is = absurd (told f is)
+      missing s keeps why told o (found x) look is = absurd is
+      missing s keeps why told o nothing look is = by (origin_at t s o) refl
+        where
+          by : (q : Option (Entry Leaf)) → origin_at t s o ≡ q → origin_at t s o ≡ None
+          by None at = at
+          by (Some e) at =
+              let none : option_map entry_node (origin_at t s o) ≡ None = origin_tells s keeps o nothing look (origin_finished s o e at) in
+              let clash : ◌≡◌ {A = Option NodeValue} (Some (entry_node e)) None = sym (ap (option_map entry_node) at) ∙ none in
+              absurd cc
+
+      first_missing : (s : State) → Keeps s → (why : LinesFault) → ((f : Fault) → why ≢ not_read f) → (ls : List LineValue) → FirstFault B src (slice_get h.outcomes) ls why → origins t s ls ≡ None
+      first_missing s keeps why told [] k = absurd k
+      first_missing s keeps why told (l ∷ ls) (inl (r, look, is)) =
+          ap (option_and_then (λ e. option_map (λ es. (l.target, e) ∷ es) (origins t s ls))) (missing s keeps why told l.origin r look is)
+      first_missing s keeps why told (l ∷ ls) (inr (x, look, rest)) =
+          ap (λ q. option_and_then (λ e. option_map (λ es. (l.target, e) ∷ es) q) (origin_at t s l.origin)) (first_missing s keeps why told ls rest) ∙ none (origin_at t s l.origin)
+        where
+          none : (q : Option (Entry Leaf)) → option_and_then {U = List (List Name × Entry Leaf)} (λ (e : Entry Leaf). option_map (λ (es : List (List Name × Entry Leaf)). (l.target, e) ∷ es) None) q ≡ None
+          none None = refl
+          none (Some e) = refl
+
+      pub put_nothing : (s : State) → Keeps s → (ls : List LineValue) → ArePaths ls → (why : LinesFault) → ((f : Fault) → why ≢ not_read f) → (put_together B src (slice_get h.outcomes) ls).fails why → merge_of t s ls ≡ None
+      unfolding ◌and_then◌
+      put_nothing s keeps ls paths why told (inl k) = ap (option_and_then merge) (first_missing s keeps why told ls k)
+      put_nothing s keeps ls paths why told (inr (xs, r, (unreadable f, fails, is))) = absurd (told f is)
+      put_nothing s keeps ls paths why told (inr (xs, r, (conflict p, fails, is))) = by (merge_of t s ls) refl
+        where
+          by : (q : Option (Tree Leaf)) → merge_of t s ls ≡ q → merge_of t s ls ≡ None
+          by None at = at
+          by (Some g) at = no_graft_told S t s apart B within.values (lines_tell s keeps ls paths xs r (graft_finished s ls g at)) p fails
 
       -- ---- events
 
@@ -359,19 +411,22 @@ module _ (S : List ℕ → Type 0) (apart : NoClash S) where
           by None None e is = absurd cc
           by None (Some a) e is =
               let p = action_is s i a e in
-              let c = chosen_at i p.step p.at in
-              let same = takes_chosen s keeps i a p c (λ b k. blobs b (a, e, k)) in
               let whole_state : ◌≡◌ {A = State} (record s { jobs = (w, (i, a)) ∷ s.jobs }) mid = cc in
-              subst Keeps whole_state (record { done = keeps.done; jobs = ((p.step, p.at, c.pair, c.pair_at, same), keeps.jobs) })
+              subst Keeps whole_state (record {
+                done = keeps.done;
+                jobs = ((p.step, p.at, λ at. let c = chosen_at i p.step at in (c.pair, c.pair_at, takes_chosen s keeps i a p c (λ b k. blobs b (a, e, k)))), keeps.jobs);
+              })
       keeps_event s mid (finish w o) keeps obeys blobs is = by (job_of w s) refl is
         where
           by : (q : Option (ℕ × ActionMeaning)) → job_of w s ≡ q → finished s w o q ≡ Some mid → Keeps mid
           by None e is = absurd cc
           by (Some job) e is =
               let j = found_one IsJob w s.jobs job keeps.jobs e in
-              let outcome = table.same j.2.0 o j.2.1 (subst (λ a. Contains X (a, o)) j.4 (obeys job e)) (pair_in_table job.0 j.2 j.3) in
               let whole_state : ◌≡◌ {A = State} (record { done = (job.0, o) ∷ s.done; jobs = remove_entry (λ k. k == w) s.jobs }) mid = cc in
-              subst Keeps whole_state (record { done = ((j.2, j.3, outcome), keeps.done); jobs = kept_rest IsJob w s.jobs keeps.jobs })
+              subst Keeps whole_state (record {
+                done = ((j.0, j.1, λ at. let k = j.2 at in (k.0, k.1, table.same k.0.0 o k.0.1 (subst (λ a. Contains X (a, o)) k.2 (obeys job e)) (pair_in_table job.0 k.0 k.1))), keeps.done);
+                jobs = kept_rest IsJob w s.jobs keeps.jobs;
+              })
       keeps_event s mid (lose w) keeps obeys blobs is = by (job_of w s) is
         where
           by : (q : Option (ℕ × ActionMeaning)) → lost s w q ≡ Some mid → Keeps mid
@@ -388,50 +443,128 @@ module _ (S : List ℕ → Type 0) (apart : NoClash S) where
       pub runs_keep : (end : State) (es : List Event) → ((b : List ℕ) → IsBlobOfEvents plan meaning t opening es b → S b) → IsRun X plan meaning t opening es end → Keeps end
       runs_keep end es blobs r = keeps_run opening end es (record { done = tt; jobs = tt }) blobs r
 
-      -- ---- what a run comes to
+      -- ---- a step whose lines put nothing together
 
-      finished_all : (end : State) → HasFinishedAll plan end → (ls : List LineValue) (xs : MergeLines) → Resolves B src (slice_get h.outcomes) ls xs → HaveFinished end ls
-      finished_all end all [] xs r = tt
-      finished_all end all (l ∷ ls) xs r = (one l.origin r.1.node, finished_all end all ls r.2 r.3)
-        where
-          one : (o : OriginValue) → LooksUpOrigin B src (slice_get h.outcomes) o (found r.0.node) → HasFinished end o
-          one (source p) look = tt
-          one (output j p) look = let step = origin_step j look.0 look.1 in all j step.0 step.1
+      module _ (i : ℕ) (step : StepValue) (at : slice_get plan.steps i ≡ Some step) (why : LinesFault) (told : (f : Fault) → why ≢ not_read f) (fails : (put_together B src (slice_get h.outcomes) step.lines).fails why) where
+        -- it has no action
+        no_action : (s : State) → Keeps s → action_of plan meaning t s i ≡ None
+        no_action s keeps =
+            let f = fits.steps i step at in
+            action_made s i step at
+            ∙ ap (option_map {U = ActionMeaning} (λ input. record { frame = f.0; command = f.1; input = input })) (put_nothing s keeps step.lines (step_paths [] plan.steps rules.steps i step at) why told fails)
 
-      -- A complete run ends in a tree with the claim as its digest.
-      pub end_tree : (end : State) → Keeps end → HasFinishedAll plan end
-          → (g : Tree Leaf) × (merge_of t end plan.root_lines ≡ Some g) × (root (form g) ≡ claim) × IsOrdered g
-      end_tree end keeps all =
-          let paths = paths_of (length plan.steps) plan.root_lines rules.root_lines.each in
-          let g = grafts end keeps plan.root_lines paths h.root.nodes h.root.resolved h.root.tree h.root.put_together (finished_all end all plan.root_lines h.root.nodes h.root.resolved) in
-          (g.0, g.1, g.2 ∙ h.root.same, g.3)
+        cant_start : (s : State) → Keeps s → (w : ℕ) → happens plan meaning t s (start i w) ≡ None
+        cant_start s keeps w = ap (started s i w (job_of w s)) (no_action s keeps) ∙ by (job_of w s)
+          where
+            by : (q : Option (ℕ × ActionMeaning)) → started s i w q None ≡ None
+            by None = refl
+            by (Some busy) = refl
 
-      -- a step whose lines' steps have finished has an action
-      pub may_start : (now : State) → Keeps now → (i : ℕ) (step : StepValue) → slice_get plan.steps i ≡ Some step → HaveFinished now step.lines → (a : ActionMeaning) × (action_of plan meaning t now i ≡ Some a)
-      may_start now keeps i step at done =
-          let c = chosen_at i step at in
-          let f = fits.steps i step at in
-          let r = c.kept.step in
-          let g = grafts now keeps step.lines (step_paths [] plan.steps rules.steps i step at) r.nodes r.resolved r.tree r.put_together done in
-          let a : ActionMeaning = record { frame = f.0; command = f.1; input = g.0 } in
-          (a, action_made now i step at ∙ ap (option_map {U = ActionMeaning} (λ input. record { frame = f.0; command = f.1; input = input })) g.1)
+        -- no job and no outcome is of it
+        record IsFree (s : State) : Type 0 where
+          jobs : AllByRecursion (λ (j : ℕ × (ℕ × ActionMeaning)). j.1.0 ≢ i) s.jobs
+          done : AllByRecursion (λ (e : ℕ × Outcome). e.0 ≢ i) s.done
 
-      -- Nothing is stuck.
-      pub nothing_is_stuck : (now : State) → Keeps now → IsNotStuck X plan meaning t now
-      nothing_is_stuck now keeps = record {
-        starts = λ i w step at done free.
-            let a = may_start now keeps i step at done in
-            (record now { jobs = (w, (i, a.0)) ∷ now.jobs }, ap (λ q. started now i w q (action_of plan meaning t now i)) free ∙ ap (started now i w None) a.1);
-        finishes = λ w job is.
-            let j = found_one IsJob w now.jobs job keeps.jobs is in
-            let c = chosen_at job.0 j.0 j.1 in
-            let same = one_answer (slice_get chosen job.0) c.pair j.2 c.pair_at j.3 in
-            (j.2.1, subst (λ a. Contains X (a, j.2.1)) (sym j.4) (pair_in_table job.0 j.2 j.3), ap (λ (z : ActionMeaning × Outcome). z.1.exit_code) (sym same) ∙ succeeds job.0 j.0 c);
-      }
+        free_event : (s mid : State) (e : Event) → Keeps s → IsFree s → happens plan meaning t s e ≡ Some mid → IsFree mid
+        free_event s mid (start k w) keeps free is = by (job_of w s) (action_of plan meaning t s k) refl is
+          where
+            by : (q : Option (ℕ × ActionMeaning)) (o : Option ActionMeaning) → action_of plan meaning t s k ≡ o → started s k w q o ≡ Some mid → IsFree mid
+            by (Some job) o e is = absurd cc
+            by None None e is = absurd cc
+            by None (Some a) e is =
+                let whole_state : ◌≡◌ {A = State} (record s { jobs = (w, (k, a)) ∷ s.jobs }) mid = cc in
+                subst IsFree whole_state (record { jobs = (other, free.jobs); done = free.done })
+              where
+                other : k ≢ i
+                other same = let clash : ◌≡◌ {A = Option ActionMeaning} None (Some a) = sym (no_action s keeps) ∙ ap (action_of plan meaning t s) (sym same) ∙ e in absurd cc
+        free_event s mid (finish w o) keeps free is = by (job_of w s) refl is
+          where
+            by : (q : Option (ℕ × ActionMeaning)) → job_of w s ≡ q → finished s w o q ≡ Some mid → IsFree mid
+            by None e is = absurd cc
+            by (Some job) e is =
+                let whole_state : ◌≡◌ {A = State} (record { done = (job.0, o) ∷ s.done; jobs = remove_entry (λ k. k == w) s.jobs }) mid = cc in
+                let other = found_one (λ (j : ℕ × (ℕ × ActionMeaning)). j.1.0 ≢ i) w s.jobs job free.jobs e in
+                subst IsFree whole_state (record { jobs = kept_rest (λ (j : ℕ × (ℕ × ActionMeaning)). j.1.0 ≢ i) w s.jobs free.jobs; done = (other, free.done) })
+        free_event s mid (lose w) keeps free is = by (job_of w s) is
+          where
+            by : (q : Option (ℕ × ActionMeaning)) → lost s w q ≡ Some mid → IsFree mid
+            by None is = absurd cc
+            by (Some job) is =
+                let whole_state : ◌≡◌ {A = State} (record s { jobs = remove_entry (λ k. k == w) s.jobs }) mid = cc in
+                subst IsFree whole_state (record { jobs = kept_rest (λ (j : ℕ × (ℕ × ActionMeaning)). j.1.0 ≢ i) w s.jobs free.jobs; done = free.done })
 
-      -- Jobs and outcomes are the chosen ones.
-      pub runs_as_chosen : (now : State) → Keeps now → IsAsChosen chosen now
-      runs_as_chosen now keeps = record {
-        jobs = λ w job is. let j = found_one IsJob w now.jobs job keeps.jobs is in (j.2, j.3, j.4);
-        outcomes = λ i o is. found_one IsPublished i now.done o keeps.done is;
-      }
+        -- no event starts it
+        never_started : (s end : State) (es : List Event) → Keeps s → IsFree s → ((b : List ℕ) → IsBlobOfEvents plan meaning t s es b → S b) → IsRun X plan meaning t s es end
+            → IsFree end × ((w : ℕ) → Contains es (start i w) → ⊥)
+        never_started s end [] keeps free blobs r = (subst IsFree (sym r) free, none)
+          where
+            none : (w : ℕ) → Contains [] (start i w) → ⊥
+            none w (k, lt, is) = omega (arith, lt)
+        never_started s end (e ∷ es) keeps free blobs r =
+            let mid = r.1 in
+            let rest = never_started mid end es (keeps_event s mid e keeps r.0 (λ b k. blobs b (inl k)) r.2) (free_event s mid e keeps free r.2) (λ b k. blobs b (inr (mid, r.2, k))) r.3 in
+            (rest.0, by rest.1)
+          where
+            by : ((w : ℕ) → Contains es (start i w) → ⊥) → (w : ℕ) → Contains (e ∷ es) (start i w) → ⊥
+            by later w (zero, lt, is) =
+                let none = ap (happens plan meaning t s) is ∙ cant_start s keeps w in
+                let clash : ◌≡◌ {A = Option State} (Some r.1) None = sym r.2 ∙ none in
+                cc
+            by later w (suc k, lt, is) = later w (k, omega (arith, lt), is)
+
+        -- so no run does, and none is complete
+        pub runs_without : (end : State) (es : List Event) → ((b : List ℕ) → IsBlobOfEvents plan meaning t opening es b → S b) → IsRun X plan meaning t opening es end
+            → ((w : ℕ) → Contains es (start i w) → ⊥) × ((w : ℕ) → happens plan meaning t end (start i w) ≡ None) × (HasFinishedAll plan end → ⊥)
+        runs_without end es blobs r =
+            let kept = never_started opening end es (record { done = tt; jobs = tt }) (record { jobs = tt; done = tt }) blobs r in
+            (kept.1, cant_start end (runs_keep end es blobs r), λ all. let o = all i step at in found_one (λ (e : ℕ × Outcome). e.0 ≢ i) i end.done o.0 kept.0.done o.1 refl)
+
+      -- ---- what a run comes to, where all steps are as recorded
+
+      module _ (all_first : (i : ℕ) (s : StepValue) → slice_get plan.steps i ≡ Some s → slice_get h.first i ≡ Some s) where
+        finished_all : (end : State) → HasFinishedAll plan end → (ls : List LineValue) (xs : MergeLines) → Resolves B src (slice_get h.outcomes) ls xs → HaveFinished end ls
+        finished_all end all [] xs r = tt
+        finished_all end all (l ∷ ls) xs r = (one l.origin r.1.node, finished_all end all ls r.2 r.3)
+          where
+            one : (o : OriginValue) → LooksUpOrigin B src (slice_get h.outcomes) o (found r.0.node) → HasFinished end o
+            one (source p) look = tt
+            one (output j p) look = let step = origin_step j look.0 look.1 in all j step.0 (h.planned j step.0 step.1)
+
+        -- A complete run ends in a tree with the claim as its digest.
+        pub end_tree : (claim : DigestValue) → IsAccepted B src h.outcomes plan.root_lines claim → (end : State) → Keeps end → HasFinishedAll plan end
+            → (g : Tree Leaf) × (merge_of t end plan.root_lines ≡ Some g) × (root (form g) ≡ claim) × IsOrdered g
+        end_tree claim accepted end keeps all =
+            let paths = paths_of (length plan.steps) plan.root_lines rules.root_lines.each in
+            let g = grafts end keeps plan.root_lines paths accepted.nodes accepted.resolved accepted.tree accepted.put_together (finished_all end all plan.root_lines accepted.nodes accepted.resolved) in
+            (g.0, g.1, g.2 ∙ accepted.same, g.3)
+
+        -- a step whose lines' steps have finished has an action
+        pub may_start : (now : State) → Keeps now → (i : ℕ) (step : StepValue) → slice_get plan.steps i ≡ Some step → HaveFinished now step.lines → (a : ActionMeaning) × (action_of plan meaning t now i ≡ Some a)
+        may_start now keeps i step at done =
+            let c = chosen_at i step (all_first i step at) in
+            let f = fits.steps i step at in
+            let r = c.kept.step in
+            let g = grafts now keeps step.lines (step_paths [] plan.steps rules.steps i step at) r.nodes r.resolved r.tree r.put_together done in
+            let a : ActionMeaning = record { frame = f.0; command = f.1; input = g.0 } in
+            (a, action_made now i step at ∙ ap (option_map {U = ActionMeaning} (λ input. record { frame = f.0; command = f.1; input = input })) g.1)
+
+        -- Nothing is stuck.
+        pub nothing_is_stuck : (now : State) → Keeps now → IsNotStuck X plan meaning t now
+        nothing_is_stuck now keeps = record {
+          starts = λ i w step at done free.
+              let a = may_start now keeps i step at done in
+              (record now { jobs = (w, (i, a.0)) ∷ now.jobs }, ap (λ q. started now i w q (action_of plan meaning t now i)) free ∙ ap (started now i w None) a.1);
+          finishes = λ w job is.
+              let j = found_one IsJob w now.jobs job keeps.jobs is in
+              let k = j.2 (all_first job.0 j.0 j.1) in
+              let c = chosen_at job.0 j.0 (all_first job.0 j.0 j.1) in
+              let same = one_answer (slice_get chosen job.0) c.pair k.0 c.pair_at k.1 in
+              (k.0.1, subst (λ a. Contains X (a, k.0.1)) (sym k.2) (pair_in_table job.0 k.0 k.1), ap (λ (z : ActionMeaning × Outcome). z.1.exit_code) (sym same) ∙ succeeds job.0 j.0 c);
+        }
+
+        -- Jobs and outcomes are the chosen ones.
+        pub runs_as_chosen : (now : State) → Keeps now → IsAsChosen chosen now
+        runs_as_chosen now keeps = record {
+          jobs = λ w job is. let j = found_one IsJob w now.jobs job keeps.jobs is in j.2 (all_first job.0 j.0 j.1);
+          outcomes = λ i o is. let e = found_one IsPublished i now.done o keeps.done is in e.2 (all_first i e.0 e.1);
+        }

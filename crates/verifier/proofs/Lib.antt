@@ -6,6 +6,7 @@ pub mod TwoStepsRun
 pub mod TwoStepsBlobs
 pub mod TwoStepsEvents
 pub mod TwoStages
+pub mod TwoNoes
 pub mod SourceLine
 pub mod Lines
 pub mod Targets
@@ -29,5 +30,6 @@ pub mod StageLaws
 pub mod StepLaws
 pub mod CheckingSteps
 pub mod NoAtStep
+pub mod Unbuilt
 pub mod Totals
 pub mod VerdictTotal

@@ -1,10 +1,9 @@
--- What a look-up finds in a recorded outcome is what stands there in each outcome that was so recorded.
+-- What a look-up in a recorded outcome comes to is what stands there in each outcome that was so recorded.
 use Rattle.std.proofs.Common.{◌≡◌, ℕ, zero, suc, Bool, true, false, cond, List, [], ◌∷◌, ◌++◌, map, Option, Some, None, refl, ap, sym, ◌∙◌, subst, arith, inl, inr}
-use Rattle.std.specs.Prelude.{option_map, Contains, bytes_eq}
+use Rattle.std.specs.Prelude.{◌↔◌, option_map, Contains, bytes_eq}
 use Rattle.std.proofs.lemmas.Slice.Eq.{bytes_eq-Decides}
 use Rattle.std.proofs.lemmas.List.Elements.{Contains-append_right}
 use Rattle.blob_digest.specs.Digest.{digest_of, NoClash}
-use Rattle.messages.specs.declared.node.Node.TheVariants.{File, Link, Dir}
 use Rattle.messages.specs.DirectoryRules.{DirectoryValue, IsDirectory}
 use Rattle.messages.specs.Directory.{directory_bytes}
 use Rattle.messages.specs.Node.{child}
@@ -13,12 +12,12 @@ use Rattle.messages.specs.Tree.{TreeValue, IsTree}
 use Rattle.actions.specs.declared.outcome.Output.TheVariants as outputs
 use Rattle.actions.specs.Outcome as recorded
 use Rattle.actions.specs.Outcome.{OutputValue, OutcomeValue, output_node}
-use Rattle.actions.specs.OutcomeLookup.{IsFirstChild, NoFault, LooksBelow, LooksIn}
+use Rattle.actions.specs.OutcomeLookup.{IsFirstChild, NoFault, LooksBelow, StandsOver, LooksIn}
 use Rattle.actions.proofs.TreeLookups.{behind, holds_mapped, all_at}
 use Rattle.tree.specs.Tree.{Name, Tree, Leaf, file, link, Entry, single, whole, entry_of, below_entry, IsOrderedEntry}
 use Rattle.tree.specs.Form.{NodeValue, entry_node, form, directory_of, top, root}
 use Rattle.tree.specs.Graft.{HaveApartTargets}
-use Rattle.tree.specs.Lookup.{found, LooksFrom}
+use Rattle.tree.specs.Lookup.{Looked, LooksFrom, AgreesWith}
 use Rattle.tree.proofs.Children.{child-directory_of}
 use Rattle.tree.proofs.DirectoryBytes.{directory_bytes_injective}
 use Rattle.tree.proofs.TreeDigests.{valid_digests, tree_digests}
@@ -115,31 +114,42 @@ module _ (S : List ℕ → Type 0) (apart : NoClash S) where
       let inside : Contains t.children m = subst (λ l. Contains l m) (sym c.stands) (Contains-append_right c.before (m ∷ c.behind) m (0, omega arith, refl)) in
       directory_is u m (all_at IsDirectory t.children m h.valid.children inside) (h.held m (behind t.root t.children m inside)) own c.right
 
-  -- what stands below a recorded output stands below each output with its node
-  below_tells : (x : OutputValue) (e : Entry Leaf) (q : List Name) (y : NodeValue) → IsOrderedEntry e → ((b : List ℕ) → IsBlobOfEntry e b → S b) → HoldsOutput x
-      → entry_node e ≡ output_node x → LooksBelow x q (found y) → option_map entry_node (below_entry q (Some e)) ≡ Some y
-  below_tells (outputs.File d executable) e [] y ordered own h is look = let same : File d executable ≡ y = cc in ap (λ z. Some z) (is ∙ same)
-  below_tells (outputs.File d executable) e (n ∷ q) y ordered own h is look = absurd cc
-  below_tells (outputs.Link target) e [] y ordered own h is look = let same : Link target ≡ y = cc in ap (λ z. Some z) (is ∙ same)
-  below_tells (outputs.Link target) e (n ∷ q) y ordered own h is look = absurd cc
-  below_tells (outputs.Tree t) e [] y ordered own h is look = let same : Dir (digest_of (directory_bytes t.root)) ≡ y = cc in ap (λ z. Some z) (is ∙ same)
-  below_tells (outputs.Tree t) (single (file c executable)) (n ∷ q) y ordered own h is look = absurd cc
-  below_tells (outputs.Tree t) (single (link target)) (n ∷ q) y ordered own h is look = absurd cc
-  below_tells (outputs.Tree t) (whole u) (n ∷ q) y ordered own h is look =
+  -- what a look-up below a recorded output comes to is so below each output with its node
+  below_tells : (x : OutputValue) (e : Entry Leaf) (q : List Name) (r : Looked) → IsOrderedEntry e → ((b : List ℕ) → IsBlobOfEntry e b → S b) → HoldsOutput x
+      → entry_node e ≡ output_node x → LooksBelow x q r → AgreesWith (option_map entry_node (below_entry q (Some e))) r
+  below_tells (outputs.File d executable) e [] r ordered own h is look = subst (AgreesWith (Some (entry_node e))) (sym look) (ap (λ z. Some z) is)
+  below_tells (outputs.File d executable) (single x) (n ∷ q) r ordered own h is look = subst (AgreesWith None) (sym look) refl
+  below_tells (outputs.File d executable) (whole u) (n ∷ q) r ordered own h is look = absurd cc
+  below_tells (outputs.Link target) e [] r ordered own h is look = subst (AgreesWith (Some (entry_node e))) (sym look) (ap (λ z. Some z) is)
+  below_tells (outputs.Link target) (single x) (n ∷ q) r ordered own h is look = subst (AgreesWith None) (sym look) refl
+  below_tells (outputs.Link target) (whole u) (n ∷ q) r ordered own h is look = absurd cc
+  below_tells (outputs.Tree t) e [] r ordered own h is look = subst (AgreesWith (Some (entry_node e))) (sym look) (ap (λ z. Some z) is)
+  below_tells (outputs.Tree t) (single (file c executable)) (n ∷ q) r ordered own h is look = absurd cc
+  below_tells (outputs.Tree t) (single (link target)) (n ∷ q) r ordered own h is look = absurd cc
+  below_tells (outputs.Tree t) (whole u) (n ∷ q) r ordered own h is look =
       let digests : root (form u) ≡ digest_of (directory_bytes t.root) = cc in
       let same = directory_is u t.root h.valid.root (h.held t.root (0, omega arith, refl)) (own (top (form u)) (inl refl)) (sym digests) in
-      let rest : LooksFrom (IsFirstChild t) NoFault q (option_map entry_node (entry_of n u)) (found y) = subst (λ o. LooksFrom (IsFirstChild t) NoFault q o (found y)) (ap (child n) same ∙ child-directory_of n u ordered) look in
-      looks_from (IsFirstChild t) NoFault S (reads_tree t h) q (entry_of n u) (found y) (entry_ordered n u ordered) (λ b k. own b (inr (entry_blobs n u b k))) rest
+      let rest : LooksFrom (IsFirstChild t) NoFault q (option_map entry_node (entry_of n u)) r = subst (λ o. LooksFrom (IsFirstChild t) NoFault q o r) (ap (child n) same ∙ child-directory_of n u ordered) look in
+      looks_from (IsFirstChild t) NoFault S (reads_tree t h) q (entry_of n u) r (entry_ordered n u ordered) (λ b k. own b (inr (entry_blobs n u b k))) rest
 
-  -- each node of a recorded outcome stands in the outcome at the same path
+  -- what a look-up in a recorded outcome comes to is so in each outcome with its nodes
   pub outputs_tell : (o : Outcome) (v : OutcomeValue) → IsTreeOutcome o → ((b : List ℕ) → IsBlobOfOutcome o b → S b) → ((e : List Name × OutputValue) → Contains v.outputs e → HoldsOutput e.1)
-      → ((p : List Name) (x : NodeValue) → Contains (recorded.outputs_form v.outputs) (p, x) → Contains (entries_form o.outputs) (p, x))
-      → (p : List Name) (x : NodeValue) → LooksIn v p (found x) → option_map entry_node (output_at o.outputs p) ≡ Some x
-  outputs_tell o v valid own held same p x (inr (all, none)) = absurd cc
-  outputs_tell o v valid own held same p x (inl (e, inside, q, path, look)) =
-      let there = mapped_from (λ (d : List Name × Entry Leaf). (d.0, entry_node d.1)) o.outputs (e.0, output_node e.1) (same e.0 (output_node e.1) (holds_mapped (λ (d : List Name × OutputValue). (d.0, output_node d.1)) v.outputs e inside)) in
+      → ((p : List Name) (x : NodeValue) → Contains (recorded.outputs_form v.outputs) (p, x) ↔ Contains (entries_form o.outputs) (p, x))
+      → (p : List Name) (r : Looked) → LooksIn v p r → AgreesWith (option_map entry_node (output_at o.outputs p)) r
+  outputs_tell o v valid own held same p r (inr (all, none)) = subst (AgreesWith (option_map entry_node (output_at o.outputs p))) (sym none) (by (output_at o.outputs p) refl)
+    where
+      by : (q : Option (Entry Leaf)) → output_at o.outputs p ≡ q → option_map entry_node (output_at o.outputs p) ≡ None
+      by None is = ap (option_map entry_node) is
+      by (Some e) is =
+          let there = output_found o.outputs p e is in
+          let kept = (same there.0.0 (entry_node there.0.1)).1 (holds_mapped (λ (d : List Name × Entry Leaf). (d.0, entry_node d.1)) o.outputs there.0 there.1) in
+          let own = mapped_from (λ (d : List Name × OutputValue). (d.0, output_node d.1)) v.outputs (there.0.0, entry_node there.0.1) kept in
+          let paths : own.0.0 ≡ there.0.0 = ap (λ (d : List Name × NodeValue). d.0) own.2 in
+          absurd (all_at (λ (d : List Name × OutputValue). StandsOver d.0 p → ⊥) v.outputs own.0 all own.1 (there.2, there.3 ∙ ap (λ k. k ++ there.2) (sym paths)))
+  outputs_tell o v valid own held same p r (inl (e, inside, q, path, look)) =
+      let there = mapped_from (λ (d : List Name × Entry Leaf). (d.0, entry_node d.1)) o.outputs (e.0, output_node e.1) ((same e.0 (output_node e.1)).0 (holds_mapped (λ (d : List Name × OutputValue). (d.0, output_node d.1)) v.outputs e inside)) in
       let paths : there.0.0 ≡ e.0 = ap (λ (d : List Name × NodeValue). d.0) there.2 in
       let nodes : entry_node there.0.1 ≡ output_node e.1 = ap (λ (d : List Name × NodeValue). d.1) there.2 in
-      let at : output_at o.outputs p ≡ below_entry q (Some there.0.1) = ap (output_at o.outputs) (path ∙ ap (λ r. r ++ q) (sym paths)) ∙ output_below o.outputs there.0 q valid.apart there.1 in
-      ap (option_map entry_node) at
-      ∙ below_tells e.1 there.0.1 q x (all_at (λ (d : List Name × Entry Leaf). IsOrderedEntry d.1) o.outputs there.0 valid.outputs there.1) (λ b k. own b (there.0, there.1, k)) (held e inside) nodes look
+      let at : output_at o.outputs p ≡ below_entry q (Some there.0.1) = ap (output_at o.outputs) (path ∙ ap (λ k. k ++ q) (sym paths)) ∙ output_below o.outputs there.0 q valid.apart there.1 in
+      subst (λ z. AgreesWith (option_map entry_node z) r) (sym at)
+      (below_tells e.1 there.0.1 q r (all_at (λ (d : List Name × Entry Leaf). IsOrderedEntry d.1) o.outputs there.0 valid.outputs there.1) (λ b k. own b (there.0, there.1, k)) (held e inside) nodes look)

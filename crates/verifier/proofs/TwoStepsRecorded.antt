@@ -8,7 +8,7 @@ use Rattle.action_messages.specs.OutputFile.{output_file_bytes}
 use Rattle.action_messages.specs.OutputDirectory.{output_directory_bytes}
 use Rattle.action_messages.proofs.Written.{canon_reads}
 use Rattle.verifier.specs.Holding.{HoldsResult}
-use Rattle.std.specs.Prelude.{FitsSigned, pos, codes}
+use Rattle.std.specs.Prelude.{FitsSigned, pos, codes, slice_get}
 use Rattle.std.specs.Int.{w32}
 use Rattle.hex.specs.Hex.{encode_with, decode_pairs}
 use Rattle.sha2.specs.Sha256.{compress, digest_bytes, first_words, hash_after, rounds, schedule, sha256}
@@ -35,6 +35,7 @@ use Rattle.tree.specs.Merging.{in_source, in_tree, NodeWithin, MergeLines, nodes
 use Rattle.tree.specs.Stage.{◌and_then◌}
 use Rattle.tree.proofs.MergeApart.{graft_passes, all_named, are_apart}
 use Rattle.verifier.specs.AsRecorded.{IsAsRecorded, IsPlanAsRecorded}
+use Rattle.verifier.specs.Together.{StandsAtOrigin}
 use Rattle.verifier.specs.TwoSteps as two
 use Rattle.verifier.proofs.TwoSteps.{gen_action_named, gen_command_valid, gen_command_named, gen_frame_valid, gen_frame_named, gen_tree_valid, input_named, newline_named, out_path, res_path, sources_named, tree_named, use_action_named, use_command_valid, use_command_named, use_frame_valid, use_frame_named}
 
@@ -157,10 +158,10 @@ pub use_result_held : HoldsResult two.results two.use_action_digest two.use_resu
 use_result_held = (action_result_bytes two.use_result, use_result_kept, canon_reads (action_result_bytes two.use_result) two.use_result use_result_bytes use_result_valid refl)
 
 -- what the results stand for
-abbrev gen_outcome : OutcomeValue
+abbrev pub gen_outcome : OutcomeValue
 gen_outcome = record { exit_code = pos 0; outputs = (codes "out" ∷ [], outputs.Tree two.gen_tree) ∷ [] }
 
-abbrev use_outcome : OutcomeValue
+abbrev pub use_outcome : OutcomeValue
 use_outcome = record { exit_code = pos 0; outputs = (codes "res" ∷ [], outputs.File two.newline_digest false) ∷ [] }
 
 pub gen_recorded : IsRecorded two.blobs two.gen_result gen_outcome
@@ -196,7 +197,7 @@ nothing_merges : (merged two.blobs []).passes empty
 unfolding merged
 nothing_merges = graft_passes two.blobs 64 [] [] (all_named [] tt) (are_apart [] tt) tt
 
-abbrev made_file : NodeWithin
+abbrev pub made_file : NodeWithin
 made_file = record { node = nodes.File (digest_of (codes "123456789")) false; within = in_tree two.gen_tree }
 
 abbrev data_lines : MergeLines
@@ -214,7 +215,7 @@ result_lines = (codes "result" ∷ [], result_file) ∷ []
 result_merges : (merged two.blobs result_lines).passes (graft (nodes_in result_lines))
 result_merges = alone two.blobs (codes "result" ∷ []) result_file (λ e. cc) (omega arith)
 
-gen_passes : (sources : DigestValue) → IsAsRecorded two.blobs two.results sources [] (record { name = codes "gen"; frame = two.gen_frame_digest; lines = [] }) two.gen_action_digest gen_outcome
+pub gen_passes : (sources : DigestValue) → IsAsRecorded two.blobs two.results sources [] (record { name = codes "gen"; frame = two.gen_frame_digest; lines = [] }) two.gen_action_digest gen_outcome
 gen_passes sources = record {
   action = with_input two.gen.0.frame two.sources;
   command = two.gen.0.command;
@@ -234,7 +235,14 @@ gen_passes sources = record {
   listed = ((0, omega arith, refl), tt);
 }
 
-use_passes : (sources : DigestValue) → IsAsRecorded two.blobs two.results sources (gen_outcome ∷ []) (record { name = codes "use"; frame = two.use_frame_digest; lines = record { target = codes "data" ∷ codes "x" ∷ []; origin = output 0 (codes "out" ∷ codes "a" ∷ []) } ∷ [] }) two.use_action_digest use_outcome
+-- the file that `gen` makes
+pub stands_made : (sources : DigestValue) → StandsAtOrigin two.blobs sources (slice_get (gen_outcome ∷ [])) (output 0 (codes "out" ∷ codes "a" ∷ [])) made_file
+stands_made sources = record {
+  node = (gen_outcome, refl, inl ((codes "out" ∷ [], outputs.Tree two.gen_tree), (0, omega arith, refl), codes "a" ∷ [], refl, refl));
+  within = (gen_outcome, refl, ((codes "out" ∷ [], outputs.Tree two.gen_tree), (0, omega arith, refl), (codes "a" ∷ [], refl), refl));
+}
+
+pub use_passes : (sources : DigestValue) → IsAsRecorded two.blobs two.results sources (gen_outcome ∷ []) (record { name = codes "use"; frame = two.use_frame_digest; lines = record { target = codes "data" ∷ codes "x" ∷ []; origin = output 0 (codes "out" ∷ codes "a" ∷ []) } ∷ [] }) two.use_action_digest use_outcome
 use_passes sources = record {
   action = with_input two.uses.0.frame two.input_digest;
   command = two.uses.0.command;
@@ -245,16 +253,7 @@ use_passes sources = record {
   may_be_cached = refl;
   frame = use_frame_named;
   command_told = use_command_told;
-  resolved = (
-    made_file,
-    record {
-      node = (gen_outcome, refl, inl ((codes "out" ∷ [], outputs.Tree two.gen_tree), (0, omega arith, refl), codes "a" ∷ [], refl, refl));
-      within = (gen_outcome, refl, ((codes "out" ∷ [], outputs.Tree two.gen_tree), (0, omega arith, refl), (codes "a" ∷ [], refl), refl));
-    },
-    [],
-    refl,
-    refl,
-  );
+  resolved = (made_file, stands_made sources, [], refl, refl);
   put_together = data_merges;
   input = input_named;
   held = use_result_held;

@@ -45,13 +45,13 @@ abbrev pub s7 : State
 s7 = record { done = (0, two.gen.1) ∷ (0, two.gen.1) ∷ []; jobs = (0, (1, two.uses.0)) ∷ [] }
 
 -- a job that is the one with its number has the outcome of its pair
-obeys : (pair : ActionMeaning × Outcome) (s : State) (w i : ℕ) → Contains two.table pair → job_of w s ≡ Some (i, pair.0) → Obeys two.table s (finish w pair.1)
+pub obeys : (pair : ActionMeaning × Outcome) (s : State) (w i : ℕ) → Contains two.table pair → job_of w s ≡ Some (i, pair.0) → Obeys two.table s (finish w pair.1)
 obeys pair s w i inside at job is =
     let both : ◌≡◌ {A = Option (ℕ × ActionMeaning)} (Some (i, pair.0)) (Some job) = sym at ∙ is in
     let same : ◌≡◌ {A = ℕ × ActionMeaning} (i, pair.0) job = cc in
     subst (λ (j : ℕ × ActionMeaning). Contains two.table (j.1, pair.1)) same inside
 
-gen_inside : Contains two.table two.gen
+pub gen_inside : Contains two.table two.gen
 gen_inside = (0, omega arith, refl)
 
 uses_inside : Contains two.table two.uses

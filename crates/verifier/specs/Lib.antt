@@ -11,5 +11,6 @@ pub mod Checks
 pub mod Verdict
 pub mod BuildStages
 pub mod AsRecorded
+pub mod Unbuilt
 pub mod TwoSteps
 pub mod Answers

@@ -13,7 +13,7 @@ use Rattle.action_messages.specs.ActionResult.{ActionResultValue, action_result_
 use Rattle.action_messages.specs.Command.{CommandValue, command_bytes}
 use Rattle.action_messages.specs.Frame.{FrameValue}
 use Rattle.plan.specs.declared.version.Version.TheVariants.{One, Two}
-use Rattle.plan.specs.Values.{output, PlanValue}
+use Rattle.plan.specs.Values.{output, LineValue, PlanValue}
 use Rattle.tree.specs.Tree.{Tree, empty, leaf, folder, Leaf, file, single, whole}
 use Rattle.tree.specs.Form.{form, directory_of}
 use Rattle.blob_source.specs.Source.{Blobs, Telling}
@@ -234,6 +234,42 @@ meeting_plan = record plan {
 unfoldable pub meeting_claim : DigestValue
 meeting_claim = digest_named
     (codes "e0f51345ffb335d15094256a20d45361d24b19b42e07f685950ae43ed5e4ee3f") 78
+
+-- ---- the same steps where lines put nothing together: `use` has one file at `data` and below it,
+-- and the root of another plan reads what `use` doesn't make
+
+abbrev pub clashing_lines : List LineValue
+clashing_lines =
+    record { target = codes "data" ∷ []; origin = output 0 (codes "out" ∷ codes "a" ∷ []) } ∷
+    record {
+      target = codes "data" ∷ codes "x" ∷ [];
+      origin = output 0 (codes "out" ∷ codes "a" ∷ []);
+    } ∷
+    []
+
+abbrev pub clashing_plan : PlanValue
+clashing_plan = record plan {
+  version = Two;
+  steps =
+      record { name = codes "gen"; frame = gen_frame_digest; lines = [] } ∷
+      record { name = codes "use"; frame = use_frame_digest; lines = clashing_lines } ∷
+      [];
+}
+
+-- `gen` has finished
+abbrev pub clashing_run : PlanRun
+clashing_run = record {
+  meaning = meaning;
+  table = table;
+  chosen = gen ∷ [];
+  events = start 0 0 ∷ finish 0 gen.1 ∷ [];
+  now = record { done = (0, gen.1) ∷ []; jobs = [] };
+}
+
+abbrev pub rootless_plan : PlanValue
+rootless_plan = record plan {
+  root_lines = record { target = codes "result" ∷ []; origin = output 1 (codes "out" ∷ []) } ∷ [];
+}
 
 -- ---- a source that has told nothing
 

@@ -1,5 +1,5 @@
 ghost use Rattle.std.specs.Prelude.{◌≡◌, ◌↔◌, ◌⊎◌, ℕ, List, [], length, ◌++◌, ◌∷◌, Some, Contains};
-ghost use Rattle.std.specs.Prelude.{codes, option_map};
+ghost use Rattle.std.specs.Prelude.{codes, option_map, take};
 ghost use Rattle.blob_digest.specs.Digest.{DigestValue, NoClash};
 ghost use Rattle.blob_digest.specs.DigestValue.{IsDigest};
 ghost use Rattle.plan.specs.Plan.{NoTargetsOverlap, IsPlan};
@@ -13,6 +13,7 @@ ghost use Rattle.tree.specs.Memo.{Asked};
 ghost use Rattle.tree.specs.Merging.{MergeLines, merged, nodes_in};
 ghost use Rattle.tree.specs.MergeLooks.{MergeLooksAt};
 ghost use Rattle.verifier.specs.declared.verdict.Cause.TheVariants.{BlobMissing, RootDiffers};
+ghost use Rattle.verifier.specs.declared.verdict.Cause.TheVariants.{OriginMissing, InputConflict};
 ghost use Rattle.verifier.specs.declared.verdict.Place.TheVariants.{Root, Step};
 ghost use Rattle.verifier.specs.declared.verdict.Verdict.{Verdict};
 ghost use Rattle.verifier.specs.declared.verdict.Verdict.TheVariants.{Yes, No};
@@ -33,6 +34,7 @@ ghost use Rattle.verifier.specs.BuildStages.{BuildStage, AreYes, last_claim, Run
 ghost use Rattle.verifier.specs.BuildStages.{EndsIn, RunInTurn};
 ghost use Rattle.verifier.specs.Recorded.{RecordsAt};
 ghost use Rattle.verifier.specs.TwoSteps as two;
+ghost use Rattle.verifier.specs.Unbuilt.{IsOfLines, NoRunStarts, NoRunHasRoot};
 ghost use Rattle.verifier.specs.Verdict.{IsVerdict, IsYes};
 
 use std::alloc::Allocator;
@@ -144,6 +146,22 @@ pub fn no_is_unlike_recorded<A: Allocator>()
         × (IsAccepted tells.blobs sources outcomes plan.root_lines claim → ⊥) }
 {}
 
+/// Where the verdict is no since the lines of a step put nothing together, no run ever starts that
+/// step, and so none is complete; where it is no since those of the root don't, no run has a root.
+/// A law: it does nothing.
+pub fn lines_that_fail_stop_every_run<A: Allocator>()
+    ensures step { (tells : Telling) (sources : DigestValue) (plan : PlanValue)
+        (recorded : List DigestValue) (claim : DigestValue) (name : List ℕ) (cause : Cause A)
+        → IsPlan plan → IsVerdict tells sources plan recorded claim (No (Step name) cause)
+        → IsOfLines cause
+        → NoRunStarts tells.blobs tells.results sources plan recorded name }
+    ensures root { (tells : Telling) (sources : DigestValue) (plan : PlanValue)
+        (recorded : List DigestValue) (claim : DigestValue) (cause : Cause A)
+        → IsPlan plan → IsVerdict tells sources plan recorded claim (No Root cause)
+        → IsOfLines cause
+        → NoRunHasRoot tells.blobs tells.results sources plan recorded }
+{}
+
 /// Every valid plan with as many recorded digests has a verdict, whatever the source tells: it
 /// can't be that none is one. A law: it does nothing.
 pub fn plans_have_verdicts<A: Allocator>()
@@ -205,12 +223,23 @@ pub fn stages_meet_the_premises<A: Allocator>()
 {}
 
 /// The premises of what a no says can be met: by the build of two steps, where the source has told
-/// nothing, and where another root is claimed. A law: it does nothing.
+/// nothing, and where another root is claimed; and where a step's lines are in conflict, after a
+/// run of the step before it, and where the root reads what no step makes, after a complete run. A
+/// law: it does nothing.
 pub fn a_no_meets_the_premises<A: Allocator>()
     ensures step { IsVerdict {A = A} two.silent two.sources two.plan two.recorded two.claim
         (No (Step (codes "gen")) (BlobMissing two.gen_action_digest)) }
     ensures root { IsVerdict {A = A} two.telling two.sources two.plan two.recorded two.sources
         (No Root (RootDiffers two.claim)) }
+    ensures conflict { IsPlan two.clashing_plan × IsVerdict {A = A} two.telling two.sources
+        two.clashing_plan two.recorded two.claim
+        (No (Step (codes "use")) (InputConflict (codes "data" ∷ []))) }
+    ensures before { RunsFrom two.blobs two.results two.clashing_plan
+        (take 1 two.recorded) two.tree two.clashing_run }
+    ensures missing { IsPlan two.rootless_plan × IsVerdict {A = A} two.telling two.sources
+        two.rootless_plan two.recorded two.claim (No Root (OriginMissing (codes "out" ∷ []))) }
+    ensures complete { RunsFrom two.blobs two.results two.rootless_plan two.recorded two.tree
+        two.run × HasFinishedAll two.rootless_plan two.end }
 {}
 
 /// What the words of a record and of outcomes come to. A law: it does nothing.

@@ -1,4 +1,6 @@
+use Rattle.verifier.proofs.TwoNoes.{clashing_valid, clashes, clashing_runs, rootless_valid, no_root, rootless_runs}
 use Rattle.verifier.proofs.TwoStages.{nothing_told, other_claimed}
+use Rattle.verifier.proofs.TwoStepsRun.{is_complete}
 use Rattle.verifier.proofs.laws.a_no_meets_the_premises.Goals as goal
 
 pub returns-clause-step : goal.returns-clause-step
@@ -6,3 +8,15 @@ returns-clause-step g c = nothing_told g.row.A.Denot
 
 pub returns-clause-root : goal.returns-clause-root
 returns-clause-root g c = other_claimed g.row.A.Denot
+
+pub returns-clause-conflict : goal.returns-clause-conflict
+returns-clause-conflict g c = (clashing_valid, clashes g.row.A.Denot)
+
+pub returns-clause-before : goal.returns-clause-before
+returns-clause-before g c = clashing_runs
+
+pub returns-clause-missing : goal.returns-clause-missing
+returns-clause-missing g c = (rootless_valid, no_root g.row.A.Denot)
+
+pub returns-clause-complete : goal.returns-clause-complete
+returns-clause-complete g c = (rootless_runs, is_complete)

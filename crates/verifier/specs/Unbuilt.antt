@@ -1,0 +1,44 @@
+-- What a no says of builds where lines put nothing together: that nobody can build the plan.
+use Rattle.std.specs.Prelude.{◌≡◌, ℕ, List, Some, None, slice_get, take, Contains}
+use Rattle.blob_digest.specs.Digest.{DigestValue}
+use Rattle.plan.specs.Values.{StepValue, PlanValue}
+use Rattle.tree.specs.Tree.{Tree, Leaf, IsOrdered}
+use Rattle.tree.specs.Form.{form, root}
+use Rattle.blob_source.specs.Source.{Blobs}
+use Rattle.verifier.specs.declared.verdict.Cause.{Cause}
+use Rattle.verifier.specs.declared.verdict.Cause.TheVariants.{OriginMissing, InputConflict}
+use Rattle.verifier.specs.Build.{start, happens, HasFinishedAll, merge_of}
+use Rattle.verifier.specs.Headline.{PlanRun, RunsFrom}
+
+-- The cause is that lines put nothing together: nothing stands at the origin of one, or what they
+-- give doesn't merge.
+abbrev pub IsOfLines : {A : Type 0} → Cause A → Type 0
+IsOfLines (OriginMissing path) = Unit {0}
+IsOfLines (InputConflict path) = Unit {0}
+IsOfLines c = ⊥
+
+-- In a run a step has never started and can't start, and so not every step has finished.
+pub record IsNeverStarted (plan : PlanValue) (t : Tree Leaf) (run : PlanRun) (i : ℕ)
+    : Type 0 where
+  pub before : (w : ℕ) → Contains run.events (start i w) → ⊥
+  pub now : (w : ℕ) → happens plan run.meaning t run.now (start i w) ≡ None
+  pub incomplete : HasFinishedAll plan run.now → ⊥
+
+-- No run ever starts the step with this name, whatever overlaps, is lost or is repeated. The
+-- premises are those of a yes, but what was recorded is about the steps before this one alone.
+pub record NoRunStarts (blobs results : Blobs) (sources : DigestValue) (plan : PlanValue)
+    (recorded : List DigestValue) (name : List ℕ) : Type 0 where
+  pub index : ℕ
+  pub step : StepValue
+  pub step_at : slice_get plan.steps index ≡ Some step
+  pub named : name ≡ step.name
+  pub of_run : (t : Tree Leaf) (run : PlanRun) → IsOrdered t → root (form t) ≡ sources
+      → RunsFrom blobs results plan (take index recorded) t run
+      → IsNeverStarted plan t run index
+
+-- No run has a root, complete or not.
+pub record NoRunHasRoot (blobs results : Blobs) (sources : DigestValue) (plan : PlanValue)
+    (recorded : List DigestValue) : Type 0 where
+  pub of_run : (t : Tree Leaf) (run : PlanRun) → IsOrdered t → root (form t) ≡ sources
+      → RunsFrom blobs results plan recorded t run
+      → merge_of t run.now plan.root_lines ≡ None
