@@ -7,7 +7,7 @@ pub mod TwoStepsBlobs
 pub mod TwoStepsEvents
 pub mod TwoStages
 pub mod TwoNoes
-pub mod SourceLine
+pub mod SourceStep
 pub mod Lines
 pub mod Targets
 pub mod SameDigests

@@ -131,7 +131,7 @@ concerned b (inr (inr (inr (inr (mid, at, inr (next, after, none)))))) = absurd 
 
 happened : IsRun two.table two.clashing_plan two.meaning empty opening two.clashing_run.events s4
 unfolding merge
-happened = (tt, s1, refl, (obeys two.gen s1 0 0 gen_inside refl, s4, refl, refl))
+happened = (tt, s1, refl, (obeys two.table two.gen s1 0 0 gen_inside refl, s4, refl, refl))
 
 pub clashing_runs : RunsFrom two.blobs two.results two.clashing_plan (take 1 two.recorded) empty two.clashing_run
 clashing_runs = record { fits = clashing_fits; table = table_valid; agrees = first_agrees; apart = λ x y c d e. none_clash x y (concerned x c) (concerned y d) e; happened = happened }

@@ -166,7 +166,7 @@ gen_command_no_tree t e =
     let tails : record_with 7 (Bytes (codes "out")) ∷ [] ≡ element_fields 2 (map directory_bytes t.children) = cc in
     no_field_7 (map directory_bytes t.children) (codes "out") tails
 
-use_command_no_tree : (t : TreeValue) → command_bytes two.uses.0.command ≡ tree_bytes t → ⊥
+pub use_command_no_tree : (t : TreeValue) → command_bytes two.uses.0.command ≡ tree_bytes t → ⊥
 unfolding command_bytes
 use_command_no_tree t e =
     let records = tree_spelled t (record_with 1 (Bytes (codes "/bin/true")) ∷ record_with 7 (Bytes (codes "res")) ∷ []) (tt, (tt, tt)) e in
@@ -221,7 +221,7 @@ gen_action_no_tree t e =
     let texts : command ≡ directory_bytes t.root = cc in
     no_directory t.root (encode_lower two.gen_command_digest.hash) 16 texts
 
-use_action_no_tree : (t : TreeValue) → action_bytes (with_input two.uses.0.frame two.input_digest) ≡ tree_bytes t → ⊥
+pub use_action_no_tree : (t : TreeValue) → action_bytes (with_input two.uses.0.frame two.input_digest) ≡ tree_bytes t → ⊥
 unfolding action_bytes two.use_command_digest decode_pairs encode_with
 use_action_no_tree t e =
     let command = digest_text two.use_command_digest in

@@ -74,32 +74,38 @@ pub sized : (d : DigestValue) (n : ℕ) → d.size ≡ suc n → d ≡ digest_of
 unfolding digest_of
 sized d n is e = let size = ap (λ (x : DigestValue). x.size) e in absurd (omega (arith, size, is))
 
-stored : {M : Type 0} (keeps : M → Type 0) (spells : M → List ℕ) (d : DigestValue) (m : M) → keeps m → digest_of (spells m) ≡ d → (d ≡ digest_of [] → ⊥) → two.blobs d ≡ Some (spells m) → IsTold keeps spells two.blobs d m
-stored keeps spells d m valid named some kept = record { valid = valid; blob = record { held = inr (some, sym kept); right = named } }
+stored : {M : Type 0} (keeps : M → Type 0) (spells : M → List ℕ) (B : Blobs) (d : DigestValue) (m : M) → keeps m → digest_of (spells m) ≡ d → (d ≡ digest_of [] → ⊥) → B d ≡ Some (spells m) → IsTold keeps spells B d m
+stored keeps spells B d m valid named some kept = record { valid = valid; blob = record { held = inr (some, sym kept); right = named } }
 
 pub gen_action_told : IsTold IsAction action_bytes two.blobs two.gen_action_digest (with_input two.gen.0.frame two.sources)
 unfolding two.gen_action_digest
 gen_action_told =
-    stored IsAction action_bytes two.gen_action_digest (with_input two.gen.0.frame two.sources) (record { frame = gen_frame_valid; input = subst IsDigest sources_named (IsDigest-digest_of (top (form empty))) })
+    stored IsAction action_bytes two.blobs two.gen_action_digest (with_input two.gen.0.frame two.sources) (record { frame = gen_frame_valid; input = subst IsDigest sources_named (IsDigest-digest_of (top (form empty))) })
     gen_action_named (sized two.gen_action_digest 137 refl) gen_action_kept
 
-pub use_action_told : IsTold IsAction action_bytes two.blobs two.use_action_digest (with_input two.uses.0.frame two.input_digest)
+pub use_action_in : (B : Blobs) → B two.use_action_digest ≡ Some (action_bytes (with_input two.uses.0.frame two.input_digest)) → IsTold IsAction action_bytes B two.use_action_digest (with_input two.uses.0.frame two.input_digest)
 unfolding two.use_action_digest
-use_action_told =
-    stored IsAction action_bytes two.use_action_digest (with_input two.uses.0.frame two.input_digest) (record { frame = use_frame_valid; input = subst IsDigest input_named (IsDigest-digest_of (top (form two.data_input))) })
-    use_action_named (sized two.use_action_digest 139 refl) use_action_kept
+use_action_in B kept =
+    stored IsAction action_bytes B two.use_action_digest (with_input two.uses.0.frame two.input_digest) (record { frame = use_frame_valid; input = subst IsDigest input_named (IsDigest-digest_of (top (form two.data_input))) })
+    use_action_named (sized two.use_action_digest 139 refl) kept
+
+pub use_action_told : IsTold IsAction action_bytes two.blobs two.use_action_digest (with_input two.uses.0.frame two.input_digest)
+use_action_told = use_action_in two.blobs use_action_kept
 
 pub gen_command_told : IsTold IsCommand command_bytes two.blobs two.gen_command_digest two.gen.0.command
 unfolding two.gen_command_digest
-gen_command_told = stored IsCommand command_bytes two.gen_command_digest two.gen.0.command gen_command_valid gen_command_named (sized two.gen_command_digest 15 refl) gen_command_kept
+gen_command_told = stored IsCommand command_bytes two.blobs two.gen_command_digest two.gen.0.command gen_command_valid gen_command_named (sized two.gen_command_digest 15 refl) gen_command_kept
+
+pub use_command_in : (B : Blobs) → B two.use_command_digest ≡ Some (command_bytes two.uses.0.command) → IsTold IsCommand command_bytes B two.use_command_digest two.uses.0.command
+unfolding two.use_command_digest
+use_command_in B kept = stored IsCommand command_bytes B two.use_command_digest two.uses.0.command use_command_valid use_command_named (sized two.use_command_digest 15 refl) kept
 
 pub use_command_told : IsTold IsCommand command_bytes two.blobs two.use_command_digest two.uses.0.command
-unfolding two.use_command_digest
-use_command_told = stored IsCommand command_bytes two.use_command_digest two.uses.0.command use_command_valid use_command_named (sized two.use_command_digest 15 refl) use_command_kept
+use_command_told = use_command_in two.blobs use_command_kept
 
 pub tree_told : IsTold IsTree tree_bytes two.blobs two.tree_digest two.gen_tree
 unfolding two.tree_digest
-tree_told = stored IsTree tree_bytes two.tree_digest two.gen_tree gen_tree_valid tree_named (sized two.tree_digest 76 refl) tree_kept
+tree_told = stored IsTree tree_bytes two.blobs two.tree_digest two.gen_tree gen_tree_valid tree_named (sized two.tree_digest 76 refl) tree_kept
 
 -- ---- the results
 
@@ -173,14 +179,17 @@ gen_recorded = record {
   outputs = (refl, (two.gen_tree, tree_told, refl), refl);
 }
 
-pub use_recorded : IsRecorded two.blobs two.use_result use_outcome
-use_recorded = record {
+pub use_recorded_in : (B : Blobs) → IsRecorded B two.use_result use_outcome
+use_recorded_in B = record {
   valid = record { paths = (res_path, tt); ascend = (tt, tt); apart = (tt, tt) };
   exit_code = refl;
   recorded = file (record { path = codes "res" ∷ []; digest = two.newline_digest; executable = false }) ∷ [];
   ordered = record { ascend = (tt, tt); files = refl; directories = refl; symlinks = refl };
   outputs = (refl, refl, refl);
 }
+
+pub use_recorded : IsRecorded two.blobs two.use_result use_outcome
+use_recorded = use_recorded_in two.blobs
 
 -- ---- the steps and the root
 
@@ -206,14 +215,21 @@ data_lines = (codes "data" ∷ codes "x" ∷ [], made_file) ∷ []
 data_merges : (merged two.blobs data_lines).passes (graft (nodes_in data_lines))
 data_merges = alone two.blobs (codes "data" ∷ codes "x" ∷ []) made_file (λ e. cc) (omega arith)
 
-abbrev result_file : NodeWithin
+abbrev pub result_file : NodeWithin
 result_file = record { node = nodes.File two.newline_digest false; within = in_source }
 
-abbrev result_lines : MergeLines
+abbrev pub result_lines : MergeLines
 result_lines = (codes "result" ∷ [], result_file) ∷ []
 
-result_merges : (merged two.blobs result_lines).passes (graft (nodes_in result_lines))
-result_merges = alone two.blobs (codes "result" ∷ []) result_file (λ e. cc) (omega arith)
+pub result_merges : (B : Blobs) → (merged B result_lines).passes (graft (nodes_in result_lines))
+result_merges B = alone B (codes "result" ∷ []) result_file (λ e. cc) (omega arith)
+
+-- the file that `use` makes
+pub stands_result : (B : Blobs) (sources : DigestValue) (os : List OutcomeValue) (j : ℕ) → slice_get os j ≡ Some use_outcome → StandsAtOrigin B sources (slice_get os) (output j (codes "res" ∷ [])) result_file
+stands_result B sources os j at = record {
+  node = (use_outcome, at, inl ((codes "res" ∷ [], outputs.File two.newline_digest false), (0, omega arith, refl), [], refl, refl));
+  within = (use_outcome, at, ((codes "res" ∷ [], outputs.File two.newline_digest false), (0, omega arith, refl), ([], refl), refl));
+}
 
 pub gen_passes : (sources : DigestValue) → IsAsRecorded two.blobs two.results sources [] (record { name = codes "gen"; frame = two.gen_frame_digest; lines = [] }) two.gen_action_digest gen_outcome
 gen_passes sources = record {
@@ -270,17 +286,8 @@ as_recorded sources = record {
   root = record {
     nodes = result_lines;
     tree = graft (nodes_in result_lines);
-    resolved = (
-      result_file,
-      record {
-        node = (use_outcome, refl, inl ((codes "res" ∷ [], outputs.File two.newline_digest false), (0, omega arith, refl), [], refl, refl));
-        within = (use_outcome, refl, ((codes "res" ∷ [], outputs.File two.newline_digest false), (0, omega arith, refl), ([], refl), refl));
-      },
-      [],
-      refl,
-      refl,
-    );
-    put_together = result_merges;
+    resolved = (result_file, stands_result two.blobs sources (gen_outcome ∷ use_outcome ∷ []) 1 refl, [], refl, refl);
+    put_together = result_merges two.blobs;
     same = root_named;
   };
 }
@@ -337,16 +344,7 @@ meeting_recorded = record {
         within = (gen_outcome, refl, ((codes "out" ∷ [], outputs.Tree two.gen_tree), (0, omega arith, refl), ([], refl), refl));
       },
       (codes "all" ∷ codes "b" ∷ [], result_file) ∷ [],
-      (
-        result_file,
-        record {
-          node = (use_outcome, refl, inl ((codes "res" ∷ [], outputs.File two.newline_digest false), (0, omega arith, refl), [], refl, refl));
-          within = (use_outcome, refl, ((codes "res" ∷ [], outputs.File two.newline_digest false), (0, omega arith, refl), ([], refl), refl));
-        },
-        [],
-        refl,
-        refl,
-      ),
+      (result_file, stands_result two.blobs two.sources (gen_outcome ∷ use_outcome ∷ []) 1 refl, [], refl, refl),
       refl,
     );
     put_together = meeting_merges;

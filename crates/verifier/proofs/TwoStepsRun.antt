@@ -12,6 +12,7 @@ use Rattle.actions.proofs.TreeBytes.{tree_bytes_injective}
 use Rattle.tree.specs.Tree.{Name, Tree, Leaf, empty}
 use Rattle.tree.specs.Merge.{merge}
 use Rattle.tree.specs.Form.{NodeValue}
+use Rattle.blob_source.specs.Source.{Blobs}
 use Rattle.blob_source.specs.Told.{IsTold}
 use Rattle.verifier.specs.Build.{ActionMeaning, action_digest, Outcome, finish, State, opening, job_of, Obeys, IsRun, HasFinishedAll}
 use Rattle.verifier.specs.Recorded.{Agrees, IsRecordedAs, RecordsAt, entries_form}
@@ -45,11 +46,11 @@ abbrev pub s7 : State
 s7 = record { done = (0, two.gen.1) ∷ (0, two.gen.1) ∷ []; jobs = (0, (1, two.uses.0)) ∷ [] }
 
 -- a job that is the one with its number has the outcome of its pair
-pub obeys : (pair : ActionMeaning × Outcome) (s : State) (w i : ℕ) → Contains two.table pair → job_of w s ≡ Some (i, pair.0) → Obeys two.table s (finish w pair.1)
-obeys pair s w i inside at job is =
+pub obeys : (X : List (ActionMeaning × Outcome)) (pair : ActionMeaning × Outcome) (s : State) (w i : ℕ) → Contains X pair → job_of w s ≡ Some (i, pair.0) → Obeys X s (finish w pair.1)
+obeys X pair s w i inside at job is =
     let both : ◌≡◌ {A = Option (ℕ × ActionMeaning)} (Some (i, pair.0)) (Some job) = sym at ∙ is in
     let same : ◌≡◌ {A = ℕ × ActionMeaning} (i, pair.0) job = cc in
-    subst (λ (j : ℕ × ActionMeaning). Contains two.table (j.1, pair.1)) same inside
+    subst (λ (j : ℕ × ActionMeaning). Contains X (j.1, pair.1)) same inside
 
 pub gen_inside : Contains two.table two.gen
 gen_inside = (0, omega arith, refl)
@@ -73,10 +74,10 @@ is_run_from t = (
       s3,
       refl,
       (
-        obeys two.gen s3 1 0 gen_inside refl,
+        obeys two.table two.gen s3 1 0 gen_inside refl,
         s4,
         refl,
-        (tt, s5, refl, (tt, s6, refl, (obeys two.gen s6 1 0 gen_inside refl, s7, refl, (obeys two.uses s7 0 1 uses_inside refl, two.end, refl, refl)))),
+        (tt, s5, refl, (tt, s6, refl, (obeys two.table two.gen s6 1 0 gen_inside refl, s7, refl, (obeys two.table two.uses s7 0 1 uses_inside refl, two.end, refl, refl)))),
       ),
     ),
   ),
@@ -115,17 +116,17 @@ gen_recorded_as = record { result = two.gen_result; held = gen_result_held; exit
         let node = ap tree_node tree ∙ sym is in
         (0, omega arith, λ i. (paths i, node i))
 
-use_recorded_as : IsRecordedAs two.blobs two.results two.use_action_digest two.uses.1
-use_recorded_as = record { result = two.use_result; held = use_result_held; exit_code = refl; trees = tt; outputs = λ p x. (there p x, back p x) }
+pub use_recorded_as : (B : Blobs) → IsRecordedAs B two.results two.use_action_digest two.uses.1
+use_recorded_as B = record { result = two.use_result; held = use_result_held; exit_code = refl; trees = tt; outputs = λ p x. (there p x, back p x) }
   where
-    there : (p : List Name) (x : NodeValue) → Contains (entries_form two.uses.1.outputs) (p, x) → RecordsAt two.blobs two.use_result p x
+    there : (p : List Name) (x : NodeValue) → Contains (entries_form two.uses.1.outputs) (p, x) → RecordsAt B two.use_result p x
     there p x (zero, lt, e) =
         let path = ap (λ (z : List Name × NodeValue). z.0) e in
         let is = ap (λ (z : List Name × NodeValue). z.1) e in
         inl (record { path = codes "res" ∷ []; digest = two.newline_digest; executable = false }, (0, omega arith, refl), path, sym is ∙ ap (λ d. file_node d false) newline_named)
     there p x (suc k, lt, e) = absurd (omega (arith, lt))
 
-    back : (p : List Name) (x : NodeValue) → RecordsAt two.blobs two.use_result p x → Contains (entries_form two.uses.1.outputs) (p, x)
+    back : (p : List Name) (x : NodeValue) → RecordsAt B two.use_result p x → Contains (entries_form two.uses.1.outputs) (p, x)
     back p x (inl (f, (suc k, lt, e), path, is)) = absurd (omega (arith, lt))
     back p x (inr (inl (l, (k, lt, e), path, is))) = absurd (omega (arith, lt))
     back p x (inr (inr (d, (k, lt, e), path, t, told, is))) = absurd (omega (arith, lt))
@@ -154,5 +155,5 @@ agrees = record { each = refl; pairs = by }
     by (suc zero) digest pair d p =
         let digests : two.use_action_digest ≡ digest = cc in
         let pairs : two.uses ≡ pair = cc in
-        subst (λ d. IsPicked d pair) digests (subst (IsPicked two.use_action_digest) pairs (uses_inside, use_digest, use_recorded_as))
+        subst (λ d. IsPicked d pair) digests (subst (IsPicked two.use_action_digest) pairs (uses_inside, use_digest, use_recorded_as two.blobs))
     by (suc (suc i)) digest pair d p = absurd cc

@@ -13,9 +13,9 @@ use Rattle.action_messages.specs.ActionResult.{ActionResultValue, action_result_
 use Rattle.action_messages.specs.Command.{CommandValue, command_bytes}
 use Rattle.action_messages.specs.Frame.{FrameValue}
 use Rattle.plan.specs.declared.version.Version.TheVariants.{One, Two}
-use Rattle.plan.specs.Values.{output, LineValue, PlanValue}
+use Rattle.plan.specs.Values.{source, output, LineValue, PlanValue}
 use Rattle.tree.specs.Tree.{Tree, empty, leaf, folder, Leaf, file, single, whole}
-use Rattle.tree.specs.Form.{form, directory_of}
+use Rattle.tree.specs.Form.{form, directory_of, top}
 use Rattle.blob_source.specs.Source.{Blobs, Telling}
 use Rattle.verifier.specs.Build.{Meaning, ActionMeaning, Outcome, Event, start, finish, lose, State}
 use Rattle.verifier.specs.BuildStages.{BuildStage}
@@ -234,6 +234,44 @@ meeting_plan = record plan {
 unfoldable pub meeting_claim : DigestValue
 meeting_claim = digest_named
     (codes "e0f51345ffb335d15094256a20d45361d24b19b42e07f685950ae43ed5e4ee3f") 78
+
+-- ---- a build of one step that reads the sources: `use` has their directory `data`, with its file
+
+abbrev pub reading_plan : PlanValue
+reading_plan = record {
+  version = One;
+  steps =
+      record {
+        name = codes "use";
+        frame = use_frame_digest;
+        lines = record { target = codes "data" ∷ []; origin = source (codes "data" ∷ []) } ∷ [];
+      } ∷
+      [];
+  root_lines = record { target = codes "result" ∷ []; origin = output 0 (codes "res" ∷ []) } ∷ [];
+}
+
+abbrev pub reading_kept : List (DigestValue × List ℕ)
+reading_kept =
+    (use_action_digest, action_bytes (with_input uses.0.frame input_digest)) ∷
+    (use_command_digest, command_bytes uses.0.command) ∷
+    (input_digest, top (form data_input)) ∷
+    []
+
+abbrev pub reading_blobs : Blobs
+reading_blobs = keeping reading_kept
+
+-- one of two jobs is lost
+abbrev pub reading_run : PlanRun
+reading_run = record {
+  meaning = record {
+    frames = framing use_command_digest ∷ [];
+    commands = making (codes "res") ∷ [];
+  };
+  table = uses ∷ [];
+  chosen = uses ∷ [];
+  events = start 0 0 ∷ start 0 1 ∷ lose 0 ∷ finish 1 uses.1 ∷ [];
+  now = record { done = (0, uses.1) ∷ []; jobs = [] };
+}
 
 -- ---- the same steps where lines put nothing together: `use` has one file at `data` and below it,
 -- and the root of another plan reads what `use` doesn't make

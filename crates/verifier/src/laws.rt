@@ -214,6 +214,18 @@ pub fn a_merge_meets_the_premises()
     ensures complete { HasFinishedAll two.meeting_plan two.end }
 {}
 
+/// The premises of what a yes says can be met together by a plan whose step reads the sources: by
+/// the second of the two steps alone, where they have what it reads. A law: it does nothing.
+pub fn a_source_meets_the_premises()
+    ensures plan { IsPlan two.reading_plan }
+    ensures accepted { IsPlanAsRecorded two.reading_blobs two.results two.input_digest
+        two.reading_plan (two.use_action_digest ∷ []) two.claim }
+    ensures tree { IsOrdered two.data_input × (root (form two.data_input) ≡ two.input_digest) }
+    ensures run { RunsFrom two.reading_blobs two.results two.reading_plan
+        (two.use_action_digest ∷ []) two.data_input two.reading_run }
+    ensures complete { HasFinishedAll two.reading_plan two.reading_run.now }
+{}
+
 /// The premises of what is said of stages can be met together: by the build of two steps, and the
 /// same once more from what it made. A law: it does nothing.
 pub fn stages_meet_the_premises<A: Allocator>()
