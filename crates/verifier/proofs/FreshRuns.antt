@@ -1,6 +1,6 @@
 -- What runs of a plan keep, where its first steps are as recorded and no two different blobs concerned share a digest.
 use Rattle.std.proofs.Common.{◌≡◌, ℕ, zero, suc, Bool, true, false, cond, List, [], ◌∷◌, Option, Some, None, length, refl, ap, sym, ◌∙◌, subst, arith, inl, inr}
-use Rattle.std.specs.Prelude.{◌==◌, ◌≢◌, pos, option_map, option_and_then, slice_get, Contains}
+use Rattle.std.specs.Prelude.{◌==◌, ◌≢◌, ◌⊎◌, pos, option_map, option_and_then, slice_get, Contains}
 use Rattle.std.specs.List.{AllByRecursion}
 use Rattle.std.specs.Map.{lookup, remove_entry}
 use Rattle.std.proofs.lemmas.Bool.Decides.{Decides-eqb}
@@ -8,7 +8,7 @@ use Rattle.blob_digest.specs.Digest.{DigestValue, digest_of, NoClash}
 use Rattle.messages.specs.Directory.{directory_bytes}
 use Rattle.messages.specs.declared.node.Node.TheVariants.{Dir}
 use Rattle.messages.specs.Tree.{TreeValue, IsTree, tree_bytes}
-use Rattle.action_messages.specs.Action.{ActionValue, with_input, action_bytes}
+use Rattle.action_messages.specs.Action.{ActionValue, IsAction, with_input, action_bytes}
 use Rattle.action_messages.specs.ActionResult.{ActionResultValue}
 use Rattle.action_messages.specs.Command.{CommandValue, command_bytes}
 use Rattle.action_messages.specs.Frame.{FrameValue, frame_bytes}
@@ -443,81 +443,140 @@ module _ (S : List ℕ → Type 0) (apart : NoClash S) where
       pub runs_keep : (end : State) (es : List Event) → ((b : List ℕ) → IsBlobOfEvents plan meaning t opening es b → S b) → IsRun X plan meaning t opening es end → Keeps end
       runs_keep end es blobs r = keeps_run opening end es (record { done = tt; jobs = tt }) blobs r
 
-      -- ---- a step whose lines put nothing together
+      -- ---- the actions that a step starts with
 
-      module _ (i : ℕ) (step : StepValue) (at : slice_get plan.steps i ≡ Some step) (why : LinesFault) (told : (f : Fault) → why ≢ not_read f) (fails : (put_together B src (slice_get h.outcomes) step.lines).fails why) where
-        -- it has no action
-        no_action : (s : State) → Keeps s → action_of plan meaning t s i ≡ None
-        no_action s keeps =
-            let f = fits.steps i step at in
-            action_made s i step at
-            ∙ ap (option_map {U = ActionMeaning} (λ input. record { frame = f.0; command = f.1; input = input })) (put_nothing s keeps step.lines (step_paths [] plan.steps rules.steps i step at) why told fails)
+      module _ (i : ℕ) (P : ActionMeaning → Type 0) (only : (s : State) → Keeps s → (a : ActionMeaning) → action_of plan meaning t s i ≡ Some a → ((b : List ℕ) → IsBlobOfAction a b → S b) → P a) where
+        abbrev IsJobWith : ℕ × (ℕ × ActionMeaning) → Type 0
+        IsJobWith j = j.1.0 ≡ i → P j.1.1
 
-        cant_start : (s : State) → Keeps s → (w : ℕ) → happens plan meaning t s (start i w) ≡ None
-        cant_start s keeps w = ap (started s i w (job_of w s)) (no_action s keeps) ∙ by (job_of w s)
+        abbrev IsEndWith : ℕ × Outcome → Type 0
+        IsEndWith e = e.0 ≡ i → (a : ActionMeaning) × P a
+
+        -- the jobs and the outcomes of the step are of actions with P
+        record RunsWith (s : State) : Type 0 where
+          jobs : AllByRecursion IsJobWith s.jobs
+          done : AllByRecursion IsEndWith s.done
+
+        with_event : (s mid : State) (e : Event) → Keeps s → RunsWith s → ((b : List ℕ) → IsBlobOfEvent plan meaning t s e b → S b) → happens plan meaning t s e ≡ Some mid → RunsWith mid
+        with_event s mid (start k w) keeps runs blobs is = by (job_of w s) (action_of plan meaning t s k) refl is
           where
-            by : (q : Option (ℕ × ActionMeaning)) → started s i w q None ≡ None
-            by None = refl
-            by (Some busy) = refl
-
-        -- no job and no outcome is of it
-        record IsFree (s : State) : Type 0 where
-          jobs : AllByRecursion (λ (j : ℕ × (ℕ × ActionMeaning)). j.1.0 ≢ i) s.jobs
-          done : AllByRecursion (λ (e : ℕ × Outcome). e.0 ≢ i) s.done
-
-        free_event : (s mid : State) (e : Event) → Keeps s → IsFree s → happens plan meaning t s e ≡ Some mid → IsFree mid
-        free_event s mid (start k w) keeps free is = by (job_of w s) (action_of plan meaning t s k) refl is
-          where
-            by : (q : Option (ℕ × ActionMeaning)) (o : Option ActionMeaning) → action_of plan meaning t s k ≡ o → started s k w q o ≡ Some mid → IsFree mid
+            by : (q : Option (ℕ × ActionMeaning)) (o : Option ActionMeaning) → action_of plan meaning t s k ≡ o → started s k w q o ≡ Some mid → RunsWith mid
             by (Some job) o e is = absurd cc
             by None None e is = absurd cc
             by None (Some a) e is =
                 let whole_state : ◌≡◌ {A = State} (record s { jobs = (w, (k, a)) ∷ s.jobs }) mid = cc in
-                subst IsFree whole_state (record { jobs = (other, free.jobs); done = free.done })
-              where
-                other : k ≢ i
-                other same = let clash : ◌≡◌ {A = Option ActionMeaning} None (Some a) = sym (no_action s keeps) ∙ ap (action_of plan meaning t s) (sym same) ∙ e in absurd cc
-        free_event s mid (finish w o) keeps free is = by (job_of w s) refl is
+                subst RunsWith whole_state (record {
+                  jobs = ((λ same. only s keeps a (ap (action_of plan meaning t s) (sym same) ∙ e) (λ b q. blobs b (a, e, q))), runs.jobs);
+                  done = runs.done;
+                })
+        with_event s mid (finish w o) keeps runs blobs is = by (job_of w s) refl is
           where
-            by : (q : Option (ℕ × ActionMeaning)) → job_of w s ≡ q → finished s w o q ≡ Some mid → IsFree mid
+            by : (q : Option (ℕ × ActionMeaning)) → job_of w s ≡ q → finished s w o q ≡ Some mid → RunsWith mid
             by None e is = absurd cc
             by (Some job) e is =
                 let whole_state : ◌≡◌ {A = State} (record { done = (job.0, o) ∷ s.done; jobs = remove_entry (λ k. k == w) s.jobs }) mid = cc in
-                let other = found_one (λ (j : ℕ × (ℕ × ActionMeaning)). j.1.0 ≢ i) w s.jobs job free.jobs e in
-                subst IsFree whole_state (record { jobs = kept_rest (λ (j : ℕ × (ℕ × ActionMeaning)). j.1.0 ≢ i) w s.jobs free.jobs; done = (other, free.done) })
-        free_event s mid (lose w) keeps free is = by (job_of w s) is
+                subst RunsWith whole_state (record { jobs = kept_rest IsJobWith w s.jobs runs.jobs; done = ((λ same. (job.1, found_one IsJobWith w s.jobs job runs.jobs e same)), runs.done) })
+        with_event s mid (lose w) keeps runs blobs is = by (job_of w s) is
           where
-            by : (q : Option (ℕ × ActionMeaning)) → lost s w q ≡ Some mid → IsFree mid
+            by : (q : Option (ℕ × ActionMeaning)) → lost s w q ≡ Some mid → RunsWith mid
             by None is = absurd cc
             by (Some job) is =
                 let whole_state : ◌≡◌ {A = State} (record s { jobs = remove_entry (λ k. k == w) s.jobs }) mid = cc in
-                subst IsFree whole_state (record { jobs = kept_rest (λ (j : ℕ × (ℕ × ActionMeaning)). j.1.0 ≢ i) w s.jobs free.jobs; done = free.done })
+                subst RunsWith whole_state (record { jobs = kept_rest IsJobWith w s.jobs runs.jobs; done = runs.done })
 
-        -- no event starts it
-        never_started : (s end : State) (es : List Event) → Keeps s → IsFree s → ((b : List ℕ) → IsBlobOfEvents plan meaning t s es b → S b) → IsRun X plan meaning t s es end
-            → IsFree end × ((w : ℕ) → Contains es (start i w) → ⊥)
-        never_started s end [] keeps free blobs r = (subst IsFree (sym r) free, none)
+        start_with : (s mid : State) (w : ℕ) → Keeps s → ((b : List ℕ) → IsBlobOfEvent plan meaning t s (start i w) b → S b) → happens plan meaning t s (start i w) ≡ Some mid → (a : ActionMeaning) × P a
+        start_with s mid w keeps blobs is = by (job_of w s) (action_of plan meaning t s i) refl is
           where
-            none : (w : ℕ) → Contains [] (start i w) → ⊥
-            none w (k, lt, is) = omega (arith, lt)
-        never_started s end (e ∷ es) keeps free blobs r =
+            by : (q : Option (ℕ × ActionMeaning)) (o : Option ActionMeaning) → action_of plan meaning t s i ≡ o → started s i w q o ≡ Some mid → (a : ActionMeaning) × P a
+            by (Some job) o e is = absurd cc
+            by None None e is = absurd cc
+            by None (Some a) e is = (a, only s keeps a e (λ b q. blobs b (a, e, q)))
+
+        -- so is each event that starts it
+        run_with : (s end : State) (es : List Event) → Keeps s → RunsWith s → ((b : List ℕ) → IsBlobOfEvents plan meaning t s es b → S b) → IsRun X plan meaning t s es end
+            → RunsWith end × ((w : ℕ) → Contains es (start i w) → (a : ActionMeaning) × P a)
+        run_with s end [] keeps runs blobs r = (subst RunsWith (sym r) runs, none)
+          where
+            none : (w : ℕ) → Contains [] (start i w) → (a : ActionMeaning) × P a
+            none w (k, lt, is) = absurd (omega (arith, lt))
+        run_with s end (e ∷ es) keeps runs blobs r =
             let mid = r.1 in
-            let rest = never_started mid end es (keeps_event s mid e keeps r.0 (λ b k. blobs b (inl k)) r.2) (free_event s mid e keeps free r.2) (λ b k. blobs b (inr (mid, r.2, k))) r.3 in
+            let rest = run_with mid end es (keeps_event s mid e keeps r.0 (λ b k. blobs b (inl k)) r.2) (with_event s mid e keeps runs (λ b k. blobs b (inl k)) r.2) (λ b k. blobs b (inr (mid, r.2, k))) r.3 in
             (rest.0, by rest.1)
           where
-            by : ((w : ℕ) → Contains es (start i w) → ⊥) → (w : ℕ) → Contains (e ∷ es) (start i w) → ⊥
+            by : ((w : ℕ) → Contains es (start i w) → (a : ActionMeaning) × P a) → (w : ℕ) → Contains (e ∷ es) (start i w) → (a : ActionMeaning) × P a
             by later w (zero, lt, is) =
-                let none = ap (happens plan meaning t s) is ∙ cant_start s keeps w in
-                let clash : ◌≡◌ {A = Option State} (Some r.1) None = sym r.2 ∙ none in
-                cc
+                start_with s r.1 w keeps (λ b q. blobs b (inl (subst (λ e. IsBlobOfEvent plan meaning t s e b) (sym is) q))) (ap (happens plan meaning t s) (sym is) ∙ r.2)
             by later w (suc k, lt, is) = later w (k, omega (arith, lt), is)
 
-        -- so no run does, and none is complete
-        pub runs_without : (end : State) (es : List Event) → ((b : List ℕ) → IsBlobOfEvents plan meaning t opening es b → S b) → IsRun X plan meaning t opening es end
+        runs_with : (end : State) (es : List Event) → ((b : List ℕ) → IsBlobOfEvents plan meaning t opening es b → S b) → IsRun X plan meaning t opening es end
+            → RunsWith end × ((w : ℕ) → Contains es (start i w) → (a : ActionMeaning) × P a)
+        runs_with end es blobs r = run_with opening end es (record { done = tt; jobs = tt }) (record { jobs = tt; done = tt }) blobs r
+
+      module _ (i : ℕ) (step : StepValue) (at : slice_get plan.steps i ≡ Some step) where
+        -- a step whose lines put nothing together has no action
+        no_action : (why : LinesFault) → ((f : Fault) → why ≢ not_read f) → (put_together B src (slice_get h.outcomes) step.lines).fails why → (s : State) → Keeps s → action_of plan meaning t s i ≡ None
+        no_action why told fails s keeps =
+            let f = fits.steps i step at in
+            action_made s i step at
+            ∙ ap (option_map {U = ActionMeaning} (λ input. record { frame = f.0; command = f.1; input = input })) (put_nothing s keeps step.lines (step_paths [] plan.steps rules.steps i step at) why told fails)
+
+        -- so no run starts it, and none is complete
+        pub runs_without : (why : LinesFault) → ((f : Fault) → why ≢ not_read f) → (put_together B src (slice_get h.outcomes) step.lines).fails why
+            → (end : State) (es : List Event) → ((b : List ℕ) → IsBlobOfEvents plan meaning t opening es b → S b) → IsRun X plan meaning t opening es end
             → ((w : ℕ) → Contains es (start i w) → ⊥) × ((w : ℕ) → happens plan meaning t end (start i w) ≡ None) × (HasFinishedAll plan end → ⊥)
-        runs_without end es blobs r =
-            let kept = never_started opening end es (record { done = tt; jobs = tt }) (record { jobs = tt; done = tt }) blobs r in
-            (kept.1, cant_start end (runs_keep end es blobs r), λ all. let o = all i step at in found_one (λ (e : ℕ × Outcome). e.0 ≢ i) i end.done o.0 kept.0.done o.1 refl)
+        runs_without why told fails end es blobs r =
+            let kept = runs_with i (λ _. ⊥) none end es blobs r in (
+              λ w c. (kept.1 w c).1,
+              λ w. ap (started end i w (job_of w end)) (no_action why told fails end (runs_keep end es blobs r)) ∙ free w (job_of w end),
+              λ all. let o = all i step at in (found_one (IsEndWith i (λ _. ⊥) none) i end.done o.0 kept.0.done o.1 refl).1,
+            )
+          where
+            none : (s : State) → Keeps s → (a : ActionMeaning) → action_of plan meaning t s i ≡ Some a → ((b : List ℕ) → IsBlobOfAction a b → S b) → ⊥
+            none s keeps a is blobs = let clash : ◌≡◌ {A = Option ActionMeaning} None (Some a) = sym (no_action why told fails s keeps) ∙ is in cc
+
+            free : (w : ℕ) (q : Option (ℕ × ActionMeaning)) → started end i w q None ≡ None
+            free w None = refl
+            free w (Some busy) = refl
+
+        -- an action whose frame isn't the step's, or whose input isn't what the step's lines put together
+        abbrev pub IsOther : ActionValue → Type 0
+        IsOther action = (digest_of (frame_bytes action.frame) ≢ step.frame)
+            ⊎ ((made : Tree NodeValue) × (put_together B src (slice_get h.outcomes) step.lines).passes made × (root made ≢ action.input))
+
+        -- isn't that with which the step starts
+        other_action : (d : DigestValue) (action : ActionValue) → IsTold IsAction action_bytes B d action → IsOther action
+            → (s : State) → Keeps s → (a : ActionMeaning) → action_of plan meaning t s i ≡ Some a → ((b : List ℕ) → IsBlobOfAction a b → S b) → action_digest a ≢ d
+        unfolding ◌and_then◌
+        other_action d action told other s keeps a is blobs e = by other
+          where
+            p : IsActionOf s i a
+            p = action_is s i a is
+
+            own : p.step ≡ step
+            own = one_answer (slice_get plan.steps i) p.step step p.at at
+
+            valid : IsAction (with_input a.frame (root (form a.input)))
+            valid = record { frame = p.fit.frame_valid; input = IsDigest-digest_of (top (form a.input)) }
+
+            same : action ≡ with_input a.frame (root (form a.input))
+            same = action_bytes_injective action (with_input a.frame (root (form a.input))) told.valid valid (told_bytes B d (action_bytes action) (action_bytes (with_input a.frame (root (form a.input)))) within.values told.blob (blobs _ (inl (inl refl))) e)
+
+            by : IsOther action → ⊥
+            by (inl unlike) = unlike (ap (λ (x : ActionValue). digest_of (frame_bytes x.frame)) same ∙ p.fit.frame_digest ∙ ap (λ (s : StepValue). s.frame) own)
+            by (inr (made, (xs, r, merges), unlike)) =
+                let there : merge_of t s step.lines ≡ Some a.input = ap (λ (z : StepValue). merge_of t s z.lines) (sym own) ∙ p.grafted in
+                let g = grafts s keeps step.lines (step_paths [] plan.steps rules.steps i step at) xs r made merges (graft_finished s step.lines a.input there) in
+                let input : g.0 ≡ a.input = one_answer (merge_of t s step.lines) g.0 a.input g.1 there in
+                unlike (sym g.2 ∙ ap (λ u. root (form u)) input ∙ sym (ap (λ (x : ActionValue). x.input) same))
+
+        -- so no job runs it
+        pub never_run : (d : DigestValue) (action : ActionValue) → IsTold IsAction action_bytes B d action → IsOther action
+            → (end : State) (es : List Event) → ((b : List ℕ) → IsBlobOfEvents plan meaning t opening es b → S b) → IsRun X plan meaning t opening es end
+            → (w : ℕ) (job : ℕ × ActionMeaning) → job_of w end ≡ Some job → job.0 ≡ i → action_digest job.1 ≢ d
+        never_run d action told other end es blobs r w job is own =
+            let kept = runs_with i (λ a. action_digest a ≢ d) (other_action d action told other) end es blobs r in
+            found_one (IsJobWith i (λ a. action_digest a ≢ d) (other_action d action told other)) w end.jobs job kept.0.jobs is own
 
       -- ---- what a run comes to, where all steps are as recorded
 

@@ -1,25 +1,26 @@
--- The build of two steps in plans whose lines put nothing together.
-use Rattle.std.proofs.Common.{◌≡◌, ℕ, zero, suc, true, false, List, [], ◌∷◌, Some, refl, sym, subst, arith, inl, inr}
+-- The build of two steps in plans whose lines put nothing together, or whose step isn't the recorded one.
+use Rattle.std.proofs.Common.{◌≡◌, ℕ, zero, suc, true, false, List, [], ◌∷◌, Option, Some, refl, ap, sym, ◌∙◌, subst, arith, inl, inr}
 use Rattle.std.specs.Prelude.{slice_get, take, Contains, codes}
 use Rattle.std.proofs.lemmas.Slice.Eq.{bytes_eq-Decides}
-use Rattle.blob_digest.specs.Digest.{DigestValue}
+use Rattle.hex.specs.Hex.{decode_pairs}
+use Rattle.blob_digest.specs.Digest.{DigestValue, NoClash}
 use Rattle.messages.proofs.Paths.{one_name}
 use Rattle.action_messages.specs.Action.{with_input}
 use Rattle.action_messages.specs.Command.{CommandValue}
 use Rattle.action_messages.specs.Frame.{FrameValue}
 use Rattle.actions.specs.OutcomeLookup.{StandsOver}
 use Rattle.plan.specs.Plan.{IsPlan}
-use Rattle.plan.specs.Values.{StepValue}
+use Rattle.plan.specs.Values.{StepValue, PlanValue}
 use Rattle.tree.specs.Lookup.{nothing}
 use Rattle.tree.specs.Merge.{merge}
 use Rattle.tree.specs.Merging.{MergeLines, conflict, merged}
 use Rattle.tree.specs.Stage.{◌and_then◌}
 use Rattle.tree.specs.Tree.{empty}
-use Rattle.verifier.specs.declared.verdict.Cause.TheVariants.{OriginMissing, InputConflict}
+use Rattle.verifier.specs.declared.verdict.Cause.TheVariants.{FrameDiffers, OriginMissing, InputConflict}
 use Rattle.verifier.specs.declared.verdict.Place.TheVariants.{Root, Step}
 use Rattle.verifier.specs.declared.verdict.Verdict.TheVariants.{No}
-use Rattle.verifier.specs.Build.{ActionMeaning, action_digest, Outcome, StepFits, MeaningFits, opening, action_of, IsRun}
-use Rattle.verifier.specs.Headline.{IsBlobOfAction, IsBlobOfOutcome, IsConcerned, RunsFrom}
+use Rattle.verifier.specs.Build.{Meaning, ActionMeaning, action_digest, Outcome, StepFits, MeaningFits, Event, opening, action_of, IsRun}
+use Rattle.verifier.specs.Headline.{IsBlobOfMeaning, IsBlobOfAction, IsBlobOfOutcome, IsBlobOfEvents, IsConcerned, RunsFrom}
 use Rattle.verifier.specs.Recorded.{Agrees, IsRecordedAs}
 use Rattle.verifier.specs.StepChecks.{together}
 use Rattle.verifier.specs.Together.{no_origin, in_conflict}
@@ -113,28 +114,37 @@ first_agrees = record { each = refl; pairs = by }
     by zero digest pair d p = agrees.pairs 0 digest pair d p
     by (suc i) digest pair d p = absurd cc
 
-first_action : (a : ActionMeaning) → action_of two.clashing_plan two.meaning empty opening 0 ≡ Some a → two.gen.0 ≡ a
-unfolding merge
-first_action a at = one_answer (action_of two.clashing_plan two.meaning empty opening 0) two.gen.0 a refl at
+-- what is concerned in a run in which only `gen` is chosen
+concerned : (plan : PlanValue) (meaning : Meaning) (es : List Event) → ((b : List ℕ) → IsBlobOfMeaning meaning b → Contains all_blobs b) → ((b : List ℕ) → IsBlobOfEvents plan meaning empty opening es b → Contains all_blobs b)
+    → (b : List ℕ) → IsConcerned two.blobs plan meaning empty (two.gen ∷ []) es b → Contains all_blobs b
+concerned plan meaning es means happens b (inl (inl v)) = kept_one b v
+concerned plan meaning es means happens b (inl (inr h)) = in_tree b h
+concerned plan meaning es means happens b (inr (inl (inl h))) = of_nothing b h
+concerned plan meaning es means happens b (inr (inl (inr h))) = means b h
+concerned plan meaning es means happens b (inr (inr (inl (pair, (zero, lt, at), inl h)))) = of_gen b (subst (λ (z : ActionMeaning × Outcome). IsBlobOfAction z.0 b) (sym at) h)
+concerned plan meaning es means happens b (inr (inr (inl (pair, (zero, lt, at), inr h)))) = made_by_gen b (subst (λ (z : ActionMeaning × Outcome). IsBlobOfOutcome z.1 b) (sym at) h)
+concerned plan meaning es means happens b (inr (inr (inl (pair, (suc k, lt, at), h)))) = absurd (omega (arith, lt))
+concerned plan meaning es means happens b (inr (inr (inr h))) = happens b h
 
-concerned : (b : List ℕ) → IsConcerned two.blobs two.clashing_plan two.meaning empty (two.gen ∷ []) two.clashing_run.events b → Contains all_blobs b
-concerned b (inl (inl v)) = kept_one b v
-concerned b (inl (inr h)) = in_tree b h
-concerned b (inr (inl (inl h))) = of_nothing b h
-concerned b (inr (inl (inr h))) = of_meaning b h
-concerned b (inr (inr (inl (pair, (zero, lt, at), inl h)))) = of_gen b (subst (λ (z : ActionMeaning × Outcome). IsBlobOfAction z.0 b) (sym at) h)
-concerned b (inr (inr (inl (pair, (zero, lt, at), inr h)))) = made_by_gen b (subst (λ (z : ActionMeaning × Outcome). IsBlobOfOutcome z.1 b) (sym at) h)
-concerned b (inr (inr (inl (pair, (suc k, lt, at), h)))) = absurd (omega (arith, lt))
-concerned b (inr (inr (inr (inl (a, at, h))))) = of_gen b (subst (λ a. IsBlobOfAction a b) (sym (first_action a at)) h)
-concerned b (inr (inr (inr (inr (mid, at, inl h))))) = made_by_gen b h
-concerned b (inr (inr (inr (inr (mid, at, inr (next, after, none)))))) = absurd none
+no_clash : (plan : PlanValue) (meaning : Meaning) (es : List Event) → ((b : List ℕ) → IsBlobOfMeaning meaning b → Contains all_blobs b) → ((b : List ℕ) → IsBlobOfEvents plan meaning empty opening es b → Contains all_blobs b)
+    → NoClash (IsConcerned two.blobs plan meaning empty (two.gen ∷ []) es)
+no_clash plan meaning es means happens x y c d e = none_clash x y (concerned plan meaning es means happens x c) (concerned plan meaning es means happens y d) e
+
+starts : (b : List ℕ) (o : Option ActionMeaning) (a : ActionMeaning) → o ≡ Some two.gen.0 → o ≡ Some a → IsBlobOfAction a b → Contains all_blobs b
+starts b o a own at h = of_gen b (subst (λ a. IsBlobOfAction a b) (one_answer o a two.gen.0 at own) h)
+
+clashing_events : (b : List ℕ) → IsBlobOfEvents two.clashing_plan two.meaning empty opening two.clashing_run.events b → Contains all_blobs b
+unfolding merge
+clashing_events b (inl (a, at, h)) = starts b (action_of two.clashing_plan two.meaning empty opening 0) a refl at h
+clashing_events b (inr (mid, at, inl h)) = made_by_gen b h
+clashing_events b (inr (mid, at, inr (next, after, none))) = absurd none
 
 happened : IsRun two.table two.clashing_plan two.meaning empty opening two.clashing_run.events s4
 unfolding merge
 happened = (tt, s1, refl, (obeys two.table two.gen s1 0 0 gen_inside refl, s4, refl, refl))
 
 pub clashing_runs : RunsFrom two.blobs two.results two.clashing_plan (take 1 two.recorded) empty two.clashing_run
-clashing_runs = record { fits = clashing_fits; table = table_valid; agrees = first_agrees; apart = λ x y c d e. none_clash x y (concerned x c) (concerned y d) e; happened = happened }
+clashing_runs = record { fits = clashing_fits; table = table_valid; agrees = first_agrees; apart = no_clash two.clashing_plan two.meaning two.clashing_run.events of_meaning clashing_events; happened = happened }
 
 -- ---- a root whose origin isn't there
 
@@ -161,3 +171,75 @@ no_root A =
 
 pub rootless_runs : RunsFrom two.blobs two.results two.rootless_plan two.recorded empty two.run
 rootless_runs = record { fits = record { steps = fits.steps }; table = table_valid; agrees = agrees; apart = no_clash_from empty of_nothing; happened = is_run_from empty }
+
+-- ---- a step with another frame
+
+pub other_valid : IsPlan two.other_plan
+other_valid =
+    let first = plan_valid.steps.0 in
+    let step = plan_valid.steps.1.0 in
+    record {
+      few = plan_valid.few;
+      steps = (first, (record { name = step.name; new = step.new; frame = first.frame; lines = record { few = omega arith; each = tt } }, tt));
+      root_lines = plan_valid.root_lines;
+      apart = (λ one. tt, (λ one. tt, tt));
+      root_apart = plan_valid.root_apart;
+    }
+
+other_frames : two.use_frame_digest ≡ two.gen_frame_digest → ⊥
+unfolding two.use_frame_digest two.gen_frame_digest decode_pairs
+other_frames e =
+    let same : false ≡ true = (bytes_eq-Decides two.use_frame_digest.hash two.gen_frame_digest.hash).1 (ap (λ (d : DigestValue). d.hash) e) in
+    cc
+
+pub other_frame : (A : Type 0) → IsVerdict {A = A} two.telling two.sources two.other_plan two.recorded two.claim (No (Step (codes "use")) FrameDiffers)
+unfolding ◌and_then◌
+other_frame A =
+    let gen = from_recorded A two.telling two.sources [] (record { name = codes "gen"; frame = two.gen_frame_digest; lines = [] }) two.gen_action_digest gen_outcome (gen_passes two.sources) in
+    inl (inr (
+      gen_outcome,
+      gen,
+      inl (
+        refl,
+        inr (with_input two.uses.0.frame two.input_digest, use_action_told, inr (tt, refl, inr (two.uses.0.command, use_command_told, inl ((λ e. other_frames (sym use_frame_named ∙ e)), refl)))),
+      ),
+    ))
+
+other_fits : MeaningFits two.other_plan two.other_run.meaning
+other_fits = record { steps = by }
+  where
+    by : (i : ℕ) (step : StepValue) → slice_get two.other_plan.steps i ≡ Some step
+        → (frame : FrameValue) × (command : CommandValue) × (slice_get two.other_run.meaning.frames i ≡ Some frame) × (slice_get two.other_run.meaning.commands i ≡ Some command) × StepFits step.frame frame command
+    by zero step at = fits.steps 0 step at
+    by (suc zero) step at =
+        let same : ◌≡◌ {A = StepValue} (record { name = codes "use"; frame = two.gen_frame_digest; lines = [] }) step = cc in
+        let f = fits.steps 0 _ refl in
+        (f.0, f.1, f.2, f.3, subst (λ (s : StepValue). StepFits s.frame f.0 f.1) same f.4)
+    by (suc (suc i)) step at = absurd cc
+
+other_meaning : (b : List ℕ) → IsBlobOfMeaning two.other_run.meaning b → Contains all_blobs b
+other_meaning b (inl (f, (zero, lt, at), is)) = of_meaning b (inl (f, (0, omega arith, at), is))
+other_meaning b (inl (f, (suc zero, lt, at), is)) = of_meaning b (inl (f, (0, omega arith, at), is))
+other_meaning b (inl (f, (suc (suc k), lt, at), is)) = absurd (omega (arith, lt))
+other_meaning b (inr (c, (zero, lt, at), is)) = of_meaning b (inr (c, (0, omega arith, at), is))
+other_meaning b (inr (c, (suc zero, lt, at), is)) = of_meaning b (inr (c, (0, omega arith, at), is))
+other_meaning b (inr (c, (suc (suc k), lt, at), is)) = absurd (omega (arith, lt))
+
+other_events : (b : List ℕ) → IsBlobOfEvents two.other_plan two.other_run.meaning empty opening two.other_run.events b → Contains all_blobs b
+unfolding merge
+other_events b (inl (a, at, h)) = starts b (action_of two.other_plan two.other_run.meaning empty opening 0) a refl at h
+other_events b (inr (mid, at, inl (a, is, h))) = starts b (action_of two.other_plan two.other_run.meaning empty mid 1) a refl is h
+other_events b (inr (mid, at, inr (next, after, none))) = absurd none
+
+other_happened : IsRun two.table two.other_plan two.other_run.meaning empty opening two.other_run.events two.other_run.now
+unfolding merge
+other_happened = (tt, s1, refl, (tt, two.other_run.now, refl, refl))
+
+pub other_runs : RunsFrom two.blobs two.results two.other_plan (take 1 two.recorded) empty two.other_run
+other_runs = record {
+  fits = other_fits;
+  table = table_valid;
+  agrees = first_agrees;
+  apart = no_clash two.other_plan two.other_run.meaning two.other_run.events other_meaning other_events;
+  happened = other_happened;
+}

@@ -1,16 +1,20 @@
--- Where lines of a plan put nothing together by what was recorded, they do so in no run.
+-- Where lines of a plan put nothing together by what was recorded, they do so in no run, and where a recorded action isn't the plan's, no run has it.
 use Rattle.std.proofs.Common.{◌≡◌, ℕ, zero, suc, List, [], ◌∷◌, ◌++◌, Some, length, ap, ◌∙◌, subst, inl, inr}
-use Rattle.std.specs.Prelude.{◌≢◌, slice_get, take}
-use Rattle.blob_digest.specs.Digest.{DigestValue}
+use Rattle.std.specs.Prelude.{◌≢◌, ◌⊎◌, slice_get, take}
+use Rattle.blob_digest.specs.Digest.{DigestValue, digest_of}
 use Rattle.actions.specs.Outcome.{OutcomeValue}
+use Rattle.action_messages.specs.Action.{ActionValue, IsAction, action_bytes}
 use Rattle.action_messages.specs.Command.{CommandValue}
+use Rattle.action_messages.specs.Frame.{frame_bytes}
 use Rattle.action_messages.specs.Outputs.{RecordedValue}
 use Rattle.plan.specs.Plan.{IsPlan}
 use Rattle.plan.specs.Values.{LineValue, StepValue, PlanValue}
 use Rattle.tree.specs.Difference.{Differing, unexplained, absent, differs, unread}
+use Rattle.tree.specs.Form.{NodeValue, root}
 use Rattle.tree.specs.Stage.{◌and_then◌}
+use Rattle.tree.specs.Tree.{Tree}
 use Rattle.blob_source.specs.Source.{Blobs, Telling}
-use Rattle.blob_source.specs.Told.{Fault, missing, wrong, malformed}
+use Rattle.blob_source.specs.Told.{Fault, missing, wrong, malformed, IsTold}
 use Rattle.verifier.specs.declared.verdict.Cause.{Cause}
 use Rattle.verifier.specs.declared.verdict.Place.TheVariants.{Step, Root}
 use Rattle.verifier.specs.declared.verdict.Verdict.TheVariants.{No}
@@ -18,49 +22,71 @@ use Rattle.verifier.specs.AsRecorded.{AreAsRecorded}
 use Rattle.verifier.specs.Faults.{cause_of_fault, cause_of_lines}
 use Rattle.verifier.specs.Headline.{IsConcerned}
 use Rattle.verifier.specs.StepChecks.{difference_cause, OutputFault, together, step_check}
-use Rattle.verifier.specs.Together.{LinesFault, not_read, put_together}
-use Rattle.verifier.specs.Unbuilt.{IsOfLines, NoRunStarts, NoRunHasRoot}
+use Rattle.verifier.specs.Together.{LinesFault, no_origin, in_conflict, not_read, put_together}
+use Rattle.verifier.specs.Unbuilt.{IsOfLines, NoRunStarts, NoRunHasRoot, IsOfAction, NoRunHasAction}
 use Rattle.verifier.specs.Verdict.{root_check, IsVerdict}
-use Rattle.verifier.proofs.FreshRuns.{FirstAsRecorded, runs_keep, put_nothing, runs_without}
+use Rattle.verifier.proofs.FreshRuns.{FirstAsRecorded, runs_keep, put_nothing, runs_without, never_run}
 use Rattle.verifier.proofs.Holds.{concerned}
-use Rattle.verifier.proofs.NoAtStep.{fails_at_step}
+use Rattle.verifier.proofs.NoAtStep.{IsFirstFailing, fails_at_step}
 use Rattle.verifier.proofs.Passing.{root_fails}
 use Rattle.verifier.proofs.Targets.{paths_of}
 
--- ---- the checks that fail for lines
+-- ---- the checks that fail for lines, or for the recorded action
 
 module _ (A : Type 0) where
-  untold : (f : Fault) → IsOfLines {A = A} (cause_of_fault f) → ⊥
-  untold (missing d) k = k
-  untold (wrong d) k = k
-  untold (malformed d) k = k
+  abbrev IsOfEither : Cause A → Type 0
+  IsOfEither c = IsOfLines c ⊎ IsOfAction c
 
-  other_input : (x : Differing) → IsOfLines {A = A} (difference_cause x) → ⊥
-  other_input (unexplained path) k = k
-  other_input (absent path) k = k
-  other_input (differs path) k = k
-  other_input (unread f) k = untold f k
+  neither : ⊥ ⊎ ⊥ → ⊥
+  neither (inl k) = k
+  neither (inr k) = k
 
-  other_output : (B : Blobs) (m : CommandValue) (xs : List RecordedValue) (c : Cause A) → IsOfLines c → OutputFault B m xs c → ⊥
-  other_output B m [] c k h = h
-  other_output B m (x ∷ xs) c k (inl (inl h)) = subst IsOfLines h.1 k
-  other_output B m (x ∷ xs) c k (inl (inr (listed, f, fault, is))) = untold f (subst IsOfLines is k)
-  other_output B m (x ∷ xs) c k (inr h) = other_output B m xs c k h.3
+  untold : (f : Fault) → IsOfEither (cause_of_fault f) → ⊥
+  untold (missing d) k = neither k
+  untold (wrong d) k = neither k
+  untold (malformed d) k = neither k
 
-  -- only lines fail so
-  pub lines_of_step : (t : Telling) (sources : DigestValue) (os : List OutcomeValue) (s : StepValue) (d : DigestValue) (c : Cause A) → IsOfLines c → (step_check t sources os s d).fails c
-      → (together {A = A} t.blobs sources os s.lines).fails c
-  unfolding ◌and_then◌
-  lines_of_step t sources os s d c k (inl (f, fault, is)) = absurd (untold f (subst IsOfLines is k))
-  lines_of_step t sources os s d c k (inr (action, told, inl h)) = absurd (subst IsOfLines h.1 k)
-  lines_of_step t sources os s d c k (inr (action, told, inr (_, cached, inl (f, fault, is)))) = absurd (untold f (subst IsOfLines is k))
-  lines_of_step t sources os s d c k (inr (action, told, inr (_, cached, inr (command, held, inl h)))) = absurd (subst IsOfLines h.1 k)
-  lines_of_step t sources os s d c k (inr (action, told, inr (_, cached, inr (command, held, inr (_, frame, inl (inl h)))))) = h
-  lines_of_step t sources os s d c k (inr (action, told, inr (_, cached, inr (command, held, inr (_, frame, inl (inr (made, passes, (unlike, x, first, is)))))))) = absurd (other_input x (subst IsOfLines is k))
-  lines_of_step t sources os s d c k (inr (action, told, inr (_, cached, inr (command, held, inr (_, frame, inr (_, input, inl (inl h))))))) = absurd (subst IsOfLines h.1 k)
-  lines_of_step t sources os s d c k (inr (action, told, inr (_, cached, inr (command, held, inr (_, frame, inr (_, input, inl (inr h))))))) = absurd (subst IsOfLines h.3 k)
-  lines_of_step t sources os s d c k (inr (action, told, inr (_, cached, inr (command, held, inr (_, frame, inr (_, input, inr (result, kept, inl h))))))) = absurd (subst IsOfLines h.1 k)
-  lines_of_step t sources os s d c k (inr (action, told, inr (_, cached, inr (command, held, inr (_, frame, inr (_, input, inr (result, kept, inr (_, ended, (xs, are, fault))))))))) = absurd (other_output t.blobs command xs c k fault)
+  no_lines : (x : Differing) → IsOfLines {A = A} (difference_cause x) → ⊥
+  no_lines (unexplained path) k = k
+  no_lines (absent path) k = k
+  no_lines (differs path) k = k
+  no_lines (unread f) k = untold f (inl k)
+
+  no_action : (why : LinesFault) → IsOfAction {A = A} (cause_of_lines why) → ⊥
+  no_action (no_origin path) k = k
+  no_action (in_conflict path) k = k
+  no_action (not_read f) k = untold f (inr k)
+
+  no_output : (B : Blobs) (m : CommandValue) (xs : List RecordedValue) (c : Cause A) → IsOfEither c → OutputFault B m xs c → ⊥
+  no_output B m [] c k h = h
+  no_output B m (x ∷ xs) c k (inl (inl h)) = neither (subst IsOfEither h.1 k)
+  no_output B m (x ∷ xs) c k (inl (inr (listed, f, fault, is))) = untold f (subst IsOfEither is k)
+  no_output B m (x ∷ xs) c k (inr h) = no_output B m xs c k h.3
+
+  module _ (t : Telling) (sources : DigestValue) (os : List OutcomeValue) (s : StepValue) (d : DigestValue) (c : Cause A) where
+    -- the recorded action has another frame, or another input than what the step's lines put together
+    abbrev pub HasOtherAction : Type 0
+    HasOtherAction = (action : ActionValue) × IsTold IsAction action_bytes t.blobs d action
+        × ((digest_of (frame_bytes action.frame) ≢ s.frame) ⊎ ((made : Tree NodeValue) × (put_together t.blobs sources (slice_get os) s.lines).passes made × (root made ≢ action.input)))
+
+    fails_for : IsOfEither c → (step_check t sources os s d).fails c → (together {A = A} t.blobs sources os s.lines).fails c ⊎ ((IsOfLines c → ⊥) × HasOtherAction)
+    unfolding ◌and_then◌
+    fails_for k (inl (f, fault, is)) = absurd (untold f (subst IsOfEither is k))
+    fails_for k (inr (action, told, inl h)) = absurd (neither (subst IsOfEither h.1 k))
+    fails_for k (inr (action, told, inr (_, cached, inl (f, fault, is)))) = absurd (untold f (subst IsOfEither is k))
+    fails_for k (inr (action, told, inr (_, cached, inr (command, held, inl h)))) = inr ((λ q. subst IsOfLines h.1 q), (action, told, inl h.0))
+    fails_for k (inr (action, told, inr (_, cached, inr (command, held, inr (_, frame, inl (inl h)))))) = inl h
+    fails_for k (inr (action, told, inr (_, cached, inr (command, held, inr (_, frame, inl (inr (made, put, (unlike, x, first, is)))))))) = inr ((λ q. no_lines x (subst IsOfLines is q)), (action, told, inr (made, put, unlike)))
+    fails_for k (inr (action, told, inr (_, cached, inr (command, held, inr (_, frame, inr (_, input, inl (inl h))))))) = absurd (neither (subst IsOfEither h.1 k))
+    fails_for k (inr (action, told, inr (_, cached, inr (command, held, inr (_, frame, inr (_, input, inl (inr h))))))) = absurd (neither (subst IsOfEither h.3 k))
+    fails_for k (inr (action, told, inr (_, cached, inr (command, held, inr (_, frame, inr (_, input, inr (result, kept, inl h))))))) = absurd (neither (subst IsOfEither h.1 k))
+    fails_for k (inr (action, told, inr (_, cached, inr (command, held, inr (_, frame, inr (_, input, inr (result, kept, inr (_, ended, (xs, are, fault))))))))) = absurd (no_output t.blobs command xs c k fault)
+
+    pub lines_of_step : IsOfLines c → (step_check t sources os s d).fails c → (together {A = A} t.blobs sources os s.lines).fails c
+    lines_of_step k h = elim (fails_for (inl k) h) [ inl lines ↦ lines | inr other ↦ absurd (other.0 k) ]
+
+    pub action_of_step : IsOfAction c → (step_check t sources os s d).fails c → HasOtherAction
+    action_of_step k h = elim (fails_for (inr k) h) [ inl lines ↦ absurd (no_action lines.0 (subst IsOfAction lines.2 k)) | inr other ↦ other.1 ]
 
   pub lines_of_root : (t : Telling) (sources : DigestValue) (os : List OutcomeValue) (ls : List LineValue) (claim : DigestValue) (c : Cause A) → IsOfLines c → (root_check t sources os ls claim).fails c
       → (together {A = A} t.blobs sources os ls).fails c
@@ -78,7 +104,7 @@ module _ (A : Type 0) where
   lines_fault B sources os ls c k h = record { why = h.0; told = other; fails = h.1 }
     where
       other : (f : Fault) → h.0 ≢ not_read f
-      other f is = untold f (subst IsOfLines (h.2 ∙ ap cause_of_lines is) k)
+      other f is = untold f (inl (subst IsOfLines (h.2 ∙ ap cause_of_lines is) k))
 
 -- ---- the first steps of a plan
 
@@ -98,20 +124,23 @@ first_recorded B C src before (suc n) (s ∷ ss) (d ∷ ds) os h = (h.0, h.1, fi
 
 -- ---- runs
 
-module _ (A : Type 0) (tells : Telling) (sources : DigestValue) (plan : PlanValue) (recorded : List DigestValue) (claim : DigestValue) (valid : IsPlan plan) (c : Cause A) (of_lines : IsOfLines c) where
-  pub no_run_starts : (name : List ℕ) → IsVerdict tells sources plan recorded claim (No (Step name) c) → NoRunStarts tells.blobs tells.results sources plan recorded name
-  no_run_starts name v =
+module _ (A : Type 0) (tells : Telling) (sources : DigestValue) (plan : PlanValue) (recorded : List DigestValue) (claim : DigestValue) (valid : IsPlan plan) (c : Cause A) where
+  -- the steps before the first that fails
+  abbrev steps_before : (name : List ℕ) (k : IsFirstFailing A tells sources [] plan.steps recorded name c) → FirstAsRecorded tells.blobs tells.results sources plan (take k.index recorded)
+  steps_before name k = record {
+    first = take k.index plan.steps;
+    outcomes = k.outcomes;
+    planned = λ i s at. first_of k.index i plan.steps s at;
+    steps = first_recorded tells.blobs tells.results sources [] k.index plan.steps recorded k.outcomes k.before;
+  }
+
+  pub no_run_starts : IsOfLines c → (name : List ℕ) → IsVerdict tells sources plan recorded claim (No (Step name) c) → NoRunStarts tells.blobs tells.results sources plan recorded name
+  no_run_starts of_lines name v =
       let B = tells.blobs in
       let C = tells.results in
       let k = fails_at_step A tells sources plan recorded claim name c v in
       let ds = take k.index recorded in
       let fault = lines_fault A B sources k.outcomes k.step.lines c of_lines (lines_of_step A tells sources k.outcomes k.step k.digest c of_lines k.fails) in
-      let first : FirstAsRecorded B C sources plan ds = record {
-        first = take k.index plan.steps;
-        outcomes = k.outcomes;
-        planned = λ i s at. first_of k.index i plan.steps s at;
-        steps = first_recorded B C sources [] k.index plan.steps recorded k.outcomes k.before;
-      } in
       record {
         index = k.index;
         step = k.step;
@@ -119,13 +148,33 @@ module _ (A : Type 0) (tells : Telling) (sources : DigestValue) (plan : PlanValu
         named = k.named;
         of_run = λ t r ordered is runs.
             let S : List ℕ → Type 0 = IsConcerned B plan r.meaning t r.chosen r.events in
-            let without = runs_without S runs.apart B C t r.chosen (concerned B C sources plan ds t r) sources plan ds r.meaning r.table ordered is runs.fits runs.table runs.agrees valid first
+            let without = runs_without S runs.apart B C t r.chosen (concerned B C sources plan ds t r) sources plan ds r.meaning r.table ordered is runs.fits runs.table runs.agrees valid (steps_before name k)
             k.index k.step k.step_at fault.why fault.told fault.fails r.now r.events (λ b q. inr (inr (inr q))) runs.happened in
             record { before = without.0; now = without.1; incomplete = without.2 };
       }
 
-  pub no_run_has_root : IsVerdict tells sources plan recorded claim (No Root c) → NoRunHasRoot tells.blobs tells.results sources plan recorded
-  no_run_has_root v =
+  pub no_run_has_action : IsOfAction c → (name : List ℕ) → IsVerdict tells sources plan recorded claim (No (Step name) c) → NoRunHasAction tells.blobs tells.results sources plan recorded name
+  no_run_has_action of_action name v =
+      let B = tells.blobs in
+      let C = tells.results in
+      let k = fails_at_step A tells sources plan recorded claim name c v in
+      let ds = take k.index recorded in
+      let other = action_of_step A tells sources k.outcomes k.step k.digest c of_action k.fails in
+      record {
+        index = k.index;
+        step = k.step;
+        digest = k.digest;
+        step_at = k.step_at;
+        digest_at = k.digest_at;
+        named = k.named;
+        of_run = λ t r ordered is runs.
+            let S : List ℕ → Type 0 = IsConcerned B plan r.meaning t r.chosen r.events in
+            never_run S runs.apart B C t r.chosen (concerned B C sources plan ds t r) sources plan ds r.meaning r.table ordered is runs.fits runs.table runs.agrees valid (steps_before name k)
+            k.index k.step k.step_at k.digest other.0 other.1 other.2 r.now r.events (λ b q. inr (inr (inr q))) runs.happened;
+      }
+
+  pub no_run_has_root : IsOfLines c → IsVerdict tells sources plan recorded claim (No Root c) → NoRunHasRoot tells.blobs tells.results sources plan recorded
+  no_run_has_root of_lines v =
       let B = tells.blobs in
       let C = tells.results in
       let k = root_fails A tells sources plan recorded claim c v in

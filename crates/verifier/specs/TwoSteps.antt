@@ -309,6 +309,28 @@ rootless_plan = record plan {
   root_lines = record { target = codes "result" ∷ []; origin = output 1 (codes "out" ∷ []) } ∷ [];
 }
 
+-- ---- the same steps where `use` has the frame of `gen`, and no input: so both run one action
+
+abbrev pub other_plan : PlanValue
+other_plan = record plan {
+  steps =
+      record { name = codes "gen"; frame = gen_frame_digest; lines = [] } ∷
+      record { name = codes "use"; frame = gen_frame_digest; lines = [] } ∷
+      [];
+}
+
+abbrev pub other_run : PlanRun
+other_run = record {
+  meaning = record {
+    frames = framing gen_command_digest ∷ framing gen_command_digest ∷ [];
+    commands = making (codes "out") ∷ making (codes "out") ∷ [];
+  };
+  table = table;
+  chosen = gen ∷ [];
+  events = start 0 0 ∷ start 1 1 ∷ [];
+  now = record { done = []; jobs = (1, (1, gen.0)) ∷ (0, (0, gen.0)) ∷ [] };
+}
+
 -- ---- a source that has told nothing
 
 abbrev pub silent : Telling

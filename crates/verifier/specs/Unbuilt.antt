@@ -1,5 +1,6 @@
--- What a no says of builds where lines put nothing together: that nobody can build the plan.
-use Rattle.std.specs.Prelude.{◌≡◌, ℕ, List, Some, None, slice_get, take, Contains}
+-- What a no says of builds: where lines put nothing together, that nobody can build the plan; and
+-- where a recorded action isn't the plan's, that nobody who builds the plan runs it.
+use Rattle.std.specs.Prelude.{◌≡◌, ◌≢◌, ℕ, List, Some, None, slice_get, take, Contains}
 use Rattle.blob_digest.specs.Digest.{DigestValue}
 use Rattle.plan.specs.Values.{StepValue, PlanValue}
 use Rattle.tree.specs.Tree.{Tree, Leaf, IsOrdered}
@@ -7,7 +8,10 @@ use Rattle.tree.specs.Form.{form, root}
 use Rattle.blob_source.specs.Source.{Blobs}
 use Rattle.verifier.specs.declared.verdict.Cause.{Cause}
 use Rattle.verifier.specs.declared.verdict.Cause.TheVariants.{OriginMissing, InputConflict}
-use Rattle.verifier.specs.Build.{start, happens, HasFinishedAll, merge_of}
+use Rattle.verifier.specs.declared.verdict.Cause.TheVariants.{FrameDiffers, InputUnexplained}
+use Rattle.verifier.specs.declared.verdict.Cause.TheVariants.{InputAbsent, InputDiffers}
+use Rattle.verifier.specs.Build.{ActionMeaning, action_digest, start, job_of, happens}
+use Rattle.verifier.specs.Build.{HasFinishedAll, merge_of}
 use Rattle.verifier.specs.Headline.{PlanRun, RunsFrom}
 
 -- The cause is that lines put nothing together: nothing stands at the origin of one, or what they
@@ -42,3 +46,26 @@ pub record NoRunHasRoot (blobs results : Blobs) (sources : DigestValue) (plan : 
   pub of_run : (t : Tree Leaf) (run : PlanRun) → IsOrdered t → root (form t) ≡ sources
       → RunsFrom blobs results plan recorded t run
       → merge_of t run.now plan.root_lines ≡ None
+
+-- The cause is that the recorded action isn't the plan's: it has another frame, or another input.
+abbrev pub IsOfAction : {A : Type 0} → Cause A → Type 0
+IsOfAction FrameDiffers = Unit {0}
+IsOfAction (InputUnexplained path) = Unit {0}
+IsOfAction (InputAbsent path) = Unit {0}
+IsOfAction (InputDiffers path) = Unit {0}
+IsOfAction c = ⊥
+
+-- No run ever runs what was recorded of the step with this name: the jobs of that step are of
+-- actions with other digests. The premises are the same.
+pub record NoRunHasAction (blobs results : Blobs) (sources : DigestValue) (plan : PlanValue)
+    (recorded : List DigestValue) (name : List ℕ) : Type 0 where
+  pub index : ℕ
+  pub step : StepValue
+  pub digest : DigestValue
+  pub step_at : slice_get plan.steps index ≡ Some step
+  pub digest_at : slice_get recorded index ≡ Some digest
+  pub named : name ≡ step.name
+  pub of_run : (t : Tree Leaf) (run : PlanRun) → IsOrdered t → root (form t) ≡ sources
+      → RunsFrom blobs results plan (take index recorded) t run
+      → (w : ℕ) (job : ℕ × ActionMeaning) → job_of w run.now ≡ Some job → job.0 ≡ index
+      → action_digest job.1 ≢ digest

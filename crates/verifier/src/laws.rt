@@ -14,6 +14,7 @@ ghost use Rattle.tree.specs.Merging.{MergeLines, merged, nodes_in};
 ghost use Rattle.tree.specs.MergeLooks.{MergeLooksAt};
 ghost use Rattle.verifier.specs.declared.verdict.Cause.TheVariants.{BlobMissing, RootDiffers};
 ghost use Rattle.verifier.specs.declared.verdict.Cause.TheVariants.{OriginMissing, InputConflict};
+ghost use Rattle.verifier.specs.declared.verdict.Cause.TheVariants.{FrameDiffers};
 ghost use Rattle.verifier.specs.declared.verdict.Place.TheVariants.{Root, Step};
 ghost use Rattle.verifier.specs.declared.verdict.Verdict.{Verdict};
 ghost use Rattle.verifier.specs.declared.verdict.Verdict.TheVariants.{Yes, No};
@@ -35,6 +36,7 @@ ghost use Rattle.verifier.specs.BuildStages.{EndsIn, RunInTurn};
 ghost use Rattle.verifier.specs.Recorded.{RecordsAt};
 ghost use Rattle.verifier.specs.TwoSteps as two;
 ghost use Rattle.verifier.specs.Unbuilt.{IsOfLines, NoRunStarts, NoRunHasRoot};
+ghost use Rattle.verifier.specs.Unbuilt.{IsOfAction, NoRunHasAction};
 ghost use Rattle.verifier.specs.Verdict.{IsVerdict, IsYes};
 
 use std::alloc::Allocator;
@@ -162,6 +164,16 @@ pub fn lines_that_fail_stop_every_run<A: Allocator>()
         → NoRunHasRoot tells.blobs tells.results sources plan recorded }
 {}
 
+/// Where the verdict is no since the recorded action of a step has another frame or another input
+/// than the plan's, no run ever runs that action as this step. A law: it does nothing.
+pub fn other_actions_are_never_run<A: Allocator>()
+    ensures { (tells : Telling) (sources : DigestValue) (plan : PlanValue)
+        (recorded : List DigestValue) (claim : DigestValue) (name : List ℕ) (cause : Cause A)
+        → IsPlan plan → IsVerdict tells sources plan recorded claim (No (Step name) cause)
+        → IsOfAction cause
+        → NoRunHasAction tells.blobs tells.results sources plan recorded name }
+{}
+
 /// Every valid plan with as many recorded digests has a verdict, whatever the source tells: it
 /// can't be that none is one. A law: it does nothing.
 pub fn plans_have_verdicts<A: Allocator>()
@@ -235,23 +247,28 @@ pub fn stages_meet_the_premises<A: Allocator>()
 {}
 
 /// The premises of what a no says can be met: by the build of two steps, where the source has told
-/// nothing, and where another root is claimed; and where a step's lines are in conflict, after a
-/// run of the step before it, and where the root reads what no step makes, after a complete run. A
-/// law: it does nothing.
+/// nothing, and where another root is claimed. A law: it does nothing.
 pub fn a_no_meets_the_premises<A: Allocator>()
     ensures step { IsVerdict {A = A} two.silent two.sources two.plan two.recorded two.claim
         (No (Step (codes "gen")) (BlobMissing two.gen_action_digest)) }
     ensures root { IsVerdict {A = A} two.telling two.sources two.plan two.recorded two.sources
         (No Root (RootDiffers two.claim)) }
+    // Where the lines of a step are in conflict, after a run of the step before it.
     ensures conflict { IsPlan two.clashing_plan × IsVerdict {A = A} two.telling two.sources
         two.clashing_plan two.recorded two.claim
         (No (Step (codes "use")) (InputConflict (codes "data" ∷ []))) }
     ensures before { RunsFrom two.blobs two.results two.clashing_plan
         (take 1 two.recorded) two.tree two.clashing_run }
+    // Where the root reads what no step makes, after a complete run.
     ensures missing { IsPlan two.rootless_plan × IsVerdict {A = A} two.telling two.sources
         two.rootless_plan two.recorded two.claim (No Root (OriginMissing (codes "out" ∷ []))) }
     ensures complete { RunsFrom two.blobs two.results two.rootless_plan two.recorded two.tree
         two.run × HasFinishedAll two.rootless_plan two.end }
+    // Where a step has another frame, while both steps run.
+    ensures other { IsPlan two.other_plan × IsVerdict {A = A} two.telling two.sources
+        two.other_plan two.recorded two.claim (No (Step (codes "use")) FrameDiffers) }
+    ensures running { RunsFrom two.blobs two.results two.other_plan (take 1 two.recorded)
+        two.tree two.other_run }
 {}
 
 /// What the words of a record and of outcomes come to. A law: it does nothing.

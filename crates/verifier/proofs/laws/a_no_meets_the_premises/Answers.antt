@@ -1,4 +1,4 @@
-use Rattle.verifier.proofs.TwoNoes.{clashing_valid, clashes, clashing_runs, rootless_valid, no_root, rootless_runs}
+use Rattle.verifier.proofs.TwoNoes.{clashing_valid, clashes, clashing_runs, rootless_valid, no_root, rootless_runs, other_valid, other_frame, other_runs}
 use Rattle.verifier.proofs.TwoStages.{nothing_told, other_claimed}
 use Rattle.verifier.proofs.TwoStepsRun.{is_complete}
 use Rattle.verifier.proofs.laws.a_no_meets_the_premises.Goals as goal
@@ -20,3 +20,9 @@ returns-clause-missing g c = (rootless_valid, no_root g.row.A.Denot)
 
 pub returns-clause-complete : goal.returns-clause-complete
 returns-clause-complete g c = (rootless_runs, is_complete)
+
+pub returns-clause-other : goal.returns-clause-other
+returns-clause-other g c = (other_valid, other_frame g.row.A.Denot)
+
+pub returns-clause-running : goal.returns-clause-running
+returns-clause-running g c = other_runs
