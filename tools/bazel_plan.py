@@ -79,16 +79,16 @@ def parse(words):
     )
     stores.add_options(parser)
     parser.add_argument(
-        "--outputs", metavar="PATTERN", nargs="+", default=[],
+        "--outputs", metavar="PATTERN", nargs="+", action="extend", default=[],
         help="what the artifact has: each output whose path has a PATTERN, in which * (also for /), ? and [..] are as in a "
         "shell. Without it: with --artifact the files of that, else every output (below PATH)",
     )
     parser.add_argument(
-        "--below", metavar="PATH", default="",
+        "--below", metavar="PATH", default="", action=stores.Once,
         help="the folder of the execution root, as bazel-out/k8-fastbuild/bin, that is the top of the artifact",
     )
     parser.add_argument(
-        "--artifact", metavar="SHIPPED",
+        "--artifact", metavar="SHIPPED", action=stores.Once,
         help="claim the tree of this folder on disk, in place of what the log has. Without --outputs the artifact has what that "
         "folder has, so that a file which it lacks isn't missed; with --below PATH the last line counts these",
     )
@@ -101,7 +101,7 @@ def parse(words):
         help="keep the spawns of which nothing of the artifact that --outputs or --artifact says is made",
     )
     parser.add_argument(
-        "--stages", metavar="STEPS", nargs="?", type=steps_a_stage, const=MOST_STEPS,
+        "--stages", metavar="STEPS", nargs="?", type=steps_a_stage, const=MOST_STEPS, action=stores.Once,
         help="one plan a stage, each of so many steps at most (by default, and at most, as many as a plan holds); a build that "
         "one plan doesn't hold is written so without being asked",
     )
@@ -139,10 +139,10 @@ def read_steps(options, below, artifact):
 
 def make(options, store):
     """Makes the plans of the log and writes them, where nothing of it is refused."""
-    below = options.below.rstrip("/")
-    if below and not is_path(below):
-        raise Refused(f"{below!r} is no path below the execution root")
-    artifact = read_artifact(options.artifact) if options.artifact else None
+    below = options.below.removesuffix("/")
+    if options.below and not is_path(below):
+        raise Refused(f"{options.below!r} is no path below the execution root")
+    artifact = None if options.artifact is None else read_artifact(options.artifact)
     try:
         steps = read_steps(options, below, artifact)
         builds, are_stages = builds_of(steps, options.stages)

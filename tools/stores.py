@@ -1,5 +1,6 @@
 """Where blobs and results are put, by their hashes: a store folder, or a cache over HTTP."""
 
+import argparse
 import http.client
 import os
 import re
@@ -85,16 +86,31 @@ def is_prefix(text):
     return len(text) <= 256 and re.fullmatch("(/[A-Za-z0-9._~-]+)*", text) is not None
 
 
+class Once(argparse.Action):
+    """An option that is refused where it is given twice: one of its values would be forgotten."""
+
+    is_given = False
+
+    def __call__(self, parser, namespace, value, option_string=None):
+        if self.is_given:
+            parser.error(f"{option_string} is given twice")
+        self.is_given = True
+        setattr(namespace, self.dest, value)
+
+
 def add_options(parser):
     """The options that name a store: a folder, by default FOLDER/store, or a server."""
     places = parser.add_mutually_exclusive_group()
     places.add_argument(
-        "--store", metavar="STORE", help="the store folder, in place of FOLDER/store; it may hold other builds"
+        "--store", metavar="STORE", action=Once, help="the store folder, in place of FOLDER/store; it may hold other builds"
     )
     places.add_argument(
-        "--server", metavar="HOST:PORT", help="a cache over HTTP in place of a folder; PUT and GET of /cas/HASH and /ac/HASH"
+        "--server", metavar="HOST:PORT", action=Once,
+        help="a cache over HTTP in place of a folder; PUT and GET of /cas/HASH and /ac/HASH",
     )
-    parser.add_argument("--prefix", metavar="PREFIX", default="", help="what stands before these paths on the server")
+    parser.add_argument(
+        "--prefix", metavar="PREFIX", default="", action=Once, help="what stands before these paths on the server"
+    )
 
 
 def store_of(options):

@@ -5,16 +5,20 @@ Each rule and each refusal of docs/VERIFY_BAZEL.md has a small log here. The byt
 protobuf (3.21.12, over the fields of remote_execution.proto). bazel_case.py says what judges what is made.
 """
 
+import contextlib
 import io
 import os
 import random
 import re
 import shutil
+import subprocess
+import sys
 import unittest
 
-from bazel_case import CHAIN, HERE, TREE_STEP, Case, contents, files, log, spawn
+from bazel_case import CHAIN, HERE, TOP, TREE_STEP, Case, contents, files, log, spawn
 
 import bazel_log
+import bazel_plan
 import messages
 import plans
 
@@ -217,6 +221,7 @@ class Artifacts(Case):
         self.assertEqual(self.root(), ["bin/a", "bin/t", "lib/b"])
         self.assertEqual(self.root("--outputs", "bin/*"), ["bin/a", "bin/t"])
         self.assertEqual(self.root("--outputs", "bin/t/[x]", "lib/?"), ["bin/t/x", "lib/b"])
+        self.assertEqual(self.root("--outputs", "bin/t/[x]", "--outputs", "lib/?"), ["bin/t/x", "lib/b"])
         self.assertEqual(self.root("--below", "bin"), ["a", "t"])
         self.assertEqual(self.root("--outputs", "*/t", "--below", "bin/"), ["t"])
         self.judge("yes ")
@@ -250,6 +255,60 @@ class Artifacts(Case):
         self.root("--artifact", self.at("shipped"))
         self.judge("no root cause root-differs ")
 
+    def test_a_file_that_is_run_as_its_owner_or_its_group_is_refused(self):
+        self.ship({"bin/a": "bin/a"})
+        for mode in (0o4755, 0o2755):
+            os.chmod(self.at("shipped", "bin/a"), mode)
+            self.refuse('"bin/a" of the artifact is run as its owner or its group', self.BUILD, "--artifact", self.at("shipped"))
+
+    def test_a_link_to_the_file_itself_is_another(self):
+        self.ship({"bin/a": "bin/a", "a": "bin/a"})
+        os.replace(self.at("shipped", "a"), self.at("a"))
+        os.remove(self.at("shipped", "bin/a"))
+        os.symlink(self.at("a"), self.at("shipped", "bin/a"))
+        self.root("--outputs", "bin/a", "--artifact", self.at("shipped"))
+        self.judge("no root cause root-differs ")
+
+    def test_an_output_with_a_pattern_that_was_not_made_is_refused(self):
+        self.ship({"b": "bin/b"})
+        words = ["--below", "bin", "--artifact", self.at("shipped"), "--outputs"]
+        reason = 'it lists "bin/a", which has a pattern and, by the log, wasn\'t made'
+        for other in ({}, {"exitCode": 1, "status": "NON_ZERO_EXIT"}):
+            text = log(spawn({}, ["bin/a"], {}, **other), spawn({}, ["bin/b"]))
+            self.refuse(f'line 1: spawn "Making bin/a": {reason}', text, *words, "bin/*")
+            self.turn(text, *words, "bin/b")
+            self.judge("yes ")
+            shutil.rmtree(self.at("asked"))
+        self.refuse(reason, log(spawn({}, ["bin/a", "bin/b"], {"bin/b": "bin/b"})), *words, "bin/*")
+
+    def test_a_test_may_leave_outputs_with_a_pattern_unmade(self):
+        self.turn(log(spawn({}, ["logs/xml", "logs/more"], {"logs/xml": "x"}, mnemonic="TestRunner")), "--outputs", "logs/*")
+        self.judge("yes ")
+
+    def test_words_that_would_be_forgotten_are_refused(self):
+        for option in ("--artifact", "--below", "--stages", "--store", "--server", "--prefix"):
+            with self.assertRaises(SystemExit) as ended, contextlib.redirect_stderr(io.StringIO()) as err:
+                bazel_plan.parse(["log", "asked", option, "1", option, "1"])
+            self.assertEqual(ended.exception.code, 2)
+            self.assertTrue(err.getvalue().endswith(f"error: {option} is given twice\n"), err.getvalue())
+
+    def test_a_folder_without_a_name_is_not_there(self):
+        status, out, err = self.call(self.BUILD, "--outputs", "bin/*", "--artifact", "")
+        self.assertEqual((status, out, err), (3, "", "error: [Errno 2] No such file or directory: ''\n"))
+        self.assertFalse(os.path.exists(self.at("asked")))
+
+    def test_names_are_utf8_in_every_locale(self):
+        self.ship({"é": "bb\n", "è/é": "bb\n"})
+        os.symlink("é", self.at("shipped", "l"))
+        with open(self.at("log"), "w", encoding="utf-8") as out:
+            out.write(log(spawn({}, ["é", "è/é", "l"])))
+        env = {**os.environ, "LC_ALL": "C", "PYTHONCOERCECLOCALE": "0", "PYTHONUTF8": "0"}
+        words = [os.path.join(TOP, "tools", "bazel_plan.py"), self.at("log"), self.at("asked"), "--artifact", self.at("shipped")]
+        done = subprocess.run([sys.executable, *words], capture_output=True, text=True, env=env)
+        self.assertEqual((done.returncode, done.stderr), (0, ""))
+        # (the Directory's fields by printf, and sha256sum)
+        self.assertEqual(self.lines("claim"), ["f1193d19fd8e551e6c0e6234bbedf69a92d2a957309f60dfa32fc35a4866f6f2/163"])
+
     def test_what_no_spawn_made_is_refused(self):
         self.ship({"bin/new": "1"})
         self.refuse('"bin/new" in the build, and no spawn of the log made it', self.BUILD, "--artifact", self.at("shipped"))
@@ -282,7 +341,8 @@ class Artifacts(Case):
         self.refuse('no output of the log has the pattern "x*"', self.BUILD, "--outputs", "x*", "bin/*")
         self.refuse('is in the artifact; below "none" it has none, but below "bin" and 1 others', self.BUILD, "--below", "none")
         self.refuse('the output "lib/b" doesn\'t lie below "bin"', self.BUILD, "--outputs", "*/b", "--below", "bin")
-        self.refuse("'../x' is no path below", self.BUILD, "--below", "../x")
+        for path in ("../x", "/", "bin//", "/bin"):
+            self.refuse(f"{path!r} is no path below", self.BUILD, "--below", path)
 
 
 # A directory of three files that one step makes.

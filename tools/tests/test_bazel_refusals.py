@@ -86,6 +86,10 @@ class Refusals(Case):
             ("its exit code 2147483648 has more than 32 bits", dict(exitCode=2**31)),
             ('its status is "TIMEOUT", and its exit code 0', dict(status="TIMEOUT")),
             ('it has a field "extra"', dict(extra=1)),
+            ("an object with \"nice\", of which this program knows nothing", dict(platform={"nice": 1})),
+            ("an object with \"nice\"", dict(platform={"properties": [{"name": "p", "value": "1", "nice": 1}]})),
+            ("an object with \"nice\"", dict(environmentVariables=[{"name": "A", "value": "1", "nice": 1}])),
+            ("an object with \"nice\"", dict(inputs=[{"path": "a", "digest": {"nice": 1}}])),
             ("not as Bazel writes a spawn", dict(commandArgs=7)),
             ("not as Bazel writes a spawn", dict(timeoutMillis="soon")),
             ("not as Bazel writes a spawn", dict(exitCode=0.5)),
@@ -98,6 +102,8 @@ class Refusals(Case):
             ('its output "a" has no digest', dict(actualOutputs=[{"path": "a", "digest": {"hash": "A" * 64}}])),
             ('its input "a" has a digest of BLAKE3', dict(inputs=[{"path": "a", "digest": {"hashFunctionName": "BLAKE3"}}])),
             ('its input "a" has a field "mode"', dict(inputs=[{"path": "a", "mode": 1}])),
+            ('its input "a" has a digest, and a target as a link', dict(inputs=[dict(files({"a": ""})[0], symlinkTargetPath="b")])),
+            ('its input "bazel-out/cfg/a" stands where Bazel maps paths to', dict(inputs=files({"bazel-out/cfg/a": ""}))),
             ('its output "a" is a link whose target', dict(actualOutputs=[{"path": "a", "symlinkTargetPath": "x" * 4097}])),
             ('it made "a/b", and line', dict(actualOutputs=files({"a": "1", "a/b": "2"}))),
         ]
@@ -108,6 +114,8 @@ class Refusals(Case):
     def test_texts_that_are_no_log(self):
         self.refuse("line 2: no JSON object begins here that ends", "\n{")
         self.refuse("line 1: this is no spawn, but another JSON value", "[]")
+        twice = log(spawn({}, ["a"])).replace('"exitCode": 0', '"exitCode": 1, "exitCode": 0')
+        self.refuse('line 2: an object has "exitCode" twice', "\n" + twice)
         self.refuse("no output of the log is in the artifact; Bazel logs what it ran, so `bazel clean` comes before", "")
 
     def test_logs_of_other_kinds(self):
