@@ -297,7 +297,7 @@ def main(words):
         print(f"error: {fault}", file=sys.stderr)
         return 3
     print(f"sources {root.text()}")
-    print(f"plan {os.path.join(options.folder, 'plan')}")
+    print("plan", os.path.join(options.folder, "plan").encode(errors="backslashreplace").decode())
     print(f"steps {sum(it.startswith('step ') for it in plan)}")
     return 0
 
