@@ -29,6 +29,7 @@ import os
 import sys
 from dataclasses import dataclass
 
+import command_line
 import stores
 from bazel_stages import builds_of, length
 from bazel_steps import Steps, read_artifact, steps_of
@@ -84,11 +85,11 @@ def parse(words):
         "shell. Without it: with --artifact the files of that, else every output (below PATH)",
     )
     parser.add_argument(
-        "--below", metavar="PATH", default="", action=stores.Once,
+        "--below", metavar="PATH", default="", action=command_line.Once,
         help="the folder of the execution root, as bazel-out/k8-fastbuild/bin, that is the top of the artifact",
     )
     parser.add_argument(
-        "--artifact", metavar="SHIPPED", action=stores.Once,
+        "--artifact", metavar="SHIPPED", action=command_line.Once,
         help="claim the tree of this folder on disk, in place of what the log has. Without --outputs the artifact has what that "
         "folder has, so that a file which it lacks isn't missed; with --below PATH the last line counts these",
     )
@@ -101,7 +102,7 @@ def parse(words):
         help="keep the spawns of which nothing of the artifact that --outputs or --artifact says is made",
     )
     parser.add_argument(
-        "--stages", metavar="STEPS", nargs="?", type=steps_a_stage, const=MOST_STEPS, action=stores.Once,
+        "--stages", metavar="STEPS", nargs="?", type=steps_a_stage, const=MOST_STEPS, action=command_line.Once,
         help="one plan a stage, each of so many steps at most (by default, and at most, as many as a plan holds); a build that "
         "one plan doesn't hold is written so without being asked",
     )
@@ -155,26 +156,22 @@ def make(options, store):
     return made
 
 
+def lines_of(options):
+    """Does all, and what is printed then."""
+    with contextlib.closing(stores.store_of(options)) as store:
+        made = make(options, store)
+    stages = f" stages {len(made.builds)}" if made.are_stages else ""
+    left_out = f" left-out {made.steps.left_out}" if made.steps.left_out else ""
+    not_shipped = f" not-shipped {made.steps.not_shipped}" if made.steps.not_shipped else ""
+    counts = f"steps {len(made.steps.spawns)} taken {len(made.steps.taken)}{stages}{left_out}{not_shipped}"
+    return f"sources {made.sources.text()}", f"claim {made.claim.text()}", counts
+
+
 def main(words):
     options = parse(words)
     # (a log makes millions of objects that last to the end, and none of them is in a circle)
     gc.disable()
-    try:
-        with contextlib.closing(stores.store_of(options)) as store:
-            made = make(options, store)
-    except Refused as fault:
-        print("error:", str(fault).replace("\n", "\\n"), file=sys.stderr)
-        return 2
-    except (stores.NotAnswered, OSError, UnicodeDecodeError) as fault:
-        print(f"error: {fault}", file=sys.stderr)
-        return 3
-    print(f"sources {made.sources.text()}")
-    print(f"claim {made.claim.text()}")
-    stages = f" stages {len(made.builds)}" if made.are_stages else ""
-    left_out = f" left-out {made.steps.left_out}" if made.steps.left_out else ""
-    not_shipped = f" not-shipped {made.steps.not_shipped}" if made.steps.not_shipped else ""
-    print(f"steps {len(made.steps.spawns)} taken {len(made.steps.taken)}{stages}{left_out}{not_shipped}")
-    return 0
+    return command_line.status_of(lambda: lines_of(options))
 
 
 if __name__ == "__main__":

@@ -325,7 +325,7 @@ def chosen_by_patterns(outputs, everything, wanted):
     covered = {path for path, (_, entry) in outputs.items() if isinstance(entry, dict) and has_pattern(path, wanted)}
     paths = [path for path in everything if has_pattern(path, wanted) and not any(it in covered for it in folders_of(path))]
     unused = next((it for it in wanted if not fnmatch.filter(everything, it)), None)
-    if unused:
+    if unused is not None:
         raise Refused(f'no output of the log has the pattern "{unused}"')
     return paths
 

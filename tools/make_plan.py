@@ -33,6 +33,7 @@ import re
 import sys
 from dataclasses import dataclass
 
+import command_line
 import stores
 from messages import EMPTY, Digest, File, Link, action_message, command_message, directory_message
 from plans import LONGEST_STEP, MOST_BYTES, MOST_LINES, MOST_STEPS, Refused, Store
@@ -283,23 +284,19 @@ def make(options):
     return plan, root, store
 
 
+def lines_of(options):
+    """Does all, and what is printed then."""
+    with contextlib.closing(stores.store_of(options)) as place:
+        plan, root, store = make(options)
+        store.put_into(place)
+        stores.write_texts(options.folder, {"plan": plan, "sources": [root.text()]})
+    at = os.path.join(options.folder, "plan").encode(errors="backslashreplace").decode()
+    return f"sources {root.text()}", f"plan {at}", f"steps {sum(it.startswith('step ') for it in plan)}"
+
+
 def main(words):
     options = parse(words)
-    try:
-        with contextlib.closing(stores.store_of(options)) as place:
-            plan, root, store = make(options)
-            store.put_into(place)
-            stores.write_texts(options.folder, {"plan": plan, "sources": [root.text()]})
-    except Refused as fault:
-        print("error:", str(fault).replace("\n", "\\n"), file=sys.stderr)
-        return 2
-    except (stores.NotAnswered, OSError, UnicodeDecodeError) as fault:
-        print(f"error: {fault}", file=sys.stderr)
-        return 3
-    print(f"sources {root.text()}")
-    print("plan", os.path.join(options.folder, "plan").encode(errors="backslashreplace").decode())
-    print(f"steps {sum(it.startswith('step ') for it in plan)}")
-    return 0
+    return command_line.status_of(lambda: lines_of(options))
 
 
 if __name__ == "__main__":

@@ -1,15 +1,11 @@
 """Where blobs and results are put, by their hashes: a store folder, or a cache over HTTP."""
 
-import argparse
 import http.client
 import os
 import re
 
+from command_line import NotAnswered, Once
 from plans import Refused
-
-
-class NotAnswered(Exception):
-    """What a server did in place of an answer."""
 
 
 class FolderStore:
@@ -84,18 +80,6 @@ def is_address(text):
 def is_prefix(text):
     """Whether a text may stand before /cas and /ac: nothing, or segments of plain characters, 256 bytes at most."""
     return len(text) <= 256 and re.fullmatch("(/[A-Za-z0-9._~-]+)*", text) is not None
-
-
-class Once(argparse.Action):
-    """An option that is refused where it is given twice: one of its values would be forgotten."""
-
-    is_given = False
-
-    def __call__(self, parser, namespace, value, option_string=None):
-        if self.is_given:
-            parser.error(f"{option_string} is given twice")
-        self.is_given = True
-        setattr(namespace, self.dest, value)
 
 
 def add_options(parser):

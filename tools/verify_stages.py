@@ -20,8 +20,8 @@ import subprocess
 import sys
 from dataclasses import dataclass
 
+import command_line
 import harness
-from plans import is_path
 
 ASKED = ("sources", "claim")
 
@@ -63,7 +63,7 @@ def read_stages(folder):
     names = read_lines(os.path.join(folder, "stages"))
     if not names:
         raise Fault(2, f'"{folder}": there are no stages')
-    wrong = next((it for it in names if "/" in it or not is_path(it)), None)
+    wrong = next((it for it in names if not re.fullmatch("[0-9]+", it)), None)
     if wrong is not None:
         raise Fault(2, f'"{folder}": {wrong!r} is no folder of a stage')
     places = [os.path.join(folder, it) for it in names]
@@ -161,16 +161,25 @@ def main(words):
             raise Fault(2, "--prefix is for --server")
         stages = read_stages(options.folder)
         steps = judge(stages, program_here(), place, options.jobs)
+        command_line.say(f"yes {stages[-1].claim} stages {len(stages)} steps {steps}")
+        return 0
     except Fault as fault:
-        if fault.status != 1:
-            print(f"error: {fault}", file=sys.stderr)
-            return fault.status
-        print(fault)
-        if fault.note:
-            print(fault.note, file=sys.stderr)
-        return 1
-    print(f"yes {stages[-1].claim} stages {len(stages)} steps {steps}")
-    return 0
+        return tell(fault)
+    except OSError as fault:
+        return tell(Fault(3, fault))
+
+
+def tell(fault):
+    """Prints a no, or the line of an error; the status."""
+    try:
+        if fault.status == 1:
+            command_line.say(fault)
+    except OSError as other:
+        fault = Fault(3, other)
+    told = fault.note if fault.status == 1 else f"error: {fault}"
+    if told:
+        print(told, file=sys.stderr)
+    return fault.status
 
 
 if __name__ == "__main__":

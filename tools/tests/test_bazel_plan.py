@@ -338,7 +338,8 @@ class Artifacts(Case):
         self.refuse('"pipe" of the artifact is no file, folder or link', self.BUILD, "--artifact", self.at("shipped"))
 
     def test_patterns_without_outputs_are_refused(self):
-        self.refuse('no output of the log has the pattern "x*"', self.BUILD, "--outputs", "x*", "bin/*")
+        for pattern in ("x*", "", "bin/"):
+            self.refuse(f'no output of the log has the pattern "{pattern}"', self.BUILD, "--outputs", "bin/*", pattern)
         self.refuse('is in the artifact; below "none" it has none, but below "bin" and 1 others', self.BUILD, "--below", "none")
         self.refuse('the output "lib/b" doesn\'t lie below "bin"', self.BUILD, "--outputs", "*/b", "--below", "bin")
         for path in ("../x", "/", "bin//", "/bin"):

@@ -5,9 +5,11 @@ import contextlib
 import io
 import os
 import shutil
+import subprocess
+import sys
 import unittest
 
-from bazel_case import Case, contents, files, log, spawn
+from bazel_case import TOP, Case, contents, files, log, spawn
 
 import bazel_plan
 import plans
@@ -83,6 +85,7 @@ class Refusals(Case):
             ("it lists the output 'a/../b'", dict(listedOutputs=["a/../b"])),
             ('"a/b", which lies under "a"', dict(listedOutputs=["a", "a/b"])),
             ('its input "a\\nb" has no digest', dict(inputs=[{"path": "a\nb"}])),
+            ('its input "a\\r\\x1b[2Ké\\u2028" has no digest', dict(inputs=[{"path": "a\r\x1b[2Ké\u2028"}])),
             ("its exit code 2147483648 has more than 32 bits", dict(exitCode=2**31)),
             ('its status is "TIMEOUT", and its exit code 0', dict(status="TIMEOUT")),
             ('it has a field "extra"', dict(extra=1)),
@@ -173,6 +176,13 @@ class Refusals(Case):
         whole = spawn({}, ["a"], {f"a/{it}": "" for it in range(plans.MOST_LINES + 1)})
         self.refuse("put together from 65537 outputs", log(whole), "--outputs", "a/*")
         self.refuse("bytes, and buildcache reads 16777216 at most", log(spawn({}, ["a"], commandArgs=["x" * plans.MOST_BYTES])))
+
+    def test_an_output_that_cannot_be_written(self):
+        self.call(log(spawn({}, ["a"])))
+        tool = os.path.join(TOP, "tools", "bazel_plan.py")
+        with open("/dev/full", "wb") as full:
+            done = subprocess.run([sys.executable, tool, self.at("log"), self.at("asked")], stdout=full, stderr=subprocess.PIPE, text=True)
+        self.assertEqual((done.returncode, done.stderr), (3, "error: [Errno 28] No space left on device\n"))
 
     def test_files_that_cannot_be_read(self):
         for words in (["none", "asked"], [__file__, "asked", "--artifact", "none"]):

@@ -198,12 +198,12 @@ class InStages(StagesCase):
             "1 2 3": "the claim of stage 3, .*, isn't the build's, ", "2 3 4": "stage 2: its sources .* aren't the build's",
             "1 2 4": "stage 4: its sources .* aren't the claim of stage 2", "1 2 2 3 4": "stage 2: its sources .* aren't the claim of stage 2",
             "1 3 2 4": "stage 3: its sources ", "": "there are no stages", "1 2 3 4 ../asked/4": "'../asked/4' is no folder of a stage",
-            ". 1 2 3 4": "'.' is no folder", "1  2 3 4": "'' is no folder", "1 2\0 3 4": "'2.x00' is no folder", "1 2 3 (": "No such file",
+            ". 1 2 3 4": "'.' is no folder", "1  2 3 4": "'' is no folder", "1 2\0 3 4": "'2.x00' is no folder", "1 2 3 (": "'.' is no folder", "1 2 3 5": "No such file",
         }
         for names, reason in rows.items():
             with self.subTest(names):
                 stores.write_texts(self.at("asked"), {"stages": names.split(" ") if names else []})
-                self.judge_stages(f"^error: [^\n]*{reason}[^\n]*\n$", 3 if names == "1 2 3 (" else 2)
+                self.judge_stages(f"^error: [^\n]*{reason}[^\n]*\n$", 3 if names == "1 2 3 5" else 2)
         self.stages("1")
         self.judge_stages("^yes ", 0)
 
@@ -306,6 +306,15 @@ class OtherPrograms(Case):
         told = [self.answer('echo "error: $*" >&2; exit 2', *words)[1] for words in (["--server", ""], ["--store", "s"], [])]
         self.assertEqual([" ".join(it.split()[3:6]) for it in told],
                          ["verify --server --sources", "verify --store s", f"verify --store {self.at('asked', 'store')}"])
+
+    def test_an_output_that_cannot_be_written(self):
+        for script in (f"echo yes {self.DIGEST} steps 1", "echo no root cause blob-missing x; exit 1"):
+            self.answer(script)
+            tool = os.path.join(TOP, "tools", "verify_stages.py")
+            env = {**os.environ, "BUILDCACHE": self.at("program")}
+            with open("/dev/full", "wb") as full:
+                done = subprocess.run([sys.executable, tool, self.at("asked")], stdout=full, stderr=subprocess.PIPE, text=True, env=env)
+            self.assertEqual((done.returncode, done.stderr), (3, "error: [Errno 28] No space left on device\n"))
 
     def test_a_program_that_is_not_there(self):
         out, err, status = self.answer(None)
