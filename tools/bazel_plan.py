@@ -126,6 +126,14 @@ class Made:
     claim: Digest
 
 
+def check_places(options):
+    """Refuses to write into the artifact, which would have other files than are claimed then."""
+    shipped = os.path.realpath(options.artifact)
+    for place in (options.folder, options.store or options.folder):
+        if os.path.commonpath([shipped, os.path.realpath(place)]) == shipped:
+            raise Refused(f'"{place}" lies in the artifact, and nothing may be written there')
+
+
 def read_steps(options, below, artifact):
     """The steps of the log."""
     with open(options.log, "rb") as it:
@@ -143,7 +151,10 @@ def make(options, store):
     below = options.below.removesuffix("/")
     if options.below and not is_path(below):
         raise Refused(f"{options.below!r} is no path below the execution root")
-    artifact = None if options.artifact is None else read_artifact(options.artifact)
+    artifact = None
+    if options.artifact is not None:
+        check_places(options)
+        artifact = read_artifact(options.artifact)
     try:
         steps = read_steps(options, below, artifact)
         builds, are_stages = builds_of(steps, options.stages)

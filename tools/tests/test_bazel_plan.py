@@ -292,6 +292,14 @@ class Artifacts(Case):
             self.assertEqual(ended.exception.code, 2)
             self.assertTrue(err.getvalue().endswith(f"error: {option} is given twice\n"), err.getvalue())
 
+    def test_nothing_is_written_into_the_artifact(self):
+        self.ship({"bin/a": "bin/a"})
+        os.symlink(self.at("shipped", "bin"), self.at("link"))
+        self.refuse('/asked" lies in the artifact', self.BUILD, "--artifact", self.folder)
+        for place in (self.at("shipped"), self.at("shipped", "new", "store"), self.at("link", "store")):
+            self.refuse(f'"{place}" lies in the artifact', self.BUILD, "--artifact", self.at("shipped"), "--store", place)
+        self.turn(self.BUILD, "--artifact", self.at("shipped"), "--store", self.at("shipped-store"))
+
     def test_a_folder_without_a_name_is_not_there(self):
         status, out, err = self.call(self.BUILD, "--outputs", "bin/*", "--artifact", "")
         self.assertEqual((status, out, err), (3, "", "error: [Errno 2] No such file or directory: ''\n"))
