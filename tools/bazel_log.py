@@ -224,9 +224,19 @@ class Files:
         self.seen[key] = sys.intern(key[0]), self.files.setdefault(entry, entry)
 
 
+def is_bytewise(path):
+    """Whether these characters are the bytes of a path beyond ASCII, as Bazel 4.2.3 logs it."""
+    try:
+        return not path.isascii() and bool(path.encode("latin-1").decode())
+    except UnicodeError:
+        return False
+
+
 def read_file(spawn, kind, path, target, hash_text, size, function):
     if not is_path(path):
         spawn.refuse(f"it has the {kind} {path!r}, which is no path below the execution root")
+    if is_bytewise(path):
+        spawn.refuse(f'its {kind} "{path}" has another name: each byte of it is logged as a character')
     if path.startswith(MAPPED):
         spawn.refuse(f'its {kind} "{path}" stands where Bazel maps paths to: build without --experimental_output_paths')
     if target and hash_text:

@@ -106,6 +106,8 @@ class Refusals(Case):
             ('its input "a" has a digest of BLAKE3', dict(inputs=[{"path": "a", "digest": {"hashFunctionName": "BLAKE3"}}])),
             ('its input "a" has a field "mode"', dict(inputs=[{"path": "a", "mode": 1}])),
             ('its input "a" has a digest, and a target as a link', dict(inputs=[dict(files({"a": ""})[0], symlinkTargetPath="b")])),
+            # (what `echo é | iconv -f latin1 -t utf-8` prints, as Bazel 4.2.3 logs the output é)
+            ('its output "\u00c3\u00a9" has another name: each byte', dict(actualOutputs=files({"\u00c3\u00a9": ""}))),
             ('its input "bazel-out/cfg/a" stands where Bazel maps paths to', dict(inputs=files({"bazel-out/cfg/a": ""}))),
             ('its output "a" is a link whose target', dict(actualOutputs=[{"path": "a", "symlinkTargetPath": "x" * 4097}])),
             ('it made "a/b", and line', dict(actualOutputs=files({"a": "1", "a/b": "2"}))),
