@@ -261,14 +261,6 @@ class Artifacts(Case):
             os.chmod(self.at("shipped", "bin/a"), mode)
             self.refuse('"bin/a" of the artifact is run as its owner or its group', self.BUILD, "--artifact", self.at("shipped"))
 
-    def test_a_link_to_the_file_itself_is_another(self):
-        self.ship({"bin/a": "bin/a", "a": "bin/a"})
-        os.replace(self.at("shipped", "a"), self.at("a"))
-        os.remove(self.at("shipped", "bin/a"))
-        os.symlink(self.at("a"), self.at("shipped", "bin/a"))
-        self.root("--outputs", "bin/a", "--artifact", self.at("shipped"))
-        self.judge("no root cause root-differs ")
-
     def test_an_output_with_a_pattern_that_was_not_made_is_refused(self):
         self.ship({"b": "bin/b"})
         words = ["--below", "bin", "--artifact", self.at("shipped"), "--outputs"]
@@ -352,6 +344,66 @@ class Artifacts(Case):
         self.refuse('the output "lib/b" doesn\'t lie below "bin"', self.BUILD, "--outputs", "*/b", "--below", "bin")
         for path in ("../x", "/", "bin//", "/bin"):
             self.refuse(f"{path!r} is no path below", self.BUILD, "--below", path)
+
+
+class Releases(Case):
+    """One build, and each fault that a folder to be shipped may have: what it gets where patterns say what the release has, and
+    where the folder does."""
+
+    BUILD = log(
+        spawn({"s": "s"}, ["out/mid"]),
+        spawn({"out/mid": "out/mid"}, ["out/rel/a", "out/rel/t"], {"out/rel/a": "a", "out/rel/t/é": "1", "out/rel/t/u/100%": "2"}),
+        spawn({}, ["out/rel/b c"], {"out/rel/b c": "b"}),
+    )
+    MADE = {"a": "a", "b c": "b", "t/é": "1", "t/u/100%": "2"}
+    NO, NOT_MADE, EMPTY = "no root cause root-differs", "no spawn of the log made it", "is empty, and the log has no empty directories"
+
+    def ship(self, contents):
+        for path, content in contents.items():
+            os.makedirs(os.path.dirname(self.at("rel", path)), exist_ok=True)
+            with open(self.at("rel", path), "w", encoding="utf-8") as out:
+                out.write(content)
+            os.chmod(self.at("rel", path), 0o755)
+
+    def expect(self, told, *words):
+        words = ["--below", "out/rel", "--artifact", self.at("rel"), *words]
+        if told in (self.NOT_MADE, self.EMPTY):
+            return self.refuse(told, self.BUILD, *words)
+        self.turn(self.BUILD, *words)
+        self.judge(f"{told} ")
+
+    def test_each_fault(self):
+        rel = self.at("rel")
+        move = os.rename
+        rows = [
+            ("none", "yes", "yes", lambda: None),
+            ("other bytes", self.NO, self.NO, lambda: self.ship({"t/é": "1 "})),
+            ("no bit", self.NO, self.NO, lambda: os.chmod(f"{rel}/b c", 0o644)),
+            ("a file more", self.NO, self.NOT_MADE, lambda: self.ship({"t/.hidden": ""})),
+            ("a file less", self.NO, "yes", lambda: os.remove(f"{rel}/a")),
+            ("a folder less", self.NO, "yes", lambda: shutil.rmtree(f"{rel}/t")),
+            ("a link to the file", self.NO, self.NO, lambda: (move(f"{rel}/a", self.at("a")), os.symlink(self.at("a"), f"{rel}/a"))),
+            ("a link to the folder", self.NO, self.NO, lambda: (move(f"{rel}/t", self.at("t")), os.symlink(self.at("t"), f"{rel}/t"))),
+            ("a folder for a file", self.NO, self.NOT_MADE, lambda: (os.remove(f"{rel}/a"), self.ship({"a/a": "a"}))),
+            ("a file for a folder", self.NO, self.NO, lambda: (shutil.rmtree(f"{rel}/t"), self.ship({"t": "1"}))),
+            ("another case", self.NO, self.NOT_MADE, lambda: move(f"{rel}/a", f"{rel}/A")),
+            ("an escaped name", self.NO, self.NOT_MADE, lambda: move(f"{rel}/b c", f"{rel}/b%20c")),
+            ("an accent apart", self.NO, self.NOT_MADE, lambda: move(f"{rel}/t/é", f"{rel}/t/e\u0301")),
+            ("another place", self.NO, self.NOT_MADE, lambda: move(f"{rel}/t/é", f"{rel}/t/u/é")),
+            ("two exchanged", self.NO, self.NO, lambda: self.ship({"a": "b", "b c": "a"})),
+            ("an empty folder", self.EMPTY, self.EMPTY, lambda: os.mkdir(f"{rel}/t/none")),
+        ]
+        for name, by_patterns, by_folder, spoil in rows:
+            with self.subTest(name):
+                self.ship(self.MADE)
+                spoil()
+                self.expect(by_patterns, "--outputs", "out/rel/*")
+                shutil.rmtree(self.at("asked"), ignore_errors=True)
+                self.expect(by_patterns, "--outputs", *(f"out/rel/{it}" for it in self.MADE))
+                shutil.rmtree(self.at("asked"), ignore_errors=True)
+                self.expect(by_folder)
+            for it in os.listdir(self.folder):
+                (shutil.rmtree if os.path.isdir(self.at(it)) else os.remove)(self.at(it))
 
 
 # A directory of three files that one step makes.
