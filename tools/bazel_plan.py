@@ -18,7 +18,8 @@ With --stages, or where one plan doesn't hold all steps, each stage has a folder
 sources and a claim of its own, and the file `stages` names these folders; tools/verify_stages.py verifies them.
 
 The rules are those of docs/VERIFY_BAZEL.md. What a plan can't say is refused with status 2 and one line, which names
-the file, the line of the log at which the spawn begins, and the spawn; then none of the files is written.
+the file, the line of the log at which the spawn begins, and the spawn; then none of the files is written, and FOLDER has
+no claim of a run before.
 """
 
 import argparse
@@ -48,10 +49,17 @@ def check_store(steps, store):
             spawn.refuse(f'the store has another result of its action, "{store.place("ac", spawn.action.hash)}"')
 
 
+def forget(folder, names):
+    """Removes what a run before wrote of these files."""
+    for name in names:
+        with contextlib.suppress(FileNotFoundError):
+            os.remove(os.path.join(folder, name))
+
+
 def write(made, folder, store):
-    """Writes all: the blobs before the results that refer to them, and the files of FOLDER last."""
+    """Writes all: the blobs before the results that refer to them, then the files of FOLDER, and the claim last."""
     made.steps.store.put_into(store)
-    whole = {"taken": made.steps.taken, "sources": [made.sources.text()], "claim": [made.claim.text()]}
+    whole = {"taken": made.steps.taken, "sources": [made.sources.text()]}
     if made.are_stages:
         names = [str(number) for number in range(1, len(made.builds) + 1)]
         for name, build in zip(names, made.builds):
@@ -60,11 +68,8 @@ def write(made, folder, store):
         whole["stages"] = names
     else:
         whole.update(plan=made.builds[0].plan, record=made.builds[0].record)
-    # (what a run before wrote in the other way goes)
-    for name in {"plan", "record", "stages"} - whole.keys():
-        with contextlib.suppress(FileNotFoundError):
-            os.remove(os.path.join(folder, name))
-    stores.write_texts(folder, whole)
+    forget(folder, {"plan", "record", "stages"} - whole.keys())
+    stores.write_texts(folder, {**whole, "claim": [made.claim.text()]})
 
 
 def parse(words):
@@ -168,7 +173,8 @@ def make(options, store):
 
 
 def lines_of(options):
-    """Does all, and what is printed then."""
+    """Does all, and what is printed then. A run that fails leaves no claim, by which the run before would be verified again."""
+    forget(options.folder, ["claim"])
     with contextlib.closing(stores.store_of(options)) as store:
         made = make(options, store)
     stages = f" stages {len(made.builds)}" if made.are_stages else ""

@@ -179,6 +179,13 @@ class Refusals(Case):
         self.refuse("put together from 65537 outputs", log(whole), "--outputs", "a/*")
         self.refuse("bytes, and buildcache reads 16777216 at most", log(spawn({}, ["a"], commandArgs=["x" * plans.MOST_BYTES])))
 
+    def test_a_run_that_fails_leaves_no_claim_of_the_one_before(self):
+        for words in (["--outputs", "b"], ["--artifact", self.at("none")], ["--server", "127.0.0.1:1"]):
+            self.turn(log(spawn({}, ["a"])))
+            self.assertTrue(os.path.exists(self.at("asked", "claim")))
+            self.assertIn(self.call(log(spawn({}, ["a"])), *words)[0], (2, 3))
+            self.assertFalse(os.path.exists(self.at("asked", "claim")))
+
     def test_an_output_that_cannot_be_written(self):
         self.call(log(spawn({}, ["a"])))
         tool = os.path.join(TOP, "tools", "bazel_plan.py")
