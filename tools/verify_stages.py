@@ -176,7 +176,7 @@ def tell(fault):
             command_line.say(fault)
     except OSError as other:
         fault = Fault(3, other)
-    told = fault.note if fault.status == 1 else f"error: {fault}"
+    told = fault.note if fault.status == 1 else f"error: {command_line.on_one_line(str(fault))}"
     if told:
         print(told, file=sys.stderr)
     return fault.status

@@ -287,7 +287,7 @@ class OtherPrograms(Case):
 
     def test_a_fault_is_no_verdict(self):
         other = f"echo yes {'0' * 64}/2 steps 1"
-        faults = ("exit 0", "exit 1", "exit 3", "exit 101", "kill -9 $$", other, f"echo yes {self.DIGEST} steps 1; exit 1")
+        faults = ("exit 0", "echo a >&2; echo b >&2; exit 101", "exit 1", "exit 3", "exit 101", "kill -9 $$", other, f"echo yes {self.DIGEST} steps 1; exit 1")
         for script, status in (("exit 2", 2), *((it, 3) for it in faults)):
             with self.subTest(script):
                 out, err, found = self.answer(script)
