@@ -152,9 +152,8 @@ def of_type(kind, value):
 
 def with_fields(fields, value):
     """An object that has none but these fields."""
-    unknown = min(of_type(dict, value).keys() - fields, default=None)
-    if unknown is not None:
-        raise ValueError(f'an object with "{unknown}", of which this program knows nothing')
+    if not of_type(dict, value).keys() <= fields:
+        raise ValueError(f'an object with "{min(value.keys() - fields)}", of which this program knows nothing')
     return value
 
 
