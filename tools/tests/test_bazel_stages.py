@@ -260,6 +260,50 @@ class InStages(StagesCase):
                 self.call(log(*CHAIN), "--stages", words)
 
 
+class ManyMachines(StagesCase):
+    """The jobs that docs/VERIFY_BAZEL.md shows, with a program that writes down the plan that it is asked about."""
+
+    def setUp(self):
+        super().setUp()
+        self.stages("1", text=log(*CHAIN))
+        stores.write_texts(self.at("bin"), {"buildcache": ["#!/bin/sh", 'while [ "$1" != --plan ]; do shift; done', 'echo "$2" >>ran']})
+        os.chmod(self.at("bin", "buildcache"), 0o755)
+        os.symlink("asked", self.at("evidence"))
+        with open(os.path.join(TOP, "docs", "VERIFY_BAZEL.md"), encoding="utf-8") as it:
+            self.script = it.read().partition("Many machines can share the stages")[2].split("```")[1].removeprefix("sh\n")
+
+    def job(self, number, of):
+        env = {**os.environ, "PATH": f"{self.at('bin')}:{os.environ['PATH']}", "JOB": number, "JOBS": of}
+        return subprocess.run(["sh", "-c", self.script], cwd=self.folder, env=env, stderr=subprocess.DEVNULL).returncode
+
+    def ran(self):
+        if not os.path.exists(self.at("ran")):
+            return []
+        with open(self.at("ran"), encoding="utf-8") as it:
+            return sorted(it.read().split())
+
+    def test_each_stage_is_verified_by_one_job(self):
+        for jobs in ("0", "1", "2"), ("1", "2", "3"):
+            self.assertEqual([self.job(it, "3") for it in jobs], [0, 0, 0])
+            self.assertEqual(self.ran(), [f"evidence/{it}/plan" for it in "1234"])
+            os.remove(self.at("ran"))
+
+    def test_nothing_is_verified_where_something_lacks(self):
+        self.assertNotIn(0, [self.job("", "3"), self.job("1", ""), self.job("1", "0")])
+        for names in ("1 2 3", "2 3 4", "1 3 4", ""):
+            stores.write_texts(self.at("asked"), {"stages": names.split()})
+            self.assertNotEqual(self.job("1", "3"), 0)
+        for name in ("3/claim", "1/sources", "claim", "sources", "stages"):
+            self.stages("1", text=log(*CHAIN))
+            os.remove(self.at("asked", name))
+            self.assertNotEqual(self.job("1", "3"), 0)
+        self.assertEqual(self.ran(), [])
+
+    def test_a_no_ends_the_job(self):
+        stores.write_texts(self.at("bin"), {"buildcache": ["#!/bin/sh", "echo >>ran", "exit 1"]})
+        self.assertEqual((self.job("0", "1"), self.ran()), (1, []))
+
+
 class OtherPrograms(Case):
     """verify_stages.py where BUILDCACHE names a program that answers by the stage's claim, or none."""
 
