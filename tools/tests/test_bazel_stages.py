@@ -289,7 +289,7 @@ class ManyMachines(StagesCase):
             os.remove(self.at("ran"))
 
     def test_nothing_is_verified_where_something_lacks(self):
-        self.assertNotIn(0, [self.job("", "3"), self.job("1", ""), self.job("1", "0")])
+        self.assertNotIn(0, [self.job(*it) for it in (("", "3"), ("1", ""), ("1", "0"), ("x", "3"))])
         for names in ("1 2 3", "2 3 4", "1 3 4", ""):
             stores.write_texts(self.at("asked"), {"stages": names.split()})
             self.assertNotEqual(self.job("1", "3"), 0)
