@@ -73,10 +73,7 @@ def write(made, folder, store):
 
 
 def parse(words):
-    lines = __doc__.split("\n\n", 1)
-    parser = argparse.ArgumentParser(
-        prog="bazel_plan.py", description=lines[0], epilog=lines[1], formatter_class=argparse.RawDescriptionHelpFormatter
-    )
+    parser = command_line.Parser("bazel_plan.py", __doc__)
     parser.add_argument(
         "log", metavar="LOG", help="the log of a build that ran all its spawns, as the first one after `bazel clean`"
     )

@@ -12,6 +12,17 @@ class NotAnswered(Exception):
     """What a server did in place of an answer."""
 
 
+class Parser(argparse.ArgumentParser):
+    """Options of a tool, whose help has this text, and which tells wrong words in one line of an error."""
+
+    def __init__(self, prog, text):
+        first, rest = text.split("\n\n", 1)
+        super().__init__(prog=prog, description=first, epilog=rest, formatter_class=argparse.RawDescriptionHelpFormatter)
+
+    def error(self, message):
+        self.exit(2, f"error: {on_one_line(message)}; --help tells the words\n")
+
+
 class Once(argparse.Action):
     """An option that is refused where it is given twice: one of its values would be forgotten."""
 

@@ -25,7 +25,6 @@ sources never has the executable bit, as `buildcache put` puts it. Wrong steps a
 says where, and then nothing is written.
 """
 
-import argparse
 import contextlib
 import json
 import os
@@ -254,10 +253,7 @@ class Maker:
 
 
 def parse(words):
-    lines = __doc__.split("\n\n", 1)
-    parser = argparse.ArgumentParser(
-        prog="make_plan.py", description=lines[0], epilog=lines[1], formatter_class=argparse.RawDescriptionHelpFormatter
-    )
+    parser = command_line.Parser("make_plan.py", __doc__)
     parser.add_argument("steps", metavar="STEPS", help="the steps, as JSON")
     parser.add_argument("folder", metavar="FOLDER", help="where the files are written; it is made if it isn't there")
     stores.add_options(parser)

@@ -137,10 +137,7 @@ def jobs_of(text):
 
 
 def parse(words):
-    lines = __doc__.split("\n\n", 1)
-    parser = argparse.ArgumentParser(
-        prog="verify_stages.py", description=lines[0], epilog=lines[1], formatter_class=argparse.RawDescriptionHelpFormatter
-    )
+    parser = command_line.Parser("verify_stages.py", __doc__)
     parser.add_argument("folder", metavar="FOLDER", help="the folder with the stages")
     parser.add_argument("--jobs", metavar="J", type=jobs_of, default=1, help="so many at once, 1 to 64")
     places = parser.add_mutually_exclusive_group()

@@ -282,7 +282,7 @@ class Artifacts(Case):
             with self.assertRaises(SystemExit) as ended, contextlib.redirect_stderr(io.StringIO()) as err:
                 bazel_plan.parse(["log", "asked", option, "1", option, "1"])
             self.assertEqual(ended.exception.code, 2)
-            self.assertTrue(err.getvalue().endswith(f"error: {option} is given twice\n"), err.getvalue())
+            self.assertEqual(err.getvalue(), f"error: {option} is given twice; --help tells the words\n")
 
     def test_nothing_is_written_into_the_artifact(self):
         self.ship({"bin/a": "bin/a"})
