@@ -8,9 +8,9 @@ import sys
 from dataclasses import dataclass
 
 from messages import Digest, File, Link, action_message, command_message
-from plans import Refused, folders_of, is_path, is_target, is_text
+from plans import Refused, folders_of, is_path, is_target, is_text, without_repeats
 
-# The fields of a spawn and of a file that a plan says, those that say nothing of what was run or made, and no others.
+# The fields of a spawn and of what is in it that a plan says, those that say nothing of what was run or made, and no others.
 SPAWN_FIELDS = {
     "commandArgs", "environmentVariables", "platform", "inputs", "listedOutputs", "actualOutputs", "cacheable",
     "timeoutMillis", "progressMessage", "targetLabel", "mnemonic", "status", "exitCode",
@@ -19,6 +19,11 @@ UNSAID_SPAWN_FIELDS = {
     "remotable", "remoteCacheable", "runner", "remoteCacheHit", "cacheHit", "walltime", "metrics", "digest",
 }
 FILE_FIELDS = {"path", "digest", "symlinkTargetPath", "isTool"}
+DIGEST_FIELDS = {"hash", "sizeBytes", "hashFunctionName"}
+PLATFORM_FIELDS = {"properties"}
+PAIR_FIELDS = {"name", "value"}
+# Where Bazel has the inputs of all configurations, if it maps paths: none of the paths at which they are made.
+MAPPED = "bazel-out/cfg/"
 
 
 # The spawns.
@@ -66,7 +71,7 @@ AT_ONCE = 1 << 20
 
 def objects(text):
     """The JSON objects of a text, which is read as it is needed, each with the line at which it begins."""
-    decoder, blank = json.JSONDecoder(), re.compile(r"\s*")
+    decoder, blank = json.JSONDecoder(object_pairs_hook=without_repeats), re.compile(r"\s*")
     held, position, line, is_whole = "", 0, 1, False
     while True:
         start = blank.match(held, position).end()
@@ -78,6 +83,8 @@ def objects(text):
             line += held.count("\n", start, end)
             position = end
             continue
+        except Refused as fault:
+            raise Refused(f"line {line}: {fault}") from None
         except (ValueError, RecursionError) as fault:
             if is_whole and start < len(held):
                 raise Refused(f"line {line}: no JSON object begins here that ends ({fault})") from None
@@ -94,8 +101,8 @@ def read_log(text):
     for line, value in objects(text):
         if not isinstance(value, dict):
             raise Refused(f"line {line}: this is no spawn, but another JSON value")
-        title = next((value[key] for key in ("progressMessage", "targetLabel", "mnemonic") if value.get(key)), "no name")
-        title = str(title).encode("unicode_escape").decode()
+        names = [value.get(key) for key in ("progressMessage", "targetLabel", "mnemonic")]
+        title = next((it for it in names if it and isinstance(it, str)), "no name").encode("unicode_escape").decode()
         try:
             spawns.append(read_spawn(len(spawns), line, title, value, files))
         except (AttributeError, KeyError, TypeError, ValueError) as fault:
@@ -112,7 +119,7 @@ def read_spawn(number, line, title, value, files):
         mnemonic=sys.intern(value.get("mnemonic", "")),
         arguments=[sys.intern(it) for it in of_type(list, value["commandArgs"])],
         environment=read_pairs(value.get("environmentVariables", [])),
-        platform=read_pairs((value.get("platform") or {}).get("properties", [])),
+        platform=read_pairs(with_fields(PLATFORM_FIELDS, value.get("platform", {})).get("properties", [])),
         inputs={},
         listed=sorted(set(of_type(list, value.get("listedOutputs", [])))),
         made={},
@@ -123,9 +130,11 @@ def read_spawn(number, line, title, value, files):
     unknown = sorted(set(value) - SPAWN_FIELDS - UNSAID_SPAWN_FIELDS)
     if unknown:
         spawn.refuse(f'it has a field "{unknown[0]}", of which this program knows nothing')
+    for key in ("progressMessage", "targetLabel"):
+        of_type(str, value.get(key, ""))
     check_command(spawn)
-    files.read(spawn, "input", value.get("inputs", []), spawn.inputs)
-    files.read(spawn, "output", value.get("actualOutputs", []), spawn.made)
+    files.read(spawn, "input", of_type(list, value.get("inputs", [])), spawn.inputs)
+    files.read(spawn, "output", of_type(list, value.get("actualOutputs", [])), spawn.made)
     if not -(2**31) <= spawn.exit_code < 2**31:
         spawn.refuse(f"its exit code {spawn.exit_code} has more than 32 bits")
     status = of_type(str, value.get("status", ""))
@@ -135,8 +144,16 @@ def read_spawn(number, line, title, value, files):
 
 
 def of_type(kind, value):
-    if not isinstance(value, kind):
-        raise TypeError(f"{value!r} in place of a {kind.__name__}")
+    # (a bool, which Python takes as a number, is none)
+    if type(value) is not kind:
+        raise TypeError(f"{type(value).__name__} in place of {kind.__name__}")
+    return value
+
+
+def with_fields(fields, value):
+    """An object that has none but these fields."""
+    if not of_type(dict, value).keys() <= fields:
+        raise ValueError(f'an object with "{min(value.keys() - fields)}", of which this program knows nothing')
     return value
 
 
@@ -149,7 +166,8 @@ def whole(value):
 
 
 def read_pairs(values):
-    return sorted((sys.intern(it.get("name", "")), sys.intern(it.get("value", ""))) for it in values)
+    pairs = (with_fields(PAIR_FIELDS, it) for it in of_type(list, values))
+    return sorted((sys.intern(it.get("name", "")), sys.intern(it.get("value", ""))) for it in pairs)
 
 
 def check_command(spawn):
@@ -192,8 +210,8 @@ class Files:
             if not value.keys() <= FILE_FIELDS:
                 unknown = min(value.keys() - FILE_FIELDS)
                 spawn.refuse(f'its {kind} "{value["path"]}" has a field "{unknown}", of which this program knows nothing')
-            digest = value.get("digest") or {}
-            where = value["path"], value.get("symlinkTargetPath", "")
+            digest = with_fields(DIGEST_FIELDS, value.get("digest", {}))
+            where = value["path"], of_type(str, value.get("symlinkTargetPath", ""))
             key = *where, digest.get("hash", ""), whole(digest.get("sizeBytes", 0)), digest.get("hashFunctionName", "")
             if key not in self.seen:
                 self.add(key, read_file(spawn, kind, *key))
@@ -205,9 +223,23 @@ class Files:
         self.seen[key] = sys.intern(key[0]), self.files.setdefault(entry, entry)
 
 
+def is_bytewise(path):
+    """Whether these characters are the bytes of a path beyond ASCII, as Bazel 4.2.3 logs it."""
+    try:
+        return not path.isascii() and bool(path.encode("latin-1").decode())
+    except UnicodeError:
+        return False
+
+
 def read_file(spawn, kind, path, target, hash_text, size, function):
     if not is_path(path):
         spawn.refuse(f"it has the {kind} {path!r}, which is no path below the execution root")
+    if is_bytewise(path):
+        spawn.refuse(f'its {kind} "{path}" has another name: each byte of it is logged as a character')
+    if path.startswith(MAPPED):
+        spawn.refuse(f'its {kind} "{path}" stands where Bazel maps paths to: build without --experimental_output_paths')
+    if target and hash_text:
+        spawn.refuse(f'its {kind} "{path}" has a digest, and a target as a link')
     if target:
         if not is_target(target):
             spawn.refuse(f'its {kind} "{path}" is a link whose target has a NUL, no UTF-8, or over 4,096 bytes')

@@ -18,7 +18,8 @@ With --stages, or where one plan doesn't hold all steps, each stage has a folder
 sources and a claim of its own, and the file `stages` names these folders; tools/verify_stages.py verifies them.
 
 The rules are those of docs/VERIFY_BAZEL.md. What a plan can't say is refused with status 2 and one line, which names
-the file, the line of the log at which the spawn begins, and the spawn; then none of the files is written.
+the file, the line of the log at which the spawn begins, and the spawn; then none of the files is written, and FOLDER has
+no claim of a run before.
 """
 
 import argparse
@@ -29,6 +30,7 @@ import os
 import sys
 from dataclasses import dataclass
 
+import command_line
 import stores
 from bazel_stages import builds_of, length
 from bazel_steps import Steps, read_artifact, steps_of
@@ -47,10 +49,17 @@ def check_store(steps, store):
             spawn.refuse(f'the store has another result of its action, "{store.place("ac", spawn.action.hash)}"')
 
 
+def forget(folder, names):
+    """Removes what a run before wrote of these files."""
+    for name in names:
+        with contextlib.suppress(FileNotFoundError):
+            os.remove(os.path.join(folder, name))
+
+
 def write(made, folder, store):
-    """Writes all: the blobs before the results that refer to them, and the files of FOLDER last."""
+    """Writes all: the blobs before the results that refer to them, then the files of FOLDER, and the claim last."""
     made.steps.store.put_into(store)
-    whole = {"taken": made.steps.taken, "sources": [made.sources.text()], "claim": [made.claim.text()]}
+    whole = {"taken": made.steps.taken, "sources": [made.sources.text()]}
     if made.are_stages:
         names = [str(number) for number in range(1, len(made.builds) + 1)]
         for name, build in zip(names, made.builds):
@@ -59,18 +68,12 @@ def write(made, folder, store):
         whole["stages"] = names
     else:
         whole.update(plan=made.builds[0].plan, record=made.builds[0].record)
-    # (what a run before wrote in the other way goes)
-    for name in {"plan", "record", "stages"} - whole.keys():
-        with contextlib.suppress(FileNotFoundError):
-            os.remove(os.path.join(folder, name))
-    stores.write_texts(folder, whole)
+    forget(folder, {"plan", "record", "stages"} - whole.keys())
+    stores.write_texts(folder, {**whole, "claim": [made.claim.text()]})
 
 
 def parse(words):
-    lines = __doc__.split("\n\n", 1)
-    parser = argparse.ArgumentParser(
-        prog="bazel_plan.py", description=lines[0], epilog=lines[1], formatter_class=argparse.RawDescriptionHelpFormatter
-    )
+    parser = command_line.Parser("bazel_plan.py", __doc__)
     parser.add_argument(
         "log", metavar="LOG", help="the log of a build that ran all its spawns, as the first one after `bazel clean`"
     )
@@ -79,16 +82,16 @@ def parse(words):
     )
     stores.add_options(parser)
     parser.add_argument(
-        "--outputs", metavar="PATTERN", nargs="+", default=[],
+        "--outputs", metavar="PATTERN", nargs="+", action="extend", default=[],
         help="what the artifact has: each output whose path has a PATTERN, in which * (also for /), ? and [..] are as in a "
         "shell. Without it: with --artifact the files of that, else every output (below PATH)",
     )
     parser.add_argument(
-        "--below", metavar="PATH", default="",
+        "--below", metavar="PATH", default="", action=command_line.Once,
         help="the folder of the execution root, as bazel-out/k8-fastbuild/bin, that is the top of the artifact",
     )
     parser.add_argument(
-        "--artifact", metavar="SHIPPED",
+        "--artifact", metavar="SHIPPED", action=command_line.Once,
         help="claim the tree of this folder on disk, in place of what the log has. Without --outputs the artifact has what that "
         "folder has, so that a file which it lacks isn't missed; with --below PATH the last line counts these",
     )
@@ -101,7 +104,7 @@ def parse(words):
         help="keep the spawns of which nothing of the artifact that --outputs or --artifact says is made",
     )
     parser.add_argument(
-        "--stages", metavar="STEPS", nargs="?", type=steps_a_stage, const=MOST_STEPS,
+        "--stages", metavar="STEPS", nargs="?", type=steps_a_stage, const=MOST_STEPS, action=command_line.Once,
         help="one plan a stage, each of so many steps at most (by default, and at most, as many as a plan holds); a build that "
         "one plan doesn't hold is written so without being asked",
     )
@@ -125,6 +128,14 @@ class Made:
     claim: Digest
 
 
+def check_places(options):
+    """Refuses to write into the artifact, which would have other files than are claimed then."""
+    shipped = os.path.realpath(options.artifact)
+    for place in (options.folder, options.store or options.folder):
+        if os.path.commonpath([shipped, os.path.realpath(place)]) == shipped:
+            raise Refused(f'"{place}" lies in the artifact, and nothing may be written there')
+
+
 def read_steps(options, below, artifact):
     """The steps of the log."""
     with open(options.log, "rb") as it:
@@ -139,10 +150,13 @@ def read_steps(options, below, artifact):
 
 def make(options, store):
     """Makes the plans of the log and writes them, where nothing of it is refused."""
-    below = options.below.rstrip("/")
-    if below and not is_path(below):
-        raise Refused(f"{below!r} is no path below the execution root")
-    artifact = read_artifact(options.artifact) if options.artifact else None
+    below = options.below.removesuffix("/")
+    if options.below and not is_path(below):
+        raise Refused(f"{options.below!r} is no path below the execution root")
+    artifact = None
+    if options.artifact is not None:
+        check_places(options)
+        artifact = read_artifact(options.artifact)
     try:
         steps = read_steps(options, below, artifact)
         builds, are_stages = builds_of(steps, options.stages)
@@ -155,26 +169,23 @@ def make(options, store):
     return made
 
 
+def lines_of(options):
+    """Does all, and what is printed then. A run that fails leaves no claim, by which the run before would be verified again."""
+    forget(options.folder, ["claim"])
+    with contextlib.closing(stores.store_of(options)) as store:
+        made = make(options, store)
+    stages = f" stages {len(made.builds)}" if made.are_stages else ""
+    left_out = f" left-out {made.steps.left_out}" if made.steps.left_out else ""
+    not_shipped = f" not-shipped {made.steps.not_shipped}" if made.steps.not_shipped else ""
+    counts = f"steps {len(made.steps.spawns)} taken {len(made.steps.taken)}{stages}{left_out}{not_shipped}"
+    return f"sources {made.sources.text()}", f"claim {made.claim.text()}", counts
+
+
 def main(words):
     options = parse(words)
     # (a log makes millions of objects that last to the end, and none of them is in a circle)
     gc.disable()
-    try:
-        with contextlib.closing(stores.store_of(options)) as store:
-            made = make(options, store)
-    except Refused as fault:
-        print("error:", str(fault).replace("\n", "\\n"), file=sys.stderr)
-        return 2
-    except (stores.NotAnswered, OSError, UnicodeDecodeError) as fault:
-        print(f"error: {fault}", file=sys.stderr)
-        return 3
-    print(f"sources {made.sources.text()}")
-    print(f"claim {made.claim.text()}")
-    stages = f" stages {len(made.builds)}" if made.are_stages else ""
-    left_out = f" left-out {made.steps.left_out}" if made.steps.left_out else ""
-    not_shipped = f" not-shipped {made.steps.not_shipped}" if made.steps.not_shipped else ""
-    print(f"steps {len(made.steps.spawns)} taken {len(made.steps.taken)}{stages}{left_out}{not_shipped}")
-    return 0
+    return command_line.status_of(lambda: lines_of(options))
 
 
 if __name__ == "__main__":

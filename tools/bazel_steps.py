@@ -4,7 +4,6 @@ has to be told. The rules are those of docs/VERIFY_BAZEL.md."""
 import fnmatch
 import hashlib
 import heapq
-import os
 import re
 import stat
 from array import array
@@ -13,7 +12,7 @@ from dataclasses import dataclass
 from bazel_lines import Given
 from bazel_log import read_log
 from messages import Digest, File, Link, directory_message, result_message
-from plans import LONGEST_STEP, Refused, Store, escaped, files_at, folders_of, is_path, is_target, put
+from plans import LONGEST_STEP, Refused, Store, entries_of, escaped, files_at, folders_of, is_path, is_target, put, target_of
 
 HINT = "Bazel logs what it ran, so `bazel clean` comes before the build"
 
@@ -231,6 +230,7 @@ def steps_of(log, wanted, below, artifact, drop_timeouts, keep_all):
     for spawn in spawns:
         spawn.outputs = outputs_of(spawn)
     outputs = outputs_by_path(spawns)
+    refuse_unmade(outputs, origins, wanted)
     chosen = choose(outputs, wanted, below, artifact)
     not_shipped = lacking(outputs, chosen, below) if artifact is not None and not wanted else 0
     count = len(spawns)
@@ -308,17 +308,24 @@ def why_none(outputs, below):
     return f'below "{below}" it has none, but below "{folders[0]}"' + f" and {len(folders) - 1} others" * (len(folders) > 1)
 
 
+def has_pattern(path, wanted):
+    return any(fnmatch.fnmatchcase(path, it) for it in wanted)
+
+
+def refuse_unmade(outputs, origins, wanted):
+    """Refuses an output with a pattern that was listed and not made: the artifact would be without it. Only a test may leave some
+    of its outputs unmade."""
+    for path, spawn in origins.listing.items():
+        if path not in outputs and spawn.mnemonic != "TestRunner" and has_pattern(path, wanted):
+            spawn.refuse(f'it lists "{path}", which has a pattern and, by the log, wasn\'t made, or is an empty directory')
+
+
 def chosen_by_patterns(outputs, everything, wanted):
     """The outputs with a pattern, and the files with one in an output directory that has none itself."""
-    whole = [path for path in outputs if any(fnmatch.fnmatchcase(path, it) for it in wanted)]
-    covered = {path for path in whole if isinstance(outputs[path][1], dict)}
-    paths = [
-        path
-        for path in everything
-        if any(fnmatch.fnmatchcase(path, it) for it in wanted) and not any(it in covered for it in folders_of(path))
-    ]
+    covered = {path for path, (_, entry) in outputs.items() if isinstance(entry, dict) and has_pattern(path, wanted)}
+    paths = [path for path in everything if has_pattern(path, wanted) and not any(it in covered for it in folders_of(path))]
     unused = next((it for it in wanted if not fnmatch.filter(everything, it)), None)
-    if unused:
+    if unused is not None:
         raise Refused(f'no output of the log has the pattern "{unused}"')
     return paths
 
@@ -326,18 +333,21 @@ def chosen_by_patterns(outputs, everything, wanted):
 def read_artifact(folder, shown=""):
     """A folder on disk as a dictionary: each file with its bit of the owner to run it, each link by its target."""
     entries = {}
-    for it in sorted(os.scandir(folder), key=lambda it: it.name):
-        path = f"{shown}{it.name}"
+    for name, it in entries_of(folder):
+        path = f"{shown}{name}"
         if not is_path(path):
             raise Refused(f"the artifact has {path!r}, which is no UTF-8, or too long or too deep for a plan")
         if it.is_symlink():
-            entries[it.name] = Link(os.readlink(it.path))
-            if not is_target(entries[it.name].target):
+            entries[name] = Link(target_of(it))
+            if not is_target(entries[name].target):
                 raise Refused(f'"{path}" of the artifact is a link whose target has no UTF-8, or over 4,096 bytes')
         elif it.is_dir():
-            entries[it.name] = read_artifact(it.path, f"{path}/")
+            entries[name] = read_artifact(it.path, f"{path}/")
         elif it.is_file():
-            entries[it.name] = File(digest_of_file(it.path), bool(it.stat().st_mode & stat.S_IXUSR))
+            mode = it.stat().st_mode
+            if mode & (stat.S_ISUID | stat.S_ISGID):
+                raise Refused(f'"{path}" of the artifact is run as its owner or its group (setuid, setgid), which a plan can\'t say')
+            entries[name] = File(digest_of_file(it.path), bool(mode & stat.S_IXUSR))
         else:
             raise Refused(f'"{path}" of the artifact is no file, folder or link')
     if not entries:

@@ -25,7 +25,6 @@ sources never has the executable bit, as `buildcache put` puts it. Wrong steps a
 says where, and then nothing is written.
 """
 
-import argparse
 import contextlib
 import json
 import os
@@ -33,10 +32,12 @@ import re
 import sys
 from dataclasses import dataclass
 
+import command_line
 import stores
 from messages import EMPTY, Digest, File, Link, action_message, command_message, directory_message
 from plans import LONGEST_STEP, MOST_BYTES, MOST_LINES, MOST_STEPS, Refused, Store
-from plans import check_sizes, escaped, folders_of, is_path, is_target, is_text, stands_at, targets_meet
+from plans import check_sizes, entries_of, escaped, folders_of, is_path, is_target, is_text, stands_at, target_of
+from plans import targets_meet, without_repeats
 
 KINDS = {str: "a text", list: "a list", dict: "an object"}
 
@@ -98,22 +99,16 @@ class Place:
 
 
 def read_file(path):
-    with open(path, encoding="utf-8") as it:
-        text = it.read()
+    with open(path, "rb") as it:
+        content = it.read()
     try:
-        return Place(json.loads(text, object_pairs_hook=without_repeats), "")
+        return Place(json.loads(content.decode(), object_pairs_hook=without_repeats), "")
     except json.JSONDecodeError as fault:
         raise Refused(f"line {fault.lineno}, column {fault.colno}: {fault.msg}") from None
     except RecursionError:
         raise Refused("its lists and objects are too deep") from None
-
-
-def without_repeats(pairs):
-    value = dict(pairs)
-    if len(value) < len(pairs):
-        names = [name for name, _ in pairs]
-        raise Refused(f'an object has "{next(it for it in names if names.count(it) > 1)}" twice')
-    return value
+    except ValueError as fault:
+        raise Refused(f"this is no JSON: {fault}") from None
 
 
 # The sources.
@@ -122,20 +117,20 @@ def without_repeats(pairs):
 def read_sources(folder, shown=""):
     """A folder as a dictionary, and the contents of its files by digest. Files have no executable bit."""
     entries, contents = {}, {}
-    for it in sorted(os.scandir(folder), key=lambda it: it.name):
-        path = f"{shown}{it.name}"
+    for name, it in entries_of(folder):
+        path = f"{shown}{name}"
         if not is_path(path):
             raise Refused(f"the sources have {path!r}, which is no UTF-8, or too long or too deep for a plan")
         if it.is_symlink():
-            if not is_target(target := os.readlink(it.path)):
+            if not is_target(target := target_of(it)):
                 raise Refused(f'"{path}" of the sources is a link whose target has no UTF-8, or over 4,096 bytes')
-            entries[it.name] = Link(target)
+            entries[name] = Link(target)
         elif it.is_dir():
-            entries[it.name], below = read_sources(it.path, f"{path}/")
+            entries[name], below = read_sources(it.path, f"{path}/")
             contents.update(below)
         elif it.is_file():
-            entries[it.name], content = read_source(it.path, path)
-            contents[entries[it.name].digest] = content
+            entries[name], content = read_source(it.path, path)
+            contents[entries[name].digest] = content
         else:
             raise Refused(f'"{path}" of the sources is no file, folder or link')
     return entries, contents
@@ -258,10 +253,7 @@ class Maker:
 
 
 def parse(words):
-    lines = __doc__.split("\n\n", 1)
-    parser = argparse.ArgumentParser(
-        prog="make_plan.py", description=lines[0], epilog=lines[1], formatter_class=argparse.RawDescriptionHelpFormatter
-    )
+    parser = command_line.Parser("make_plan.py", __doc__)
     parser.add_argument("steps", metavar="STEPS", help="the steps, as JSON")
     parser.add_argument("folder", metavar="FOLDER", help="where the files are written; it is made if it isn't there")
     stores.add_options(parser)
@@ -288,23 +280,19 @@ def make(options):
     return plan, root, store
 
 
+def lines_of(options):
+    """Does all, and what is printed then."""
+    with contextlib.closing(stores.store_of(options)) as place:
+        plan, root, store = make(options)
+        store.put_into(place)
+        stores.write_texts(options.folder, {"plan": plan, "sources": [root.text()]})
+    at = os.path.join(options.folder, "plan").encode(errors="backslashreplace").decode()
+    return f"sources {root.text()}", f"plan {at}", f"steps {sum(it.startswith('step ') for it in plan)}"
+
+
 def main(words):
     options = parse(words)
-    try:
-        with contextlib.closing(stores.store_of(options)) as place:
-            plan, root, store = make(options)
-            store.put_into(place)
-            stores.write_texts(options.folder, {"plan": plan, "sources": [root.text()]})
-    except Refused as fault:
-        print("error:", str(fault).replace("\n", "\\n"), file=sys.stderr)
-        return 2
-    except (stores.NotAnswered, OSError, UnicodeDecodeError) as fault:
-        print(f"error: {fault}", file=sys.stderr)
-        return 3
-    print(f"sources {root.text()}")
-    print(f"plan {os.path.join(options.folder, 'plan')}")
-    print(f"steps {sum(it.startswith('step ') for it in plan)}")
-    return 0
+    return command_line.status_of(lambda: lines_of(options))
 
 
 if __name__ == "__main__":

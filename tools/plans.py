@@ -1,6 +1,7 @@
 """What a plan may say: its texts and paths, trees as dictionaries, its limits, and the blobs that a store is told with it."""
 
 import functools
+import os
 import re
 
 from messages import Digest
@@ -14,6 +15,33 @@ LONGEST_STEP = 64
 
 class Refused(Exception):
     """Why there is no plan: where, and what is wrong there."""
+
+
+# What is read.
+
+
+def without_repeats(pairs):
+    """The dictionary of a JSON object, which has no name twice."""
+    value = dict(pairs)
+    if len(value) < len(pairs):
+        names = [name for name, _ in pairs]
+        raise Refused(f'an object has "{next(it for it in names if names.count(it) > 1)}" twice')
+    return value
+
+
+def entries_of(folder):
+    """What stands in a folder on disk, with its names in their order."""
+    return sorted((as_utf8(it.name), it) for it in os.scandir(folder))
+
+
+def target_of(link):
+    """The target of a link on disk."""
+    return as_utf8(os.readlink(link.path))
+
+
+def as_utf8(name):
+    """A name on disk by its bytes as UTF-8, whatever the locale takes them for; if they are none, it is no text of a message."""
+    return os.fsencode(name).decode("utf-8", "surrogateescape")
 
 
 # Paths, as messages have them.

@@ -4,11 +4,8 @@ import http.client
 import os
 import re
 
+from command_line import NotAnswered, Once
 from plans import Refused
-
-
-class NotAnswered(Exception):
-    """What a server did in place of an answer."""
 
 
 class FolderStore:
@@ -89,12 +86,15 @@ def add_options(parser):
     """The options that name a store: a folder, by default FOLDER/store, or a server."""
     places = parser.add_mutually_exclusive_group()
     places.add_argument(
-        "--store", metavar="STORE", help="the store folder, in place of FOLDER/store; it may hold other builds"
+        "--store", metavar="STORE", action=Once, help="the store folder, in place of FOLDER/store; it may hold other builds"
     )
     places.add_argument(
-        "--server", metavar="HOST:PORT", help="a cache over HTTP in place of a folder; PUT and GET of /cas/HASH and /ac/HASH"
+        "--server", metavar="HOST:PORT", action=Once,
+        help="a cache over HTTP in place of a folder; PUT and GET of /cas/HASH and /ac/HASH",
     )
-    parser.add_argument("--prefix", metavar="PREFIX", default="", help="what stands before these paths on the server")
+    parser.add_argument(
+        "--prefix", metavar="PREFIX", default="", action=Once, help="what stands before these paths on the server"
+    )
 
 
 def store_of(options):

@@ -4,8 +4,9 @@
     verify_stages.py asked --jobs 4
 
 FOLDER has the file `stages` with the name of a folder a line, each with a plan, a record, sources and a claim. The sources of
-each stage have to be the claim of the one before. Then the verdicts compose: where each is yes, whoever builds the stages one
-after another from the first one's sources, each from what came of the one before, ends in exactly the last claim.
+the first stage have to be those in FOLDER, the sources of each other the claim of the one before, and the last claim that in
+FOLDER. Then the verdicts compose: where each is yes, whoever builds the stages one after another from these sources, each from
+what came of the one before, ends in exactly that claim.
 
 The last line is `yes CLAIM stages N steps M`, or the no of the first stage that has one, as `no stage K step NAME cause ..`.
 The status is that of `verify`: 0 yes, 1 no, 2 a file is at fault, 3 no verdict.
@@ -19,6 +20,7 @@ import subprocess
 import sys
 from dataclasses import dataclass
 
+import command_line
 import harness
 
 ASKED = ("sources", "claim")
@@ -48,21 +50,32 @@ def read_lines(path):
         raise Fault(3, f'"{path}": {fault}') from None
 
 
+def read_digests(folder):
+    """The sources and the claim that a folder asks about."""
+    digests = [read_lines(os.path.join(folder, it)) for it in ASKED]
+    if not all(len(it) == 1 and re.fullmatch("[0-9a-f]{64}/[0-9]{1,19}", it[0]) for it in digests):
+        raise Fault(2, f'"{folder}": the files sources and claim have a digest each')
+    return [it[0] for it in digests]
+
+
 def read_stages(folder):
-    """The stages, of which each goes on from what the one before ends in."""
+    """The stages, of which each goes on from what the one before ends in, from the build's sources to its claim."""
     names = read_lines(os.path.join(folder, "stages"))
     if not names:
         raise Fault(2, f'"{folder}": there are no stages')
-    stages = []
-    for name in names:
-        place = os.path.join(folder, name)
-        digests = [read_lines(os.path.join(place, it)) for it in ASKED]
-        if any(len(it) != 1 for it in digests):
-            raise Fault(2, f'"{place}": the files sources and claim have a digest each')
-        stages.append(Stage(name, place, digests[0][0], digests[1][0]))
-    for before, stage in zip(stages, stages[1:]):
-        if stage.sources != before.claim:
-            raise Fault(2, f"stage {stage.name}: its sources {stage.sources} aren't the claim of stage {before.name}")
+    wrong = next((it for it in names if not re.fullmatch("[0-9]+", it)), None)
+    if wrong is not None:
+        raise Fault(2, f'"{folder}": {wrong!r} is no folder of a stage')
+    places = [os.path.join(folder, it) for it in names]
+    stages = [Stage(name, place, *read_digests(place)) for name, place in zip(names, places)]
+    at, claim = read_digests(folder)
+    whose = "the build's"
+    for stage in stages:
+        if stage.sources != at:
+            raise Fault(2, f"stage {stage.name}: its sources {stage.sources} aren't {whose}")
+        at, whose = stage.claim, f"the claim of stage {stage.name}"
+    if at != claim:
+        raise Fault(2, f"{whose}, {at}, isn't the build's, {claim}")
     return stages
 
 
@@ -89,7 +102,8 @@ def judge(stages, program, place, jobs):
                     raise Fault(1, f"no stage {stage.name} {line.removeprefix('no ')}", told)
                 found = re.fullmatch(f"yes {stage.claim} steps ([0-9]+)", line)
                 if status != 0 or not found:
-                    raise Fault(2 if status == 2 else 3, f"stage {stage.name}: {told.removeprefix('error: ') or line}")
+                    why = told.removeprefix("error: ") or line or f"the program ends with status {status}"
+                    raise Fault(2 if status == 2 else 3, f"stage {stage.name}: {why}")
                 steps += int(found[1])
                 if is_shown:
                     print(f"\r{count} of {len(stages)} stages, {steps} steps", end="", file=sys.stderr, flush=True)
@@ -123,10 +137,7 @@ def jobs_of(text):
 
 
 def parse(words):
-    lines = __doc__.split("\n\n", 1)
-    parser = argparse.ArgumentParser(
-        prog="verify_stages.py", description=lines[0], epilog=lines[1], formatter_class=argparse.RawDescriptionHelpFormatter
-    )
+    parser = command_line.Parser("verify_stages.py", __doc__)
     parser.add_argument("folder", metavar="FOLDER", help="the folder with the stages")
     parser.add_argument("--jobs", metavar="J", type=jobs_of, default=1, help="so many at once, 1 to 64")
     places = parser.add_mutually_exclusive_group()
@@ -138,25 +149,34 @@ def parse(words):
 
 def main(words):
     options = parse(words)
-    if options.server:
+    if options.server is not None:
         place = ["--server", options.server, *(["--prefix", options.prefix] if options.prefix else [])]
     else:
         place = ["--store", options.store or os.path.join(options.folder, "store")]
     try:
-        if options.prefix and not options.server:
+        if options.prefix and options.server is None:
             raise Fault(2, "--prefix is for --server")
         stages = read_stages(options.folder)
         steps = judge(stages, program_here(), place, options.jobs)
+        command_line.say(f"yes {stages[-1].claim} stages {len(stages)} steps {steps}")
+        return 0
     except Fault as fault:
-        if fault.status != 1:
-            print(f"error: {fault}", file=sys.stderr)
-            return fault.status
-        print(fault)
-        if fault.note:
-            print(fault.note, file=sys.stderr)
-        return 1
-    print(f"yes {stages[-1].claim} stages {len(stages)} steps {steps}")
-    return 0
+        return tell(fault)
+    except OSError as fault:
+        return tell(Fault(3, fault))
+
+
+def tell(fault):
+    """Prints a no, or the line of an error; the status."""
+    try:
+        if fault.status == 1:
+            command_line.say(fault)
+    except OSError as other:
+        fault = Fault(3, other)
+    told = fault.note if fault.status == 1 else f"error: {command_line.on_one_line(str(fault))}"
+    if told:
+        print(told, file=sys.stderr)
+    return fault.status
 
 
 if __name__ == "__main__":

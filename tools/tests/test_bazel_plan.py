@@ -5,16 +5,20 @@ Each rule and each refusal of docs/VERIFY_BAZEL.md has a small log here. The byt
 protobuf (3.21.12, over the fields of remote_execution.proto). bazel_case.py says what judges what is made.
 """
 
+import contextlib
 import io
 import os
 import random
 import re
 import shutil
+import subprocess
+import sys
 import unittest
 
-from bazel_case import CHAIN, HERE, TREE_STEP, Case, contents, files, log, spawn
+from bazel_case import CHAIN, HERE, TOP, TREE_STEP, Case, contents, files, log, spawn
 
 import bazel_log
+import bazel_plan
 import messages
 import plans
 
@@ -217,6 +221,7 @@ class Artifacts(Case):
         self.assertEqual(self.root(), ["bin/a", "bin/t", "lib/b"])
         self.assertEqual(self.root("--outputs", "bin/*"), ["bin/a", "bin/t"])
         self.assertEqual(self.root("--outputs", "bin/t/[x]", "lib/?"), ["bin/t/x", "lib/b"])
+        self.assertEqual(self.root("--outputs", "bin/t/[x]", "--outputs", "lib/?"), ["bin/t/x", "lib/b"])
         self.assertEqual(self.root("--below", "bin"), ["a", "t"])
         self.assertEqual(self.root("--outputs", "*/t", "--below", "bin/"), ["t"])
         self.judge("yes ")
@@ -250,6 +255,60 @@ class Artifacts(Case):
         self.root("--artifact", self.at("shipped"))
         self.judge("no root cause root-differs ")
 
+    def test_a_file_that_is_run_as_its_owner_or_its_group_is_refused(self):
+        self.ship({"bin/a": "bin/a"})
+        for mode in (0o4755, 0o2755):
+            os.chmod(self.at("shipped", "bin/a"), mode)
+            self.refuse('"bin/a" of the artifact is run as its owner or its group', self.BUILD, "--artifact", self.at("shipped"))
+
+    def test_an_output_with_a_pattern_that_was_not_made_is_refused(self):
+        self.ship({"b": "bin/b"})
+        words = ["--below", "bin", "--artifact", self.at("shipped"), "--outputs"]
+        reason = 'it lists "bin/a", which has a pattern and, by the log, wasn\'t made'
+        for other in ({}, {"exitCode": 1, "status": "NON_ZERO_EXIT"}):
+            text = log(spawn({}, ["bin/a"], {}, **other), spawn({}, ["bin/b"]))
+            self.refuse(f'line 1: spawn "Making bin/a": {reason}', text, *words, "bin/*")
+            self.turn(text, *words, "bin/b")
+            self.judge("yes ")
+            shutil.rmtree(self.at("asked"))
+        self.refuse(reason, log(spawn({}, ["bin/a", "bin/b"], {"bin/b": "bin/b"})), *words, "bin/*")
+
+    def test_a_test_may_leave_outputs_with_a_pattern_unmade(self):
+        self.turn(log(spawn({}, ["logs/xml", "logs/more"], {"logs/xml": "x"}, mnemonic="TestRunner")), "--outputs", "logs/*")
+        self.judge("yes ")
+
+    def test_words_that_would_be_forgotten_are_refused(self):
+        for option in ("--artifact", "--below", "--stages", "--store", "--server", "--prefix"):
+            with self.assertRaises(SystemExit) as ended, contextlib.redirect_stderr(io.StringIO()) as err:
+                bazel_plan.parse(["log", "asked", option, "1", option, "1"])
+            self.assertEqual(ended.exception.code, 2)
+            self.assertEqual(err.getvalue(), f"error: {option} is given twice; --help tells the words\n")
+
+    def test_nothing_is_written_into_the_artifact(self):
+        self.ship({"bin/a": "bin/a"})
+        os.symlink(self.at("shipped", "bin"), self.at("link"))
+        self.refuse('/asked" lies in the artifact', self.BUILD, "--artifact", self.folder)
+        for place in (self.at("shipped"), self.at("shipped", "new", "store"), self.at("link", "store")):
+            self.refuse(f'"{place}" lies in the artifact', self.BUILD, "--artifact", self.at("shipped"), "--store", place)
+        self.turn(self.BUILD, "--artifact", self.at("shipped"), "--store", self.at("shipped-store"))
+
+    def test_a_folder_without_a_name_is_not_there(self):
+        status, out, err = self.call(self.BUILD, "--outputs", "bin/*", "--artifact", "")
+        self.assertEqual((status, out, err), (3, "", "error: [Errno 2] No such file or directory: ''\n"))
+        self.assertFalse(os.path.exists(self.at("asked")))
+
+    def test_names_are_utf8_in_every_locale(self):
+        self.ship({"é": "bb\n", "è/é": "bb\n"})
+        os.symlink("é", self.at("shipped", "l"))
+        with open(self.at("log"), "w", encoding="utf-8") as out:
+            out.write(log(spawn({}, ["é", "è/é", "l"])))
+        env = {**os.environ, "LC_ALL": "C", "PYTHONCOERCECLOCALE": "0", "PYTHONUTF8": "0"}
+        words = [os.path.join(TOP, "tools", "bazel_plan.py"), self.at("log"), self.at("asked"), "--artifact", self.at("shipped")]
+        done = subprocess.run([sys.executable, *words], capture_output=True, text=True, env=env)
+        self.assertEqual((done.returncode, done.stderr), (0, ""))
+        # (the Directory's fields by printf, and sha256sum)
+        self.assertEqual(self.lines("claim"), ["f1193d19fd8e551e6c0e6234bbedf69a92d2a957309f60dfa32fc35a4866f6f2/163"])
+
     def test_what_no_spawn_made_is_refused(self):
         self.ship({"bin/new": "1"})
         self.refuse('"bin/new" in the build, and no spawn of the log made it', self.BUILD, "--artifact", self.at("shipped"))
@@ -279,10 +338,72 @@ class Artifacts(Case):
         self.refuse('"pipe" of the artifact is no file, folder or link', self.BUILD, "--artifact", self.at("shipped"))
 
     def test_patterns_without_outputs_are_refused(self):
-        self.refuse('no output of the log has the pattern "x*"', self.BUILD, "--outputs", "x*", "bin/*")
+        for pattern in ("x*", "", "bin/"):
+            self.refuse(f'no output of the log has the pattern "{pattern}"', self.BUILD, "--outputs", "bin/*", pattern)
         self.refuse('is in the artifact; below "none" it has none, but below "bin" and 1 others', self.BUILD, "--below", "none")
         self.refuse('the output "lib/b" doesn\'t lie below "bin"', self.BUILD, "--outputs", "*/b", "--below", "bin")
-        self.refuse("'../x' is no path below", self.BUILD, "--below", "../x")
+        for path in ("../x", "/", "bin//", "/bin"):
+            self.refuse(f"{path!r} is no path below", self.BUILD, "--below", path)
+
+
+class Releases(Case):
+    """One build, and each fault that a folder to be shipped may have: what it gets where patterns say what the release has, and
+    where the folder does."""
+
+    BUILD = log(
+        spawn({"s": "s"}, ["out/mid"]),
+        spawn({"out/mid": "out/mid"}, ["out/rel/a", "out/rel/t"], {"out/rel/a": "a", "out/rel/t/é": "1", "out/rel/t/u/100%": "2"}),
+        spawn({}, ["out/rel/b c"], {"out/rel/b c": "b"}),
+    )
+    MADE = {"a": "a", "b c": "b", "t/é": "1", "t/u/100%": "2"}
+    NO, NOT_MADE, EMPTY = "no root cause root-differs", "no spawn of the log made it", "is empty, and the log has no empty directories"
+
+    def ship(self, contents):
+        for path, content in contents.items():
+            os.makedirs(os.path.dirname(self.at("rel", path)), exist_ok=True)
+            with open(self.at("rel", path), "w", encoding="utf-8") as out:
+                out.write(content)
+            os.chmod(self.at("rel", path), 0o755)
+
+    def expect(self, told, *words):
+        words = ["--below", "out/rel", "--artifact", self.at("rel"), *words]
+        if told in (self.NOT_MADE, self.EMPTY):
+            return self.refuse(told, self.BUILD, *words)
+        self.turn(self.BUILD, *words)
+        self.judge(f"{told} ")
+
+    def test_each_fault(self):
+        rel = self.at("rel")
+        move = os.rename
+        rows = [
+            ("none", "yes", "yes", lambda: None),
+            ("other bytes", self.NO, self.NO, lambda: self.ship({"t/é": "1 "})),
+            ("no bit", self.NO, self.NO, lambda: os.chmod(f"{rel}/b c", 0o644)),
+            ("a file more", self.NO, self.NOT_MADE, lambda: self.ship({"t/.hidden": ""})),
+            ("a file less", self.NO, "yes", lambda: os.remove(f"{rel}/a")),
+            ("a folder less", self.NO, "yes", lambda: shutil.rmtree(f"{rel}/t")),
+            ("a link to the file", self.NO, self.NO, lambda: (move(f"{rel}/a", self.at("a")), os.symlink(self.at("a"), f"{rel}/a"))),
+            ("a link to the folder", self.NO, self.NO, lambda: (move(f"{rel}/t", self.at("t")), os.symlink(self.at("t"), f"{rel}/t"))),
+            ("a folder for a file", self.NO, self.NOT_MADE, lambda: (os.remove(f"{rel}/a"), self.ship({"a/a": "a"}))),
+            ("a file for a folder", self.NO, self.NO, lambda: (shutil.rmtree(f"{rel}/t"), self.ship({"t": "1"}))),
+            ("another case", self.NO, self.NOT_MADE, lambda: move(f"{rel}/a", f"{rel}/A")),
+            ("an escaped name", self.NO, self.NOT_MADE, lambda: move(f"{rel}/b c", f"{rel}/b%20c")),
+            ("an accent apart", self.NO, self.NOT_MADE, lambda: move(f"{rel}/t/é", f"{rel}/t/e\u0301")),
+            ("another place", self.NO, self.NOT_MADE, lambda: move(f"{rel}/t/é", f"{rel}/t/u/é")),
+            ("two exchanged", self.NO, self.NO, lambda: self.ship({"a": "b", "b c": "a"})),
+            ("an empty folder", self.EMPTY, self.EMPTY, lambda: os.mkdir(f"{rel}/t/none")),
+        ]
+        for name, by_patterns, by_folder, spoil in rows:
+            with self.subTest(name):
+                self.ship(self.MADE)
+                spoil()
+                self.expect(by_patterns, "--outputs", "out/rel/*")
+                shutil.rmtree(self.at("asked"), ignore_errors=True)
+                self.expect(by_patterns, "--outputs", *(f"out/rel/{it}" for it in self.MADE))
+                shutil.rmtree(self.at("asked"), ignore_errors=True)
+                self.expect(by_folder)
+            for it in os.listdir(self.folder):
+                (shutil.rmtree if os.path.isdir(self.at(it)) else os.remove)(self.at(it))
 
 
 # A directory of three files that one step makes.

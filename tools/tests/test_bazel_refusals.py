@@ -5,9 +5,11 @@ import contextlib
 import io
 import os
 import shutil
+import subprocess
+import sys
 import unittest
 
-from bazel_case import Case, contents, files, log, spawn
+from bazel_case import TOP, Case, contents, files, log, spawn
 
 import bazel_plan
 import plans
@@ -83,9 +85,14 @@ class Refusals(Case):
             ("it lists the output 'a/../b'", dict(listedOutputs=["a/../b"])),
             ('"a/b", which lies under "a"', dict(listedOutputs=["a", "a/b"])),
             ('its input "a\\nb" has no digest', dict(inputs=[{"path": "a\nb"}])),
+            ('its input "a\\r\\x1b[2Ké\\u2028" has no digest', dict(inputs=[{"path": "a\r\x1b[2Ké\u2028"}])),
             ("its exit code 2147483648 has more than 32 bits", dict(exitCode=2**31)),
             ('its status is "TIMEOUT", and its exit code 0', dict(status="TIMEOUT")),
             ('it has a field "extra"', dict(extra=1)),
+            ("an object with \"nice\", of which this program knows nothing", dict(platform={"nice": 1})),
+            ("an object with \"nice\"", dict(platform={"properties": [{"name": "p", "value": "1", "nice": 1}]})),
+            ("an object with \"nice\"", dict(environmentVariables=[{"name": "A", "value": "1", "nice": 1}])),
+            ("an object with \"nice\"", dict(inputs=[{"path": "a", "digest": {"nice": 1}}])),
             ("not as Bazel writes a spawn", dict(commandArgs=7)),
             ("not as Bazel writes a spawn", dict(timeoutMillis="soon")),
             ("not as Bazel writes a spawn", dict(exitCode=0.5)),
@@ -98,6 +105,10 @@ class Refusals(Case):
             ('its output "a" has no digest', dict(actualOutputs=[{"path": "a", "digest": {"hash": "A" * 64}}])),
             ('its input "a" has a digest of BLAKE3', dict(inputs=[{"path": "a", "digest": {"hashFunctionName": "BLAKE3"}}])),
             ('its input "a" has a field "mode"', dict(inputs=[{"path": "a", "mode": 1}])),
+            ('its input "a" has a digest, and a target as a link', dict(inputs=[dict(files({"a": ""})[0], symlinkTargetPath="b")])),
+            # (what `echo é | iconv -f latin1 -t utf-8` prints, as Bazel 4.2.3 logs the output é)
+            ('its output "\u00c3\u00a9" has another name: each byte', dict(actualOutputs=files({"\u00c3\u00a9": ""}))),
+            ('its input "bazel-out/cfg/a" stands where Bazel maps paths to', dict(inputs=files({"bazel-out/cfg/a": ""}))),
             ('its output "a" is a link whose target', dict(actualOutputs=[{"path": "a", "symlinkTargetPath": "x" * 4097}])),
             ('it made "a/b", and line', dict(actualOutputs=files({"a": "1", "a/b": "2"}))),
         ]
@@ -108,6 +119,8 @@ class Refusals(Case):
     def test_texts_that_are_no_log(self):
         self.refuse("line 2: no JSON object begins here that ends", "\n{")
         self.refuse("line 1: this is no spawn, but another JSON value", "[]")
+        twice = log(spawn({}, ["a"])).replace('"exitCode": 0', '"exitCode": 1, "exitCode": 0')
+        self.refuse('line 2: an object has "exitCode" twice', "\n" + twice)
         self.refuse("no output of the log is in the artifact; Bazel logs what it ran, so `bazel clean` comes before", "")
 
     def test_logs_of_other_kinds(self):
@@ -165,6 +178,20 @@ class Refusals(Case):
         whole = spawn({}, ["a"], {f"a/{it}": "" for it in range(plans.MOST_LINES + 1)})
         self.refuse("put together from 65537 outputs", log(whole), "--outputs", "a/*")
         self.refuse("bytes, and buildcache reads 16777216 at most", log(spawn({}, ["a"], commandArgs=["x" * plans.MOST_BYTES])))
+
+    def test_a_run_that_fails_leaves_no_claim_of_the_one_before(self):
+        for words in (["--outputs", "b"], ["--artifact", self.at("none")], ["--server", "127.0.0.1:1"]):
+            self.turn(log(spawn({}, ["a"])))
+            self.assertTrue(os.path.exists(self.at("asked", "claim")))
+            self.assertIn(self.call(log(spawn({}, ["a"])), *words)[0], (2, 3))
+            self.assertFalse(os.path.exists(self.at("asked", "claim")))
+
+    def test_an_output_that_cannot_be_written(self):
+        self.call(log(spawn({}, ["a"])))
+        tool = os.path.join(TOP, "tools", "bazel_plan.py")
+        with open("/dev/full", "wb") as full:
+            done = subprocess.run([sys.executable, tool, self.at("log"), self.at("asked")], stdout=full, stderr=subprocess.PIPE, text=True)
+        self.assertEqual((done.returncode, done.stderr), (3, "error: [Errno 28] No space left on device\n"))
 
     def test_files_that_cannot_be_read(self):
         for words in (["none", "asked"], [__file__, "asked", "--artifact", "none"]):

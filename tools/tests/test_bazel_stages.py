@@ -192,6 +192,27 @@ class InStages(StagesCase):
             out.write(f"{'0' * 64}/1\n")
         self.judge_stages("^no stage 2 root cause root-differs ", 1)
 
+    def test_a_list_of_stages_that_was_changed_is_refused(self):
+        self.stages("1")
+        rows = {
+            "1 2 3": "the claim of stage 3, .*, isn't the build's, ", "2 3 4": "stage 2: its sources .* aren't the build's",
+            "1 2 4": "stage 4: its sources .* aren't the claim of stage 2", "1 2 2 3 4": "stage 2: its sources .* aren't the claim of stage 2",
+            "1 3 2 4": "stage 3: its sources ", "": "there are no stages", "1 2 3 4 ../asked/4": "'../asked/4' is no folder of a stage",
+            ". 1 2 3 4": "'.' is no folder", "1  2 3 4": "'' is no folder", "1 2\0 3 4": "'2.x00' is no folder", "1 2 3 (": "'.' is no folder", "1 2 3 5": "No such file",
+        }
+        for names, reason in rows.items():
+            with self.subTest(names):
+                stores.write_texts(self.at("asked"), {"stages": names.split(" ") if names else []})
+                self.judge_stages(f"^error: [^\n]*{reason}[^\n]*\n$", 3 if names == "1 2 3 5" else 2)
+        self.stages("1")
+        self.judge_stages("^yes ", 0)
+
+    def test_another_claim_of_the_whole_is_refused(self):
+        for name, reason in (("claim", "the claim of stage 4, .*, isn't the build's, 0"), ("sources", "stage 1: its sources .* aren't the build's")):
+            self.stages("1")
+            stores.write_texts(self.at("asked"), {name: [f"{'0' * 64}/1"]})
+            self.judge_stages(f"^error: {reason}", 2)
+
     def test_a_log_of_many_spawns(self):
         for changed, line in (None, "^yes .* stages 3 steps 60\n$"), (30, "^no stage 2 step make-p0-r30-o cause input-differs .*/r29.o\n$"):
             many_steps.write_log(self.at("many"), 60, changed)
@@ -239,15 +260,63 @@ class InStages(StagesCase):
                 self.call(log(*CHAIN), "--stages", words)
 
 
+class ManyMachines(StagesCase):
+    """The jobs that docs/VERIFY_BAZEL.md shows, with a program that writes down the plan that it is asked about."""
+
+    def setUp(self):
+        super().setUp()
+        self.stages("1", text=log(*CHAIN))
+        stores.write_texts(self.at("bin"), {"buildcache": ["#!/bin/sh", 'while [ "$1" != --plan ]; do shift; done', 'echo "$2" >>ran']})
+        os.chmod(self.at("bin", "buildcache"), 0o755)
+        os.symlink("asked", self.at("evidence"))
+        with open(os.path.join(TOP, "docs", "VERIFY_BAZEL.md"), encoding="utf-8") as it:
+            self.script = it.read().partition("Many machines can share the stages")[2].split("```")[1].removeprefix("sh\n")
+
+    def job(self, number, of):
+        env = {**os.environ, "PATH": f"{self.at('bin')}:{os.environ['PATH']}", "JOB": number, "JOBS": of}
+        return subprocess.run(["sh", "-c", self.script], cwd=self.folder, env=env, stderr=subprocess.DEVNULL).returncode
+
+    def ran(self):
+        if not os.path.exists(self.at("ran")):
+            return []
+        with open(self.at("ran"), encoding="utf-8") as it:
+            return sorted(it.read().split())
+
+    def test_each_stage_is_verified_by_one_job(self):
+        for jobs in ("0", "1", "2"), ("1", "2", "3"):
+            self.assertEqual([self.job(it, "3") for it in jobs], [0, 0, 0])
+            self.assertEqual(self.ran(), [f"evidence/{it}/plan" for it in "1234"])
+            os.remove(self.at("ran"))
+
+    def test_nothing_is_verified_where_something_lacks(self):
+        self.assertNotIn(0, [self.job(*it) for it in (("", "3"), ("1", ""), ("1", "0"), ("x", "3"))])
+        for names in ("1 2 3", "2 3 4", "1 3 4", ""):
+            stores.write_texts(self.at("asked"), {"stages": names.split()})
+            self.assertNotEqual(self.job("1", "3"), 0)
+        for name in ("3/claim", "1/sources", "claim", "sources", "stages"):
+            self.stages("1", text=log(*CHAIN))
+            os.remove(self.at("asked", name))
+            self.assertNotEqual(self.job("1", "3"), 0)
+        self.assertEqual(self.ran(), [])
+
+    def test_a_no_ends_the_job(self):
+        stores.write_texts(self.at("bin"), {"buildcache": ["#!/bin/sh", "echo >>ran", "exit 1"]})
+        self.assertEqual((self.job("0", "1"), self.ran()), (1, []))
+
+
 class OtherPrograms(Case):
     """verify_stages.py where BUILDCACHE names a program that answers by the stage's claim, or none."""
 
+    DIGEST = f"{'0' * 64}/1"
+
     def answer(self, script, *words):
         """What is printed, what is told as an error, and the status, over two stages."""
-        for name in ("1", "2"):
-            os.makedirs(self.at("asked", name), exist_ok=True)
-            stores.write_texts(self.at("asked", name), {"sources": ["x"], "claim": ["x"], "plan": [], "record": []})
+        for name in ("1", "2", "."):
+            stores.write_texts(self.at("asked", name), {"sources": [self.DIGEST], "claim": [self.DIGEST], "plan": [], "record": []})
         stores.write_texts(self.at("asked"), {"stages": ["1", "2"]})
+        return self.ask(script, *words)
+
+    def ask(self, script, *words):
         if script is not None:
             stores.write_texts(self.folder, {"program": ["#!/bin/sh", script]})
             os.chmod(self.at("program"), 0o755)
@@ -261,18 +330,43 @@ class OtherPrograms(Case):
         self.assertEqual(found, ("no stage 1 root cause blob-missing x\n", "note: none\n", 1))
 
     def test_a_fault_is_no_verdict(self):
-        faults = ("exit 1", "exit 3", "exit 101", "kill -9 $$", "echo yes y steps 1")
+        other = f"echo yes {'0' * 64}/2 steps 1"
+        faults = ("exit 0", "echo a >&2; echo b >&2; exit 101", "exit 1", "exit 3", "exit 101", "kill -9 $$", other, f"echo yes {self.DIGEST} steps 1; exit 1")
         for script, status in (("exit 2", 2), *((it, 3) for it in faults)):
             with self.subTest(script):
                 out, err, found = self.answer(script)
                 self.assertEqual((out, err.count("\n"), err[:7], found), ("", 1, "error: ", status))
+
+    def test_files_that_have_no_digest(self):
+        two = f"{self.DIGEST}\n{self.DIGEST}\n"
+        for content, name in (("", "claim"), ("\n", "1/sources"), ("(\n", "2/claim"), (f"{self.DIGEST}\0", "claim"), (two, "1/claim")):
+            with self.subTest(content):
+                self.answer("exit 0")
+                stores.write_file(self.at("asked", name), content.encode())
+                out, err, status = self.ask("exit 0")
+                self.assertEqual((out, err.count("\n"), err[:7], status), ("", 1, "error: ", 2))
+
+    def test_words_of_servers(self):
+        told = [self.answer('echo "error: $*" >&2; exit 2', *words)[1] for words in (["--server", ""], ["--store", "s"], [])]
+        self.assertEqual([" ".join(it.split()[3:6]) for it in told],
+                         ["verify --server --sources", "verify --store s", f"verify --store {self.at('asked', 'store')}"])
+
+    def test_an_output_that_cannot_be_written(self):
+        for script in (f"echo yes {self.DIGEST} steps 1", "echo no root cause blob-missing x; exit 1"):
+            self.answer(script)
+            tool = os.path.join(TOP, "tools", "verify_stages.py")
+            env = {**os.environ, "BUILDCACHE": self.at("program")}
+            with open("/dev/full", "wb") as full:
+                done = subprocess.run([sys.executable, tool, self.at("asked")], stdout=full, stderr=subprocess.PIPE, text=True, env=env)
+            self.assertEqual((done.returncode, done.stderr), (3, "error: [Errno 28] No space left on device\n"))
 
     def test_a_program_that_is_not_there(self):
         out, err, status = self.answer(None)
         self.assertEqual((out, err.count("\n"), err[:7], status), ("", 1, "error: ", 3))
 
     def test_jobs(self):
-        self.assertEqual(self.answer("echo yes x steps 1", "--jobs", "64"), ("yes x stages 2 steps 2\n", "", 0))
+        line = f"yes {self.DIGEST} st"
+        self.assertEqual(self.answer(f"echo {line}eps 1", "--jobs", "64"), (f"{line}ages 2 steps 2\n", "", 0))
         for number in ("0", "65", "x"):
             out, err, status = self.answer("exit 0", "--jobs", number)
             self.assertEqual((out, status), ("", 2))

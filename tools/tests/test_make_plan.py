@@ -10,6 +10,7 @@ import io
 import json
 import os
 import shutil
+import subprocess
 import sys
 import tempfile
 import unittest
@@ -82,6 +83,13 @@ class Plans(Case):
         self.assertEqual((status, out.splitlines()[0]), (0, f"sources {Digest.of(source).text()}"))
         self.assertEqual(out.splitlines()[1:], [f"plan {self.at('asked', 'plan')}", "steps 1"])
 
+    def test_a_folder_without_utf8(self):
+        self.write("steps.json", json.dumps({"steps": [], "root": []}))
+        words = [os.path.join(TOP, "tools", "make_plan.py"), self.at("steps.json"), os.fsencode(self.at("")) + b"\xff"]
+        done = subprocess.run([sys.executable, *words], capture_output=True, env={**os.environ, "PYTHONIOENCODING": "utf-8:strict"})
+        self.assertEqual((done.returncode, done.stderr), (0, b""))
+        self.assertTrue(done.stdout.splitlines()[1].endswith(rb"\udcff/plan"), done.stdout)
+
     def test_lines(self):
         self.assertEqual(self.plan({"steps": [], "root": ["a"]}), ["buildplan 1", "root", "in a src a"])
         self.assertEqual(self.plan({"steps": [], "root": [{"path": ".", "at": "a b"}]}), ["buildplan 1", "root", "in a%20b src ."])
@@ -145,6 +153,16 @@ class Refusals(Case):
         }.items():
             with self.subTest(reason):
                 self.refuse(reason, text)
+
+    def test_texts_that_are_no_json(self):
+        self.refuse("error: ", '{"steps": [], "root": [], "sources": ' + "9" * 5000 + "}")
+        self.refuse("its lists and objects are too deep", "[" * 100000)
+        self.write("steps.json", "")
+        with open(self.at("steps.json"), "wb") as out:
+            out.write(b"\xff")
+        with contextlib.redirect_stderr(io.StringIO()) as err:
+            self.assertEqual(make_plan.main([self.at("steps.json"), self.at("asked")]), 2)
+        self.assertTrue(err.getvalue().startswith(f'error: "{self.at("steps.json")}": this is no JSON: '), err.getvalue())
 
     def test_the_sources(self):
         os.mkfifo(self.at("src", "pipe"))

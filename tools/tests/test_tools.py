@@ -63,6 +63,12 @@ class Tools(unittest.TestCase):
                 self.assertNotIn("Traceback", err)
                 self.assertNotEqual(err, "")
 
+    def test_words_of_which_plans_are_made(self):
+        for tool in ("bazel_plan.py", "make_plan.py", "verify_stages.py"):
+            for words in ([], ["a", "b", "c"], ["a", "b", "--x\n"], ["a", "b", "--store"], ["--store", "a", "--server", "b"]):
+                with self.subTest(f"{tool} {words}"):
+                    self.refuse(2, f"tools/{tool}", *words)
+
     def test_a_program_or_a_file_that_is_not_there(self):
         for tool, words in {**NEEDS_A_PROGRAM, **NEEDS_A_FILE}.items():
             with self.subTest(tool):
