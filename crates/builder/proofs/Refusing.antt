@@ -1,5 +1,5 @@
 -- That a build ran, and what is told of it; and where each step has finished there is a record.
-use Rattle.std.proofs.Common.{◌≡◌, ◌≤◌, ◌+◌, ℕ, ◌*◌, arith, List, [], ◌∷◌, length, Option, Some, None, Result, refl, ap, inr, ◌∙◌}
+use Rattle.std.proofs.Common.{◌≡◌, ◌≤◌, ◌+◌, ℕ, ◌*◌, arith, List, [], ◌∷◌, ◌++◌, length, Option, Some, None, Result, refl, ap, inr, ◌∙◌}
 use Rattle.std.specs.Prelude.{IsSome, option_map}
 use Rattle.std.specs.List.{AllByRecursion}
 use Rattle.std.specs.Result.{IsErrAnd}
@@ -12,9 +12,9 @@ use Rattle.runs.specs.Calls.{HaveAllFinished, IsOpened, kept_digests, recorded_b
 use Rattle.runs.specs.Engine.{FinishedValue, EngineValue}
 use Rattle.tree.specs.Memo.{Asked, Covers, Known, KnowsNothing, Learns}
 use Rattle.tree.proofs.Learning.{nothing_known}
-use Rattle.worker.specs.Calls.{running, IsBuiltWith}
+use Rattle.worker.specs.Calls.{Call, AreTurns, running, IsBuiltWith, came_of}
 use Rattle.worker.specs.Outcomes.{Yields}
-use Rattle.worker.specs.Watching.{FinishInOrder, IsProgress, IsWatched}
+use Rattle.worker.specs.Watching.{FinishInOrder, IsProgress, IsWatched, turns_in}
 use Rattle.worker.proofs.Acts.{led_same, puts_act}
 use Rattle.builder.specs.Built.{AsksRootOnce, Builds, BuiltValue, Ran, Seen}
 use Rattle.builder.specs.Telling.{CanBeTold, IsBuildTold}
@@ -25,8 +25,8 @@ use Rattle.builder.specs.declared.telling.Told.{Told}
 use Rattle.builder.proofs.Serving.{none_finished}
 
 abbrev pub ran_by : (A : Type 0) (y : Yields) (most : ℕ) (plan : PlanValue) (sources : DigestValue) (old new : Seen) (opening ending : Telling) (first last : EngineValue) → Asks (2 * length plan.steps) old.store opening → IsOpened opening.blobs plan sources first
-    → (led : IsBuiltWith A y old.started new.started opening ending most first last) → FinishInOrder [] led.built.led.calls → IsWatched (IsProgress A y ending most first led.built.led.calls) old.heard new.heard → AsksSome ending new.store → AsksRootOnce last ending new.store → Ran A y most plan sources old new first last
-ran_by A y most plan sources old new opening ending first last asked opened led in_order watched later once =
+    → (led : IsBuiltWith A y old.started new.started opening ending most first last) → FinishInOrder [] led.built.led.calls → (whole : List Call) → AreTurns whole → (more : List DigestValue) × (ending.puts ≡ (opening.puts ++ came_of whole) ++ more) → IsWatched (IsProgress A y ending most first led.built.led.calls) (turns_in whole) old.heard new.heard → AsksSome ending new.store → AsksRootOnce last ending new.store → Ran A y most plan sources old new first last
+ran_by A y most plan sources old new opening ending first last asked opened led in_order whole turns put watched later once =
     let same = led_same A y ending most led.built.led in
     record {
       opening = opening;
@@ -34,7 +34,10 @@ ran_by A y most plan sources old new opening ending first last asked opened led 
       opened = opened;
       ending = ending;
       led = led;
+      whole = whole;
+      turns = turns;
       in_order = in_order;
+      put = put;
       of_plan = same.plan ∙ opened.plan;
       of_sources = same.sources ∙ opened.sources;
       own = puts_act A y ending most opening first last led.built (none_finished first opened.none_finished) (ap running opened.none_runs);

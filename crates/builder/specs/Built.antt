@@ -1,5 +1,6 @@
 -- What a build came to.
-use Rattle.std.specs.Prelude.{◌≡◌, ◌+◌, ◌*◌, ◌<◌, ◌≤◌, ℕ, List, [], length, Option, Some, None}
+use Rattle.std.specs.Prelude.{◌≡◌, ◌+◌, ◌*◌, ◌<◌, ◌≤◌, ◌++◌, ℕ, List, [], length, Option, Some}
+use Rattle.std.specs.Prelude.{None}
 use Rattle.std.specs.Prelude.{Result, Ok, Err}
 use Rattle.std.specs.Result.{IsErrAnd}
 use Rattle.std.specs.List.{AllByRecursion}
@@ -24,14 +25,14 @@ use Rattle.tree.specs.Tree.{Tree, Leaf}
 use Rattle.verifier.specs.Build.{Meaning, ActionMeaning, Outcome, Event, State}
 use Rattle.verifier.specs.Verdict.{IsVerdict}
 use Rattle.verifier.specs.declared.verdict.Verdict.TheVariants.{Yes}
-use Rattle.worker.specs.Calls.{Call, AreTurns, IsBuiltWith}
+use Rattle.worker.specs.Calls.{Call, AreTurns, IsBuiltWith, came_of}
 use Rattle.worker.specs.Counted.{Counts}
 use Rattle.worker.specs.Outcomes.{Yields}
 use Rattle.worker.specs.Steps.{IsActionOf}
 use Rattle.worker.specs.Stopped.{IsRefusedBuild}
 use Rattle.worker.specs.Stored.{IsToldOrTree, IsStored}
 use Rattle.worker.specs.Values.{Starts, StartsNone}
-use Rattle.worker.specs.Watching.{FinishInOrder, IsProgress, IsUpToDate, IsWatched}
+use Rattle.worker.specs.Watching.{FinishInOrder, IsProgress, IsUpToDate, IsWatched, turns_in}
 use Rattle.worker.specs.declared.watching.Progress.{Progress}
 use Rattle.builder.specs.Faults.{IsRunnerFailure, IsStoreFailure, fault_of}
 use Rattle.builder.specs.declared.error.BuildPlanError.{BuildPlanError}
@@ -104,7 +105,7 @@ module _ (A : Type 0) (yields : Yields) (most : ℕ) (plan : PlanValue) (sources
   -- A build of the plan: an engine was opened by what the store told as it was asked, for a frame
   -- and a command of each step; calls led from it to another, and then the store was only asked,
   -- for what the root's lines need. The children that were started, the results that were put and
-  -- the numbers that the watcher was told are those of the calls.
+  -- the numbers that the watcher was told, after each whole turn, are those of the calls.
   pub record Ran (first last : EngineValue) : Type 0 where
     pub opening : Telling
     pub asked : Asks (2 * length plan.steps) old.store opening
@@ -112,33 +113,38 @@ module _ (A : Type 0) (yields : Yields) (most : ℕ) (plan : PlanValue) (sources
     -- what the store told after the calls
     pub ending : Telling
     pub led : IsBuiltWith A yields old.started new.started opening ending most first last
-    -- children's jobs finished in the order of their starts
+    -- whole turns were taken; children's jobs finished in the order of their starts, and a result
+    -- was put for each that finished in a whole turn
+    pub whole : List Call
+    pub turns : AreTurns whole
     pub in_order : FinishInOrder [] led.built.led.calls
+    pub put : (more : List DigestValue) × (ending.puts ≡ (opening.puts ++ came_of whole) ++ more)
     pub of_plan : last.plan ≡ plan
     pub of_sources : last.sources ≡ sources
     -- each result was put under the action of a step of the plan
     pub own : AllByRecursion (λ d. (i : ℕ) × IsActionOf A ending.blobs last i d) led.built.puts.put
     pub watched : IsWatched (IsProgress A yields ending most first led.built.led.calls)
-        old.heard new.heard
+        (turns_in whole) old.heard new.heard
     pub later : AsksSome ending new.store
     pub once : AsksRootOnce last ending new.store
 
   -- A build came to its root: in turns each step has finished, and the store has what it came to.
   -- The root and the record are answered yes by what the store told, and the watcher was told of
   -- the end.
-  pub record ReachesRoot (first last : EngineValue) (calls : List Call) (ending : Telling)
-      (b : BuiltValue) : Type 0 where
-    pub turns : AreTurns calls
+  pub record ReachesRoot (first last : EngineValue) (ran : Ran first last) (b : BuiltValue)
+      : Type 0 where
+    pub all : ran.led.built.led.calls ≡ ran.whole
     pub end : IsEnd A last new.store b
     pub stored : IsStored new.store last
     pub answered : IsAnsweredYes A new.store last b
-    pub heard : IsUpToDate A yields ending most first last calls old.heard new.heard
+    pub heard : IsUpToDate A yields ran.ending most first last ran.led.built.led.calls
+        old.heard new.heard
     pub unfailed : new.failed ≡ old.failed
 
   -- in turns each step has finished, and the root is refused
-  pub record RefusesRoot (last : EngineValue) (calls : List Call) (error : RunsError A)
+  pub record RefusesRoot (first last : EngineValue) (ran : Ran first last) (error : RunsError A)
       : Type 0 where
-    pub turns : AreTurns calls
+    pub all : ran.led.built.led.calls ≡ ran.whole
     pub complete : HaveAllFinished last
     pub stands : IsRootFault new.store.blobs last error
     pub unfailed : new.failed ≡ old.failed
@@ -154,11 +160,11 @@ module _ (A : Type 0) (yields : Yields) (most : ℕ) (plan : PlanValue) (sources
   -- what a build came to: its root, or the refusal of a step, met by its own calls, or of the root
   abbrev pub EndsWith : (first last : EngineValue) → Ran first last
       → Result BuiltValue (BuildPlanError A) → Type 0
-  EndsWith first last ran (Ok b) = ReachesRoot first last ran.led.built.led.calls ran.ending b
+  EndsWith first last ran (Ok b) = ReachesRoot first last ran b
   EndsWith first last ran (Err (Opening error)) = ⊥
-  EndsWith first last ran (Err (Step error)) = IsRefusedBuild A yields new.store most
-      ran.led.built.led.calls first last error.step error.refusal
-  EndsWith first last ran (Err (Root error)) = RefusesRoot last ran.led.built.led.calls error
+  EndsWith first last ran (Err (Step error)) = IsRefusedBuild A yields ran.opening new.store most
+      ran.whole ran.led.built.led.calls first last error.step error.refusal
+  EndsWith first last ran (Err (Root error)) = RefusesRoot first last ran error
 
   -- what came of the plan: it was refused, or one build of it ran and came to this
   abbrev pub Builds : Result BuiltValue (BuildPlanError A) → Type 0

@@ -1,5 +1,5 @@
 -- Why a folder isn't read, or an output isn't added.
-use Rattle.std.proofs.Common.{◌≡◌, ℕ, zero, suc, ◌+◌, ◌<◌, ◌≤◌, length, take, get_or, List, [], ◌∷◌, ◌++◌, sym, subst, ◌∙◌, ap, refl, arith, inl, inr, Some, length-append}
+use Rattle.std.proofs.Common.{◌≡◌, ℕ, zero, suc, ◌<◌, ◌≤◌, length, take, get_or, List, [], ◌∷◌, ◌++◌, sym, subst, ◌∙◌, ap, refl, arith, inl, inr, Some, length-append}
 use Rattle.std.specs.Prelude.{◌⊎◌, Contains, map}
 use Rattle.std.specs.List.{AllByRecursion}
 use Rattle.std.specs.declared.vec.Vec.{Vec}
@@ -12,7 +12,7 @@ use Rattle.actions.proofs.TreeLookups.{all_at}
 use Rattle.messages.specs.Directory.{directory_bytes}
 use Rattle.messages.specs.DirectoryRules.{DirectoryValue, IsDirectory}
 use Rattle.messages.specs.Gives.{FailsUnlessMemory}
-use Rattle.messages.specs.Path.{Overlap, AreApart}
+use Rattle.messages.specs.Path.{Overlap, AreApart, path_text}
 use Rattle.messages.specs.Tree.{IsTree, tree_with}
 use Rattle.messages.specs.declared.error.MessageError.{MessageError}
 use Rattle.std.specs.Prelude.{Ok}
@@ -27,8 +27,9 @@ use Rattle.tree.proofs.TreeDigests.{valid_digests}
 use Rattle.tree.specs.Folded.{items_of}
 use Rattle.processes.specs.declared.trouble.Trouble.{Trouble}
 use Rattle.processes.specs.declared.trouble.Trouble.TheVariants as troubles
-use Rattle.processes.specs.Collected.{IsListedTwice, IsUnread, IsUnreadFolder, MakesNoTree}
-use Rattle.processes.specs.Walking.{AreOfNone, AreOfNoTree, IsOfAdding, IsOfMessage, IsUnreadOutput, TellsTrouble}
+use Rattle.processes.specs.Collected.{IsListedTwice, IsUnread, IsUnreadAt, IsUnwalked, MakesNoTree, WasCollected}
+use Rattle.processes.specs.Laying.{place_in}
+use Rattle.processes.specs.Walking.{AreOfNone, AreOfNoTree, IsOfAdding, IsOfMessage, IsOfSystem, IsUnreadOutput, TellsTrouble}
 use Rattle.processes.specs.Workshop.{Works}
 use Rattle.processes.proofs.Lists.{around}
 use Rattle.processes.proofs.Walks.{IsSoFar}
@@ -44,10 +45,10 @@ module _ {R C E : Type 0} (works : Works R C E) (ended : E) where
       absurd (let both = sym leaf ∙ directory in cc)
 
   pub listed_twice : {X : Type 0} (f : X → Name) (place : List ℕ) (path : List Name) (names : List X) (i : ℕ) (x : X) → i < length names → x ≡ get_or names i x → works.lists ended place (Some (map f names))
-      → (old was : FlatValue) (before after : List (List ℕ)) → IsSoFar works ended place path (map f (take i names)) old was before after → IsTaken was (path ++ f x ∷ []) → IsListedTwice works ended
+      → (old was : FlatValue) (before after : List (List ℕ)) → IsSoFar works ended place path (map f (take i names)) old was before after → IsTaken was (path ++ f x ∷ []) → IsListedTwice works ended place
   listed_twice f place path names i x lt is listed old was before after s taken =
       let whole = around names i x lt is in record {
-        place = place;
+        path = [];
         before = map f (take i names);
         name = f x;
         after = map f whole.0;
@@ -55,13 +56,52 @@ module _ {R C E : Type 0} (works : Works R C E) (ended : E) where
         again = taken_seen place path (f x) (map f (take i names)) old was before after s taken;
       }
 
-  pub add_unread : {A : Type 0} (e : AddError A) (t : Trouble) (p : List Name) (Taken : Type 0) → IsOfAdding e t → IsOverlapAt e p Taken → (Taken → IsListedTwice works ended) → TellsTrouble (IsUnreadFolder works ended) t
-  add_unread adding.Memory t p Taken is over twice = subst (TellsTrouble (IsUnreadFolder works ended)) (sym is) tt
-  add_unread (adding.Overlap path) t p Taken (error, kind, is) over twice = subst (TellsTrouble (IsUnreadFolder works ended)) (sym is) (inr (kind, inl (twice over.1)))
+  module _ (place : List ℕ) where
+    -- a walk of the place ends, or what stands there isn't read
+    abbrev Unwalked : Trouble → Type 0
+    Unwalked t = TellsTrouble (λ error. IsUnwalked works ended error place) t
 
-  pub output_unread : {A : Type 0} (e : AddError A) (t : Trouble) (o : OutcomeValue) (p path : List Name) → p ≡ path → IsOfAdding e t → ExplainsAdd o p e → TellsTrouble (IsUnreadOutput works ended o path) t
-  output_unread adding.Memory t o p path same is why = subst (TellsTrouble (IsUnreadOutput works ended o path)) (sym is) tt
-  output_unread (adding.Overlap q) t o p path same (error, kind, is) why = subst (TellsTrouble (IsUnreadOutput works ended o path)) (sym is) (inr (kind, subst (LeavesNoRoom o) same why.1))
+    abbrev Unread : Trouble → Type 0
+    Unread t = TellsTrouble (λ error. IsUnreadAt works ended error place) t
+
+    pub add_unread : {A : Type 0} (e : AddError A) (t : Trouble) (p : List Name) (Taken : Type 0) → IsOfAdding e t → IsOverlapAt e p Taken → (Taken → IsListedTwice works ended place) → Unwalked t
+    add_unread adding.Memory t p Taken is over twice = subst Unwalked (sym is) tt
+    add_unread (adding.Overlap path) t p Taken (error, kind, is) over twice = subst Unwalked (sym is) (inr (kind, twice over.1))
+
+    pub output_unread : {A : Type 0} (e : AddError A) (t : Trouble) (o : OutcomeValue) (p path : List Name) → p ≡ path → IsOfAdding e t → ExplainsAdd o p e → TellsTrouble (IsUnreadOutput works ended place o path) t
+    output_unread adding.Memory t o p path same is why = subst (TellsTrouble (IsUnreadOutput works ended place o path)) (sym is) tt
+    output_unread (adding.Overlap q) t o p path same (error, kind, is) why = subst (TellsTrouble (IsUnreadOutput works ended place o path)) (sym is) (inr (kind, subst (LeavesNoRoom o) same why.1))
+
+    -- a call that looks at the place was refused
+    pub here_unwalked : (t : Trouble) → TellsTrouble (works.unread ended place) t → Unwalked t
+    here_unwalked (troubles.Unread error) h = inl ([], h)
+    here_unwalked troubles.NoOutput h = tt
+    here_unwalked troubles.Memory h = tt
+
+    -- or one that looks at what has this name there
+    named_unwalked : (n : Name) (error : Error) → IsUnwalked works ended error (place_in place n) → IsUnwalked works ended error place
+    named_unwalked n error (inl (path, h)) = inl (n ∷ path, h)
+    named_unwalked n error (inr (kind, twice)) = inr (kind, record { path = n ∷ twice.path; before = twice.before; name = twice.name; after = twice.after; listed = twice.listed; again = twice.again })
+
+    pub below_unwalked : (n : Name) (t : Trouble) → TellsTrouble (λ error. IsUnwalked works ended error (place_in place n)) t → Unwalked t
+    below_unwalked n (troubles.Unread error) h = named_unwalked n error h
+    below_unwalked n troubles.NoOutput h = tt
+    below_unwalked n troubles.Memory h = tt
+
+    pub walk_unread : (t : Trouble) → Unwalked t → Unread t
+    walk_unread (troubles.Unread error) h = inl h
+    walk_unread troubles.NoOutput h = tt
+    walk_unread troubles.Memory h = tt
+
+    pub unread_added : (o : OutcomeValue) (path : List Name) (t : Trouble) → Unread t → TellsTrouble (IsUnreadOutput works ended place o path) t
+    unread_added o path (troubles.Unread error) h = inl h
+    unread_added o path troubles.NoOutput h = tt
+    unread_added o path troubles.Memory h = tt
+
+-- a system's error, of which this is so
+pub system_tells : (Fails : Error → Type 0) (error : Error) (t : Trouble) → IsOfSystem error t → Fails error → TellsTrouble Fails t
+system_tells Fails error t (inl memory) h = subst (TellsTrouble Fails) (sym memory.1) tt
+system_tells Fails error t (inr other) h = subst (TellsTrouble Fails) (sym other.1) h
 
 -- ---- encodings of no Directories
 
@@ -116,14 +156,16 @@ not_apart (p ∷ ps) (suc i) path other lt is (zero, less, at) over apart =
     all_at (λ q. Overlap p q → ⊥) ps path apart.0 (i, omega (arith, lt), sym is) (subst (λ q. Overlap q path) (sym at) over)
 not_apart (p ∷ ps) (suc i) path other lt is (suc k, less, at) over apart = not_apart ps i path other (omega (arith, lt)) is (k, omega (arith, less), at) over apart.1
 
-pub unread_output : {R C E : Type 0} (works : Works R C E) (ended : E) (paths : List (List Name)) (i : ℕ) (path : List Name) (o : OutcomeValue) (error : Error) → i < length paths → path ≡ get_or paths i path
-    → ((q : List Name) → Contains (paths_of_outputs o.outputs) q → Contains (take i paths) q) → IsUnreadOutput works ended o path error → IsUnread works ended paths error
-unread_output works ended paths i path o error lt is among (inl folder) = inl folder
-unread_output works ended paths i path o error lt is among (inr (kind, (other, there, over))) = inr (kind, not_apart paths i path other lt is (among other there) over)
+pub unread_output : {R C E : Type 0} (works : Works R C E) (ended : E) (folder place : List ℕ) (paths : List (List Name)) (i : ℕ) (path : List Name) (o : OutcomeValue) (error : Error) → i < length paths → path ≡ get_or paths i path → place ≡ place_in folder (path_text path)
+    → AllByRecursion (WasCollected works ended folder) (take i paths) → ((q : List Name) → Contains (paths_of_outputs o.outputs) q → Contains (take i paths) q) → IsUnreadOutput works ended place o path error → IsUnread works ended folder paths error
+unread_output works ended folder place paths i path o error lt is at collected among (inl unread) =
+    let whole = around paths i path lt is in
+    inl (path, record { before = take i paths; after = whole.0; whole = whole.1; collected = collected; is = subst (IsUnreadAt works ended error) at unread })
+unread_output works ended folder place paths i path o error lt is at collected among (inr (kind, (other, there, over))) = inr (kind, not_apart paths i path other lt is (among other there) over)
 
 -- what was listed makes no Tree
-pub tree_unread : {R C E : Type 0} (works : Works R C E) (ended : E) (t r : Trouble) (bs : List (List ℕ)) → (t ≡ troubles.Memory) ⊎ AreOfNoTree bs
-    → (r ≡ troubles.Memory) ⊎ ((t ≡ troubles.Memory → ⊥) × ((error : Error) × (error_kind error ≡ InvalidData) × (r ≡ troubles.Unread error))) → (AreOfNoTree bs → MakesNoTree works ended) → TellsTrouble (IsUnreadFolder works ended) r
-tree_unread works ended t r bs none (inl memory) makes = subst (TellsTrouble (IsUnreadFolder works ended)) (sym memory) tt
-tree_unread works ended t r bs (inl memory) (inr other) makes = absurd (other.0 memory)
-tree_unread works ended t r bs (inr none) (inr (other, (error, kind, is))) makes = subst (TellsTrouble (IsUnreadFolder works ended)) (sym is) (inr (kind, inr (makes none)))
+pub tree_unread : {R C E : Type 0} (works : Works R C E) (ended : E) (place : List ℕ) (t r : Trouble) (bs : List (List ℕ)) → (t ≡ troubles.Memory) ⊎ AreOfNoTree bs
+    → (r ≡ troubles.Memory) ⊎ ((t ≡ troubles.Memory → ⊥) × ((error : Error) × (error_kind error ≡ InvalidData) × (r ≡ troubles.Unread error))) → (AreOfNoTree bs → MakesNoTree works ended place) → TellsTrouble (λ error. IsUnreadAt works ended error place) r
+tree_unread works ended place t r bs none (inl memory) makes = subst (TellsTrouble (λ error. IsUnreadAt works ended error place)) (sym memory) tt
+tree_unread works ended place t r bs (inl memory) (inr other) makes = absurd (other.0 memory)
+tree_unread works ended place t r bs (inr none) (inr (other, (error, kind, is))) makes = subst (TellsTrouble (λ error. IsUnreadAt works ended error place)) (sym is) (inr (kind, makes none))

@@ -161,45 +161,59 @@ WasCollected works ended folder q =
     ⊎ ((o : OutputValue) × (blobs : List (List ℕ))
     × IsOutputAt works ended (place_in folder (path_text q)) o blobs)
 
--- the first of the paths below a folder at which what stood is no output
-pub record IsFirstBad {R C E : Type 0} (works : Works R C E) (ended : E) (folder : List ℕ)
-    (paths : List (List (List ℕ))) (path : List (List ℕ)) : Type 0 where
+-- This is so at one of the paths below a folder, and at each before it nothing stood, or an output.
+pub record IsFirst {R C E : Type 0} (works : Works R C E) (ended : E) (folder : List ℕ)
+    (paths : List (List (List ℕ))) (Is : List ℕ → Type 0) (path : List (List ℕ)) : Type 0 where
   pub before : List (List (List ℕ))
   pub after : List (List (List ℕ))
   pub whole : paths ≡ before ++ path ∷ after
   pub collected : AllByRecursion (WasCollected works ended folder) before
-  pub bad : HasNoOutput works ended (place_in folder (path_text path))
+  pub is : Is (place_in folder (path_text path))
+
+abbrev pub IsFirstBad : {R C E : Type 0} → Works R C E → E → List ℕ → List (List (List ℕ))
+    → List (List ℕ) → Type 0
+IsFirstBad works ended folder paths path =
+    IsFirst works ended folder paths (HasNoOutput works ended) path
 
 -- ---- why nothing is collected
 
--- a folder was listed with a name twice
-pub record IsListedTwice {R C E : Type 0} (works : Works R C E) (ended : E) : Type 0 where
-  pub place : List ℕ
+-- at a place or below it a folder was listed with a name twice
+pub record IsListedTwice {R C E : Type 0} (works : Works R C E) (ended : E) (place : List ℕ)
+    : Type 0 where
+  pub path : List Name
   pub before : List Name
   pub name : Name
   pub after : List Name
-  pub listed : works.lists ended place (Some (before ++ name ∷ after))
+  pub listed : works.lists ended (place_at place path) (Some (before ++ name ∷ after))
   pub again : Contains before name
 
 -- the folder at a place was read whole, and its Directories are those of no Tree
-pub record MakesNoTree {R C E : Type 0} (works : Works R C E) (ended : E) : Type 0 where
-  pub place : List ℕ
+pub record MakesNoTree {R C E : Type 0} (works : Works R C E) (ended : E) (place : List ℕ)
+    : Type 0 where
   pub blobs : List (List ℕ)
   pub tree : Tree NodeValue
   pub ordered : IsOrdered tree
   pub folder : IsFolderAt works ended blobs place (stands_at tree)
   pub none : (m : TreeValue) → IsTree m → directories_of m ≡ first_visits tree → ⊥
 
--- The error by which a folder isn't read: a call that looks was refused by it; or what was listed
--- makes no Tree.
-abbrev pub IsUnreadFolder : {R C E : Type 0} → Works R C E → E → Error → Type 0
-IsUnreadFolder works ended error = works.unread ended error
-    ⊎ ((error_kind error ≡ InvalidData) × (IsListedTwice works ended ⊎ MakesNoTree works ended))
+-- The error by which a walk below a place ends: a call that looks there was refused by it, or a name
+-- was listed twice.
+abbrev pub IsUnwalked : {R C E : Type 0} → Works R C E → E → Error → List ℕ → Type 0
+IsUnwalked works ended error place =
+    ((path : List Name) × works.unread ended (place_at place path) error)
+    ⊎ ((error_kind error ≡ InvalidData) × IsListedTwice works ended place)
 
--- The error by which nothing is collected at paths: that of a file or a folder; or the paths
--- overlap, as those of no command do.
-abbrev pub IsUnread : {R C E : Type 0} → Works R C E → E → List (List (List ℕ)) → Error → Type 0
-IsUnread works ended paths error = IsUnreadFolder works ended error
+-- The error by which what stands at a place isn't read: a walk ends by it, or makes no Tree.
+abbrev pub IsUnreadAt : {R C E : Type 0} → Works R C E → E → Error → List ℕ → Type 0
+IsUnreadAt works ended error place = IsUnwalked works ended error place
+    ⊎ ((error_kind error ≡ InvalidData) × MakesNoTree works ended place)
+
+-- The error by which nothing is collected at paths below a folder: that of the first of them that
+-- isn't read; or the paths overlap, as those of no command do.
+abbrev pub IsUnread : {R C E : Type 0} → Works R C E → E → List ℕ → List (List (List ℕ)) → Error
+    → Type 0
+IsUnread works ended folder paths error =
+    ((path : List (List ℕ)) × IsFirst works ended folder paths (IsUnreadAt works ended error) path)
     ⊎ ((error_kind error ≡ InvalidData) × (AreApart paths → ⊥))
 
 -- ---- one path more

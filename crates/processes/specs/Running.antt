@@ -57,7 +57,7 @@ WasLeft works end start paths code (made p) =
     (p.outcome.exit_code ≡ code) × AreCollected works end start paths p.outcome p.blobs
 WasLeft works end start paths code (bad_at path) = IsFirstBad works end start paths path
 WasLeft works end start paths code (failed program (Unread error)) =
-    IsUnread works end paths error
+    IsUnread works end start paths error
 WasLeft works end start paths code (failed program cause) = ⊥
 
 -- A child ended so: it was waited for and ended with a code, and this stood after that at the paths

@@ -17,7 +17,7 @@ use Rattle.worker.specs.declared.runner.RunError.TheVariants as children
 use Rattle.processes.specs.declared.trouble.Trouble.{Trouble}
 use Rattle.processes.specs.declared.trouble.Trouble.TheVariants.{Unread, NoOutput, Memory}
 use Rattle.processes.specs.Workshop.{Works}
-use Rattle.processes.specs.Collected.{IsContentAt, IsFolderAt, IsUnreadFolder}
+use Rattle.processes.specs.Collected.{IsContentAt, IsFolderAt, IsUnreadAt}
 use Rattle.std.specs.List.{AllByRecursion}
 use Rattle.messages.specs.Directory.{directory_bytes}
 use Rattle.messages.specs.DirectoryRules.{DirectoryValue, IsDirectory}
@@ -77,10 +77,10 @@ abbrev pub TellsTrouble : (Error → Type 0) → Trouble → Type 0
 TellsTrouble Fails (Unread error) = Fails error
 TellsTrouble Fails t = Unit {0}
 
--- the error by which no output of a path is added to an outcome
-abbrev pub IsUnreadOutput : {R C E : Type 0} → Works R C E → E → OutcomeValue → List Name → Error
-    → Type 0
-IsUnreadOutput works ended o path error = IsUnreadFolder works ended error
+-- the error by which what stands at a place isn't added to an outcome, as the output of a path
+abbrev pub IsUnreadOutput : {R C E : Type 0} → Works R C E → E → List ℕ → OutcomeValue → List Name
+    → Error → Type 0
+IsUnreadOutput works ended place o path error = IsUnreadAt works ended error place
     ⊎ ((error_kind error ≡ InvalidData) × LeavesNoRoom o path)
 
 -- the bytes are the encodings of no Directories

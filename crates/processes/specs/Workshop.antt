@@ -43,8 +43,8 @@ pub record Works (Room Child Ended : Type 0) : Type 1 where
   pub unstarted : Error → Type 0
   -- the call that waits for the child was
   pub unwaited : Child → Error → Type 0
-  -- after its end a call that looks at what it left was
-  pub unread : Ended → Error → Type 0
+  -- after its end a call that looks at the path was
+  pub unread : Ended → List ℕ → Error → Type 0
 
 -- what the room has becomes this
 abbrev pub Becomes : {R C E : Type 0} → Works R C E → R → R → (RoomValue → RoomValue) → Type 0
@@ -67,5 +67,5 @@ unknown_works = record {
   holds = λ _ _ _. Unit {0};
   unstarted = λ _. Unit {0};
   unwaited = λ _ _. Unit {0};
-  unread = λ _ _. Unit {0};
+  unread = λ _ _ _. Unit {0};
 }

@@ -32,7 +32,7 @@ fn take_output<A: Allocator + Copy, W: Workshop>(
         (items_of blobs.old.items) outcome.new (items_of blobs.new.items)) }
     ensures bad { IsErrOf result Trouble.NoOutput → HasNoOutput W.works ended.now place.now }
     ensures failed { IfErr result
-        (TellsTrouble (IsUnreadOutput W.works ended.now outcome.old path.now)) }
+        (TellsTrouble (IsUnreadOutput W.works ended.now place.now outcome.old path.now)) }
 {
     let output = match workshop.look(ended, place)? {
         Standing::Nothing => return Ok(()),
@@ -67,7 +67,7 @@ pub(crate) fn collect<A: Allocator + Copy, W: Workshop>(
         → IsFirstBad W.works ended.now folder.now paths.now path }
     ensures failed { IfErr result (TellsRunFailure (λ e. (error : Error)
         × (e ≡ failed (string_bytes program) (Unread error))
-        × IsUnread W.works ended.now paths.now error)) }
+        × IsUnread W.works ended.now folder.now paths.now error)) }
 {
     let mut outcome = Outcome::new(alloc, exit_code);
     let mut blobs = Vec::new(alloc);

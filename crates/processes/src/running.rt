@@ -275,7 +275,8 @@ impl<W: Workshop + Drop, A: Allocator + Copy> Runner<A> for ProcessRunner<W, A> 
         ensures device { IfErr result (TellsRunFailure (may_come W.works job)) }
         ensures counted { Counts (failures_of self.old) (failures_of self.new)
             (IsErrAnd result IsFailure) }
-        // A wait uses no number.
+        // The process is waited for, whatever is answered. A wait uses no number.
+        ensures waited { W.works.waited (process_in job) }
         ensures unused { next_of self.new ≡ next_of self.old }
     {
         let ProcessJob { started, program } = job;

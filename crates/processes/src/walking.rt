@@ -11,7 +11,7 @@ ghost use Rattle.messages.specs.Name.{IsName};
 ghost use Rattle.tree.specs.Lookup.{names_in};
 ghost use Rattle.worker.specs.Outcomes.{directories_of};
 ghost use Rattle.tree.specs.Folded.{items_of};
-ghost use Rattle.processes.specs.Collected.{IsBadFolder, IsTreeAt, IsUnreadFolder};
+ghost use Rattle.processes.specs.Collected.{IsBadFolder, IsTreeAt, IsUnreadAt, IsUnwalked};
 ghost use Rattle.processes.specs.Walking.{AreOfNone, AreOfNoTree, IsBare, IsWalked, TellsTrouble};
 
 use crate::laying::place_in;
@@ -38,7 +38,7 @@ pub(crate) fn keep_file<A: Allocator + Copy, W: Workshop>(
     ensures kept { IfOk result (λ d. (b : List ℕ) × W.works.holds ended.now place.now (Some b)
         × (d ≡ digest_of b) × (items_of blobs.new.items ≡ items_of blobs.old.items ++ b ∷ [])) }
     ensures bad { IsErrOf result Trouble.NoOutput → W.works.holds ended.now place.now None }
-    ensures failed { IfErr result (TellsTrouble (W.works.unread ended.now)) }
+    ensures failed { IfErr result (TellsTrouble (W.works.unread ended.now place.now)) }
 {
     let Some(bytes) = workshop.read(alloc, ended, place)? else {
         return Err(Trouble::NoOutput);
@@ -77,7 +77,7 @@ fn list_names<A: Allocator + Copy, W: Workshop>(
     ensures listed { IfOk result (λ names.
         W.works.lists ended.now place.now (Some (map string_bytes names.items))) }
     ensures bad { IsErrOf result Trouble.NoOutput → W.works.lists ended.now place.now None }
-    ensures failed { IfErr result (TellsTrouble (W.works.unread ended.now)) }
+    ensures failed { IfErr result (TellsTrouble (W.works.unread ended.now place.now)) }
 {
     match workshop.list(alloc, ended, place)? {
         Some(names) => Ok(names),
@@ -103,7 +103,8 @@ fn walk<A: Allocator + Copy, W: Workshop>(
         tree.old tree.new (items_of blobs.old.items) (items_of blobs.new.items)) }
     ensures bad { IsErrOf result Trouble.NoOutput
         → IsBadFolder W.works ended.now most place.now }
-    ensures failed { IfErr result (TellsTrouble (IsUnreadFolder W.works ended.now)) }
+    ensures failed { IfErr result
+        (TellsTrouble (λ error. IsUnwalked W.works ended.now error place.now)) }
 {
     let names = list_names(alloc, workshop, ended, place)?;
     for name in &names {
@@ -196,7 +197,8 @@ pub(crate) fn keep_folder<A: Allocator + Copy, W: Workshop>(
         × IsTreeAt W.works ended.now place.now t own
         × (items_of blobs.new.items ≡ items_of blobs.old.items ++ own)) }
     ensures bad { IsErrOf result Trouble.NoOutput → IsBadFolder W.works ended.now 64 place.now }
-    ensures failed { IfErr result (TellsTrouble (IsUnreadFolder W.works ended.now)) }
+    ensures failed { IfErr result
+        (TellsTrouble (λ error. IsUnreadAt W.works ended.now error place.now)) }
 {
     let mut tree = FlatTree::new(alloc);
     let top = None;

@@ -77,7 +77,7 @@ pub trait Workshop {
     /// What stands at a path.
     fn look(&self, ended: &Self::Ended, path: &str) -> io::Result<Standing>
         ensures told { IfOk result (works.stands ended.now path.now) }
-        ensures failed { IfErr result (works.unread ended.now) };
+        ensures failed { IfErr result (works.unread ended.now path.now) };
 
     /// The names in a folder. `None` where one is no UTF-8.
     fn list<A: Allocator + Copy>(
@@ -88,7 +88,7 @@ pub trait Workshop {
     ) -> io::Result<Option<Vec<String<A>, A>>>
         ensures told { IfOk result (λ names. works.lists ended.now path.now
             (option_map (λ v. map string_bytes v.items) names)) }
-        ensures failed { IfErr result (works.unread ended.now) };
+        ensures failed { IfErr result (works.unread ended.now path.now) };
 
     /// The bytes of a file. `None` where they are more than a blob has.
     fn read<A: Allocator>(
@@ -99,5 +99,5 @@ pub trait Workshop {
     ) -> io::Result<Option<Vec<u8, A>>>
         ensures told { IfOk result
             (λ found. works.holds ended.now path.now (option_map (λ b. b.items) found)) }
-        ensures failed { IfErr result (works.unread ended.now) };
+        ensures failed { IfErr result (works.unread ended.now path.now) };
 }

@@ -3,6 +3,7 @@ use Rattle.std.proofs.Common.{◌≡◌, ℕ, ◌+◌, ◌<◌, ◌≤◌, true,
 use Rattle.std.specs.Prelude.{◌⊎◌, IsSome, slice_get}
 use Rattle.std.proofs.lemmas.List.{map-append}
 use Rattle.blob_digest.specs.Digest.{DigestValue}
+use Rattle.action_messages.specs.Command.{CommandValue}
 use Rattle.actions.specs.Outcome.{OutcomeValue}
 use Rattle.blob_source.specs.Source.{Blobs, Telling}
 use Rattle.blob_source.specs.Sink.{KeepsRight}
@@ -17,7 +18,7 @@ use Rattle.worker.specs.Values.{EndValue, made, StartValue, Starts, StartsOne, S
 use Rattle.worker.specs.Stored.{IsKept}
 use Rattle.worker.specs.Storing.{HasAt, IsKeptBut}
 use Rattle.worker.specs.Outcomes.{Yields, YieldsNoMore, IsYielded}
-use Rattle.worker.specs.Calls.{running, Call, started, launched, ran, taken, lost, CameTo, HasChild, children_of, IsResultFor, HasChildsResult, WasStarted, FinishedByChild, IsLost, Does, IsLeastStartable, IsNext, Leads, IsLed, ArePutFor, PutsOf, TakesRecorded, IsBuiltWith}
+use Rattle.worker.specs.Calls.{running, Call, started, launched, ran, taken, lost, CameTo, came_of, HasChild, children_of, IsResultFor, HasChildsResult, WasStarted, FinishedByChild, IsLost, Does, IsLeastStartable, IsNext, Leads, IsLed, ArePutFor, PutsOf, LeavesNone, TakesRecorded, IsBuiltWith}
 use Rattle.worker.specs.Going.{HasNoneToTake, IsJobOf, AreJobsOf, IsOwnJob, IsGoing, HasChildFor, IsBegun, IsLaunched, kept_job, EndedWell, GoesOnBy, IsTurn, AreOneTurn, jobs_with, one_if, taken_in}
 use Rattle.worker.specs.Watching.{FinishInOrder, taken_count, without_number, jobs_after}
 use Rattle.std.specs.List.{AllByRecursion}
@@ -161,6 +162,14 @@ puts_moved s t u cs more p m = record {
         next (inl is) = inl is
         next (inr h) = inr (childs_behind cs more u.results d h)
 
+pub came_join : (cs more : List Call) → came_of (cs ++ more) ≡ came_of cs ++ came_of more
+came_join [] more = refl
+came_join (ran id d v ∷ cs) more = ap (λ ds. d ∷ ds) (came_join cs more)
+came_join (started i id ∷ cs) more = came_join cs more
+came_join (launched id d x ∷ cs) more = came_join cs more
+came_join (taken id d v ∷ cs) more = came_join cs more
+came_join (lost id ∷ cs) more = came_join cs more
+
 -- a child's job ended, well or lost
 abbrev pub Ends : {J : Type 0} → (J → EndValue → Type 0) → Telling → Telling → Child J → EngineValue → EngineValue → Type 0
 Ends may s t c old new = EndedWell may s t c old new ⊎ (IsLost c.id old new × IsKept s t)
@@ -201,16 +210,20 @@ none_starts from to f before h = subst to (sym (append-nil before)) (f before h)
 abbrev HadNone : Telling → List Call → Type 0
 HadNone t more = (d : DigestValue) (x : StartValue) → HasChild more d x → HasNoneToTake t d x.command
 
+-- there was nothing to take before, where there is none now
+pub left_none : (s t : Telling) (cs : List Call) → KeepsRight s.blobs t.blobs → PutsOf cs s t → (d : DigestValue) (c : CommandValue) → HasNoneToTake t d c → LeavesNone cs s d c
+left_none s t cs keeps p d c none v held fits = by (p.others d held.bytes held.held)
+  where
+    by : (t.results d ≡ Some held.bytes) ⊎ HasChildsResult cs t.results d → (w : OutcomeValue) × CameTo cs d w
+    by (inl at) = absurd (none v (record { bytes = held.bytes; held = at; result = held.result; reads = held.reads; recorded = recorded_still keeps held.result v held.recorded }) fits)
+    by (inr was) = (was.outcome, was.came)
+
 takes_moved : (s t : Telling) (cs more : List Call) → KeepsRight s.blobs t.blobs → PutsOf cs s t → TakesRecorded cs s → HadNone t more → TakesRecorded (cs ++ more) s
 takes_moved s t cs more keeps p old new d x child v held fits = by (child_either cs more d x child)
   where
     by : HasChild cs d x ⊎ HasChild more d x → (w : OutcomeValue) × CameTo (cs ++ more) d w
     by (inl h) = let was = old d x h v held fits in (was.0, came_more d was.0 cs more was.1)
-    by (inr h) = next (p.others d held.bytes held.held)
-      where
-        next : (t.results d ≡ Some held.bytes) ⊎ HasChildsResult cs t.results d → (w : OutcomeValue) × CameTo (cs ++ more) d w
-        next (inl at) = absurd (new d x h v (record { bytes = held.bytes; held = at; result = held.result; reads = held.reads; recorded = recorded_still keeps held.result v held.recorded }) fits)
-        next (inr was) = (was.outcome, came_more d was.outcome cs more was.came)
+    by (inr h) = let was = left_none s t cs keeps p d x.command (new d x h) v held fits in (was.0, came_more d was.0 cs more was.1)
 
 abbrev built_moved : (A : Type 0) (y : Yields) (from mid to : Starts) (s t u : Telling) (more : List Call) → Moves t u more → StartsAll (children_of more) mid to → HadNone t more
     → (most : ℕ) (old now new : EngineValue) → IsBuiltWith A y from mid s t most old now → Leads A y u most more now new → IsBuiltWith A y from to s u most old new
@@ -282,7 +295,7 @@ module _ (A J : Type 0) (y : Yields) (may : J → EndValue → Type 0) (from : S
 
   -- by one turn
   abbrev pub OneTurn : Starts → Telling → EngineValue → List (Child J) → List Call → ℕ → Type 0
-  OneTurn to t now cs calls n = (on : On to t now cs calls n) × AreOneTurn on.more
+  OneTurn to t now cs calls n = (on : On to t now cs calls n) × AreOneTurn on.more × (came_of on.more ≡ [])
 
   -- it went on from the first calls by some more
   pub record Went (to : Starts) (t : Telling) (now : EngineValue) (cs : List (Child J)) (calls more : List Call) : Type 0 where
@@ -451,6 +464,7 @@ module _ (A J : Type 0) (y : Yields) (may : J → EndValue → Type 0) (from : S
                     (own_still within (λ e b at right. at) (refl, refl) c (job_of w) own.own)
                     (record { layout = own.own.owed.layout; command = own.own.owed.command }) own.own.owed.laid own.own.owed.of_step own.started own.none) refl,
                 ((refl, tt), refl),
+                refl,
               )))
           by (inr (v, f, held, same, quiet)) =
               let of_job : f.job ≡ begun.job = one_answer (job_in begun.id begun.mid) f.job begun.job f.is begun.is in
@@ -470,6 +484,7 @@ module _ (A J : Type 0) (y : Yields) (may : J → EndValue → Type 0) (from : S
                       recorded = held.held.recorded;
                     }) tt) (sym (one_in (finished_at begun.mid new begun.id i v (job_of w) within_mid f (job_is w) refl))),
                 ((refl, tt), refl),
+                refl,
               )
 
       pub none_kept : new ≡ now → 0 ≡ taken_in true i now new

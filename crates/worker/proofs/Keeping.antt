@@ -15,7 +15,7 @@ use Rattle.blob_source.specs.declared.source.FetchError.{FetchError}
 use Rattle.blob_source.specs.declared.source.FetchError.TheVariants as fetching
 use Rattle.worker.specs.Refusals.{of_fetch}
 use Rattle.worker.specs.Stopped.{IsStoreFault}
-use Rattle.worker.specs.Stored.{IsKept}
+use Rattle.worker.specs.Stored.{IsKept, PutsNoOther}
 use Rattle.worker.specs.Storing.{HasAt, IsKeptBut}
 use Rattle.worker.specs.Outcomes.{HasAllRight}
 
@@ -105,6 +105,34 @@ pub differs : {A : Type 0} (d : DigestValue) (bs : List (Vec ℕ A)) (i : ℕ) (
 differs d [] i x lt is h = absurd (omega (arith, lt))
 differs {A} d (b ∷ bs) zero x lt is h = subst (λ (y : Vec ℕ A). digest_of y.items ≢ d) (sym is) h.0
 differs d (b ∷ bs) (suc i) x lt is h = differs d bs i x (omega (arith, lt)) is h.1
+
+-- of what a list spells too
+pub spelled_so : {X : Type 0} (spell : X → List ℕ) (P : List ℕ → Type 0) (xs : List X) (i : ℕ) (x : X) → i < length xs → x ≡ get_or xs i x → AllByRecursion P (map spell xs) → P (spell x)
+spelled_so spell P [] i x lt is h = absurd (omega (arith, lt))
+spelled_so spell P (y ∷ xs) zero x lt is h = subst (λ z. P (spell z)) (sym is) h.0
+spelled_so spell P (y ∷ xs) (suc i) x lt is h = spelled_so spell P xs i x (omega (arith, lt)) is h.1
+
+-- ---- no other blobs are put
+
+pub only_none : {bs : List (List ℕ)} {B : Blobs} → PutsNoOther bs B B
+only_none = record { same = λ d h. refl }
+
+pub only_then : {bs : List (List ℕ)} {B C D : Blobs} → PutsNoOther bs B C → PutsNoOther bs C D → PutsNoOther bs B D
+only_then f g = record { same = λ d h. g.same d h ∙ f.same d h }
+
+-- one of these was
+pub only_one : {bs : List (List ℕ)} {t u : Telling} {bytes : List ℕ} {F : Type 0} → ((d : DigestValue) → AllByRecursion (λ b. digest_of b ≢ d) bs → digest_of bytes ≢ d) → Calls (PutsBlob bytes) t u F → PutsNoOther bs t.blobs u.blobs
+only_one among p = record { same = λ d h. p.asked.blobs.others d (λ is. among d h (sym is)) }
+
+pub all_split : (P : List ℕ → Type 0) (xs ys : List (List ℕ)) → AllByRecursion P (xs ++ ys) → AllByRecursion P xs × AllByRecursion P ys
+all_split P [] ys h = (tt, h)
+all_split P (x ∷ xs) ys h = let rest = all_split P xs ys h.1 in ((h.0, rest.0), rest.1)
+
+pub only_front : (bs cs : List (List ℕ)) {B C : Blobs} → PutsNoOther bs B C → PutsNoOther (bs ++ cs) B C
+only_front bs cs f = record { same = λ d h. f.same d (all_split (λ b. digest_of b ≢ d) bs cs h).0 }
+
+pub only_behind : (bs cs : List (List ℕ)) {B C : Blobs} → PutsNoOther cs B C → PutsNoOther (bs ++ cs) B C
+only_behind bs cs f = record { same = λ d h. f.same d (all_split (λ b. digest_of b ≢ d) bs cs h).1 }
 
 -- ---- which digest
 

@@ -1,5 +1,5 @@
 -- Why a build ends at a step.
-use Rattle.std.proofs.Common.{◌≡◌, ◌<◌, ◌≤◌, ℕ, true, List, [], ◌∷◌, ◌++◌, append_assoc, append-nil, length, map, refl, sym, ap, ◌∙◌, subst, arith, inl, inr}
+use Rattle.std.proofs.Common.{◌≡◌, ◌<◌, ◌≤◌, ℕ, true, List, [], ◌∷◌, ◌++◌, append_assoc, append-nil, length, map, Some, refl, sym, ap, ◌∙◌, subst, arith, inl, inr}
 use Rattle.std.specs.Prelude.{Result, Ok, Err, OnOk, OnErr, IfErr, IsErrOf, string_bytes}
 use Rattle.action_messages.specs.Command.{CommandValue}
 use Rattle.blob_digest.specs.Digest.{DigestValue}
@@ -16,20 +16,31 @@ use Rattle.worker.specs.declared.error.BuildError.{BuildError}
 use Rattle.worker.specs.declared.child.Child.{Child}
 use Rattle.worker.specs.declared.turns.Turn.{Turn}
 use Rattle.worker.specs.declared.turns.Turn.TheVariants as turns
-use Rattle.worker.specs.Calls.{Call, started, launched, ran, taken, lost, IsLost, Does, AreTurns, AreTurnsUntil, Leads, PutsOf}
-use Rattle.worker.specs.Going.{IsJobIn, kept_job, IsGoing, IsBegun, IsTurn, EndedWell, HasEndedFirst, GoesOnBy, AreOneTurn, taken_in}
+use Rattle.worker.specs.Calls.{running, Call, started, launched, ran, taken, lost, IsLost, Does, came_of, AreTurns, Leads, PutsOf}
+use Rattle.worker.specs.Going.{IsJobIn, kept_job, IsOwnJob, IsGoing, IsBegun, IsTurn, EndedWell, HasEndedFirst, PutsFirst, GoesOnBy, AreOneTurn, taken_in}
 use Rattle.worker.specs.Counted.{TellsRunFailure}
 use Rattle.worker.specs.Layout.{IsLayoutOf}
 use Rattle.worker.specs.Outcomes.{Yields, YieldsFor, YieldsNoMore, MayComeTo}
 use Rattle.worker.specs.Stored.{IsKept}
-use Rattle.worker.specs.Stopped.{ComesTo, HasBegun, StopsStep, IsRefusedBuild, IsStoreFault}
+use Rattle.worker.specs.Stopped.{ComesTo, HasBegun, StopsStep, ComesNext, IsOfChild, HadNoneFor, IsRefusedBuild, IsStoreFault}
 use Rattle.worker.specs.Stopping.{StopsChild, StopsCollecting, StopsEnd, StopsSettling, StopsBeginning}
 use Rattle.worker.specs.Values.{LayoutValue, EndValue, made, bad_at, failed, IsAbsolute, Starts, StartsNone}
-use Rattle.worker.proofs.Goes.{Ends, Went, on_by, few_jobs, going_kept, led_kept, going_ran, going_lost, led_started, going_back, going_begun, moves_ran, none_kept, none_lost, none_starts, puts_none}
+use Rattle.worker.specs.Watching.{IsProgress, first_step, jobs_after}
+use Rattle.worker.specs.declared.watching.Progress.{Progress}
+use Rattle.worker.proofs.Jobs.{jobs_count}
+use Rattle.worker.proofs.Goes.{Ends, Went, left_none, on_by, few_jobs, going_kept, led_kept, going_ran, going_lost, led_started, going_back, going_begun, moves_ran, none_kept, none_lost, none_starts, puts_none}
 use Rattle.worker.proofs.Lefts.{finished_there}
 use Rattle.worker.proofs.Started.{after, job_of, job_is}
 use Rattle.worker.proofs.Taking.{loses_none}
 use Rattle.worker.proofs.Telling.{end_still, yielded_still, owed_ends}
+
+-- a fault of the store is of no child
+pub store_no_child : {A : Type 0} (r : Refusal A) → IsStoreFault r → IsOfChild r → ⊥
+store_no_child (refusals.Engine why) h of_child = h
+store_no_child (refusals.Layout why) h of_child = h
+store_no_child (refusals.Run why) h of_child = h
+store_no_child refusals.Fetch h of_child = of_child
+store_no_child refusals.Memory h of_child = of_child
 
 pub job_begun : {A : Type 0} (e : EngineValue) (job : Job A) → IsJobIn e job → HasBegun e job.step
 job_begun e job is = inl (job.id, kept_job job, is.there, refl, tt)
@@ -45,7 +56,7 @@ module _ {A : Type 0} (y : Yields) (t : Telling) (e : EngineValue) where
   pub child_stops : (job : Job A) → IsJobIn e job → HasRight t.blobs job.digest → (r : Refusal A) → StopsChild y t.blobs job.action.input job.command r → StopsStep y t e job.step r
   child_stops job is right (refusals.Engine why) h = absurd h
   child_stops job is right (refusals.Layout why) h = (job.id, kept_job job, is.there, refl, h)
-  child_stops job is right (refusals.Run children.NotAbsolute) h = (job.command, is.command, h)
+  child_stops job is right (refusals.Run children.NotAbsolute) (l, laid, relative) = (job.id, kept_job job, is.there, refl, (l, laid, job.command, is.command, relative))
   child_stops job is right (refusals.Run (children.Device program cause)) (l, laid, may) =
       (job.id, kept_job job, is.there, refl, record { layout = l; laid = laid; command = job.command; of_step = is.command; may = may; own = (job.action.frame, is.frame, is.digest); action = right })
   child_stops job is right (refusals.Run (children.BadOutput path)) h = absurd h
@@ -57,7 +68,7 @@ module _ {A : Type 0} (y : Yields) (t : Telling) (e : EngineValue) where
 module _ {A T : Type 0} where
   pub start_stops : (y z : Yields) (B : Blobs) (input : DigestValue) (c : CommandValue) (l : LayoutValue) (e : RunError A) → IsLayoutOf B input l → YieldsNoMore z y → (IsErrOf {T = T} (Err e) children.NotAbsolute → IsAbsolute c → ⊥)
       → ((path : List (List ℕ)) → IsErrOf {T = T} (Err e) (children.BadOutput path) → ⊥) → TellsRunFailure (YieldsFor z l c) e → StopsChild y B input c (refusals.Run e)
-  start_stops y z B input c l children.NotAbsolute laid within refused bad told = refused refl
+  start_stops y z B input c l children.NotAbsolute laid within refused bad told = (l, laid, refused refl)
   start_stops y z B input c l (children.Device program cause) laid within refused bad told = (l, laid, (within l c (failed (string_bytes program) cause) told.0, told.1))
   start_stops y z B input c l (children.BadOutput path) laid within refused bad told = absurd (bad path refl)
   start_stops y z B input c l children.Memory laid within refused bad told = tt
@@ -112,19 +123,28 @@ turns_then (lost id ∷ cs) ds h k = absurd h
 module _ (A J : Type 0) (y : Yields) (may : J → EndValue → Type 0) (from a b : Starts) (s t u : Telling) (most : ℕ) (first now new : EngineValue) (cs ds : List (Child J)) (g : IsGoing A y may from a s t most first now cs) where
   -- a build went on, or the refusal stands
   abbrev Goes : {T : Type 0} → List (Child J) → Result T (BuildError A) → List Call → ℕ → Type 0
-  Goes xs r calls n = (on : GoesOnBy A y may from b s u most first new xs calls n) × IfErr r (λ e. IsRefusedBuild A y u most on.going.led.built.led.calls first new e.step e.refusal)
-      × PutsOf on.more t u × OnOk r (AreOneTurn on.more)
+  Goes xs r calls n = (on : GoesOnBy A y may from b s u most first new xs calls n) × IfErr r (λ e. IsRefusedBuild A y s u most calls on.going.led.built.led.calls first new e.step e.refusal)
+      × PutsOf on.more t u × OnOk r (AreOneTurn on.more × (u.puts ≡ t.puts ++ came_of on.more))
 
-  begun_refused : (z : Yields) (i : ℕ) (e : BuildError A) → YieldsNoMore z y → IsKept t u → StartsNone a b → (turn : IsTurn most now cs (turns.Start i)) → AreTurns g.led.built.led.calls → (e.step ≡ i) × StopsBeginning A z u i now new e.refusal
+  -- as many jobs run as there are children
+  jobs_run : running now.jobs ≡ length cs
+  jobs_run = jobs_count (IsOwnJob y may t.blobs now) cs now.jobs g.jobs
+
+  had_none : (mid : EngineValue) (i : ℕ) → HadNoneFor [] t mid i → HadNoneFor g.led.built.led.calls s mid i
+  had_none mid i (id, j, at, step, (c, of_step, none)) = (id, j, at, step, (c, of_step, left_none s t g.led.built.led.calls g.led.blobs g.led.built.puts j.action c (λ v held fits. (none v held fits).1)))
+
+  begun_refused : (z : Yields) (i : ℕ) (e : BuildError A) → YieldsNoMore z y → IsKept t u → StartsNone a b → (turn : IsTurn most now cs (turns.Start i)) → (e.step ≡ i) × StopsBeginning A z t u i now new e.refusal
       → Goes {T = Unit {0}} cs (Err e) g.led.built.led.calls (taken_in true i now new)
-  begun_refused z i e within k quiet turn so_far (step, inl (same, stops)) =
+  begun_refused z i e within k quiet turn (step, inl (same, stops)) =
       let calls = g.led.built.led.calls in
       let w : Went A J y may from s most first b u new cs calls [] = subst (λ (e : EngineValue). Went A J y may from s most first b u e cs calls []) (sym same) (going_kept A J y may from s most first a b t u now cs k quiet g) in (
         on_by A J y may from s most first b u new cs calls [] (taken_in true i now new) w (none_kept A J y may from s most first a b t u now new i cs k g turn.0 turn.2.startable.waiting.unfinished same),
         record {
           at = now;
           led = led_kept A J y may from s most first a b t u now cs k g;
-          turns = inl (turns_then calls [] so_far tt);
+          begun = [];
+          are = refl;
+          turn = subst (ComesNext most calls now) (sym step) (inl (let count = jobs_run in let room = turn.0 in omega (arith, count, room), turn.2));
           rest = record { ids = []; calls = w.are ∙ sym (append-nil (calls ++ [])); leads = same };
           planned = subst (λ n. n < length now.plan.steps) (sym step) turn.1;
           stops = subst (λ n. StopsStep y u now n e.refusal) (sym step) (stops_within z y u now i e.refusal within stops);
@@ -132,7 +152,7 @@ module _ (A J : Type 0) (y : Yields) (may : J → EndValue → Type 0) (from a b
         puts_none t u [] k,
         tt,
       )
-  begun_refused z i e within k quiet turn so_far (step, inr (id, mid, is, gone, stops)) =
+  begun_refused z i e within k quiet turn (step, inr (id, mid, is, gone, stops, none)) =
       let calls = g.led.built.led.calls in
       let gone_job : IsLost id mid new = (job_of is, job_is is, gone) in
       let w = going_back A J y may from s most first a b t u now mid cs i id k g turn.0 is turn.2 new (lost id) (none_starts a b quiet) (λ d x child. absurd child) (λ js. refl) (λ js. tt) (ap (λ (e : EngineValue). e.jobs) gone) (ap (λ (e : EngineValue). e.commands) gone, ap (λ (e : EngineValue). e.frames) gone) gone_job tt in (
@@ -140,7 +160,9 @@ module _ (A J : Type 0) (y : Yields) (may : J → EndValue → Type 0) (from a b
         record {
           at = mid;
           led = led_started A J y may from s most first a b t u now mid cs i id k g turn.0 is turn.2;
-          turns = subst (λ n. AreTurnsUntil n (calls ++ started i id ∷ [])) (sym step) (inr (calls, id, so_far, refl));
+          begun = started i id ∷ [];
+          are = refl;
+          turn = (sym step, λ of_child. subst (HadNoneFor calls s mid) (sym step) (had_none mid i (none of_child)));
           rest = record { ids = id ∷ []; calls = w.are ∙ sym (append_assoc calls (started i id ∷ []) (lost id ∷ [])); leads = (new, gone_job, (few_jobs A J y may from s most first b u new cs w.going, tt), refl) };
           planned = subst (λ n. n < length mid.plan.steps) (sym step) (subst (λ (e : EngineValue). i < length e.plan.steps) (sym (after is)) turn.1);
           stops = subst (λ n. StopsStep y u mid n e.refusal) (sym step) (stops_within z y u mid i e.refusal within stops);
@@ -149,15 +171,15 @@ module _ (A J : Type 0) (y : Yields) (may : J → EndValue → Type 0) (from a b
         tt,
       )
 
-  pub start_goes : {T : Type 0} (r : Result T (BuildError A)) (z : Yields) (i : ℕ) → YieldsNoMore z y → IsKept t u → OnErr r (StartsNone a b) → IsTurn most now cs (turns.Start i) → AreTurns g.led.built.led.calls → IsEngine now → OnOk r (IsBegun A z may a b t u i now new cs ds)
-      → IfErr r (λ e. (e.step ≡ i) × StopsBeginning A z u i now new e.refusal) → OnErr r (ds ≡ cs) → Goes ds r g.led.built.led.calls (taken_in true i now new)
-  start_goes (Ok x) z i within k quiet turn so_far valid begun stop same =
+  pub start_goes : {T : Type 0} (r : Result T (BuildError A)) (z : Yields) (i : ℕ) → YieldsNoMore z y → IsKept t u → OnErr r (StartsNone a b) → IsTurn most now cs (turns.Start i) → IsEngine now → OnOk r (IsBegun A z may a b t u i now new cs ds)
+      → IfErr r (λ e. (e.step ≡ i) × StopsBeginning A z t u i now new e.refusal) → OnErr r (ds ≡ cs) → Goes ds r g.led.built.led.calls (taken_in true i now new)
+  start_goes (Ok x) z i within k quiet turn valid begun stop same =
       let count = valid.count in
       let lt = turn.1 in
       let on = going_begun A J y may from s most first a b t u now new i cs k g turn.0 turn.2.startable.waiting.unfinished turn.2 z within ds (omega (arith, count, lt)) begun in
-      (on.0, tt, puts_none t u on.0.more k, on.1)
-  start_goes (Err e) z i within k quiet turn so_far valid begun stop same =
-      subst (λ xs. Goes {T = Unit {0}} xs (Err e) g.led.built.led.calls (taken_in true i now new)) (sym same) (begun_refused z i e within k quiet turn so_far stop)
+      (on.0, tt, puts_none t u on.0.more k, (on.1, k.puts ∙ sym (append-nil t.puts) ∙ sym (ap (λ ds. t.puts ++ ds) on.2)))
+  start_goes (Err e) z i within k quiet turn valid begun stop same =
+      subst (λ xs. Goes {T = Unit {0}} xs (Err e) g.led.built.led.calls (taken_in true i now new)) (sym same) (begun_refused z i e within k quiet turn stop)
 
   -- the first child is waited for
   module _ (c : Child J) (quiet : StartsNone a b) (f : IsGoing A y may from a s t most first now (c ∷ ds)) where
@@ -181,22 +203,29 @@ module _ (A J : Type 0) (y : Yields) (may : J → EndValue → Type 0) (from a b
     end_stops k refusals.Fetch h = runs_still
     end_stops k refusals.Memory h = runs_still
 
-    ended_well : IsTurn most now (c ∷ ds) turns.Finish → EndedWell may t u c now new → (on : GoesOnBy A y may from b s u most first new ds f.led.built.led.calls 0) × PutsOf on.more t u × AreOneTurn on.more
-    ended_well next e = (
+    ended_well : IsTurn most now (c ∷ ds) turns.Finish → EndedWell may t u c now new → u.puts ≡ t.puts ++ c.action ∷ [] → (on : GoesOnBy A y may from b s u most first new ds f.led.built.led.calls 0) × PutsOf on.more t u × AreOneTurn on.more × (u.puts ≡ t.puts ++ came_of on.more)
+    ended_well next e listed = (
       on_by A J y may from s most first b u new ds f.led.built.led.calls (ran c.id c.action e.produced.outcome ∷ []) 0 (going_ran A J y may from s most first a b t u now new c ds quiet f next e) refl,
       (moves_ran t u c.id c.action e.produced.outcome e.kept).puts,
       (tt, refl),
+      listed,
     )
 
-    end_refused : IsTurn most now (c ∷ ds) turns.Finish → AreTurns f.led.built.led.calls → IsEngine now → (e : BuildError A) → (e.step ≡ c.step) × StopsSettling may t u c now new e.refusal → Goes {T = Unit {0}} ds (Err e) f.led.built.led.calls 0
-    end_refused next so_far valid e (step, inl (gone, k, stop)) =
+    -- its job was started first of those that run
+    runs_first : first_step (jobs_after [] f.led.built.led.calls) ≡ Some c.step
+    runs_first = ap first_step f.order
+
+    end_refused : IsTurn most now (c ∷ ds) turns.Finish → IsEngine now → (e : BuildError A) → (e.step ≡ c.step) × StopsSettling may t u c now new e.refusal → Goes {T = Unit {0}} ds (Err e) f.led.built.led.calls 0
+    end_refused next valid e (step, inl (gone, k, stop)) =
         let calls = f.led.built.led.calls in
         let w = going_lost A J y may from s most first a b t u now new c ds quiet f gone k in (
           on_by A J y may from s most first b u new ds calls (lost c.id ∷ []) 0 w refl,
           record {
             at = now;
             led = led_kept A J y may from s most first a b t u now (c ∷ ds) k f;
-            turns = inl (turns_then calls [] so_far tt);
+            begun = [];
+            are = refl;
+            turn = subst (ComesNext most calls now) (sym step) (inr (runs_first, λ less. next.1 (let count = jobs_count (IsOwnJob y may t.blobs now) (c ∷ ds) now.jobs f.jobs in omega (arith, count, less))));
             rest = record { ids = c.id ∷ []; calls = w.are ∙ sym (append_assoc calls [] (lost c.id ∷ [])); leads = (new, gone, (few_jobs A J y may from s most first b u new ds w.going, tt), refl) };
             planned = subst (λ n. n < length now.plan.steps) (sym step) (step_planned valid);
             stops = subst (λ n. StopsStep y u now n e.refusal) (sym step) (end_stops k e.refusal stop);
@@ -204,28 +233,31 @@ module _ (A J : Type 0) (y : Yields) (may : J → EndValue → Type 0) (from a b
           puts_none t u (lost c.id ∷ []) k,
           tt,
         )
-    end_refused next so_far valid e (step, inr (well, store)) =
-        let on = ended_well next well in (
-          on.0,
+    end_refused next valid e (step, inr (well, store)) =
+        let calls = f.led.built.led.calls in
+        let w = going_ran A J y may from s most first a b t u now new c ds quiet f next well in (
+          on_by A J y may from s most first b u new ds calls (ran c.id c.action well.produced.outcome ∷ []) 0 w refl,
           record {
             at = new;
-            led = on.0.going.led.built.led;
-            turns = inl (subst AreTurns (sym on.0.are) (turns_then f.led.built.led.calls on.0.more so_far on.2.0));
+            led = w.going.led.built.led;
+            begun = ran c.id c.action well.produced.outcome ∷ [];
+            are = w.are;
+            turn = subst (λ n. first_step (jobs_after [] calls) ≡ Some n) (sym step) runs_first;
             rest = loses_none;
             planned = subst (λ n. n < length new.plan.steps) (sym step) (subst (λ (p : PlanValue). c.step < length p.steps) (sym (ap (λ (e : EngineValue). e.plan) well.finished.after)) (step_planned valid));
             stops = subst (λ n. StopsStep y u new n e.refusal) (sym step)
                 (store_stops y u new c.step e.refusal (inr (finished_there now new c.id c.step well.produced.outcome f.jobs.0 valid well.finished f.jobs.1 f.jobs.2.of_child.step)) store);
           },
-          on.1,
+          (moves_ran t u c.id c.action well.produced.outcome well.kept).puts,
           tt,
         )
 
-  pub finish_goes : {T : Type 0} (r : Result T (BuildError A)) → IsTurn most now cs turns.Finish → AreTurns g.led.built.led.calls → IsEngine now → StartsNone a b → OnOk r (HasEndedFirst (EndedWell may t u) now new cs ds)
+  pub finish_goes : {T : Type 0} (r : Result T (BuildError A)) → IsTurn most now cs turns.Finish → IsEngine now → StartsNone a b → OnOk r (HasEndedFirst (EndedWell may t u) now new cs ds) → OnOk r (PutsFirst t u cs)
       → IfErr r (λ e. HasEndedFirst (λ c old new. (e.step ≡ c.step) × StopsSettling may t u c old new e.refusal) now new cs ds) → Goes ds r g.led.built.led.calls 0
-  finish_goes {T} (Ok x) next so_far valid quiet well stop =
-      subst (λ xs. (f : IsGoing A y may from a s t most first now xs) → Goes {T = T} ds (Ok x) f.led.built.led.calls 0) (sym well.is) (λ f. let on = ended_well well.child quiet f (subst (λ xs. IsTurn most now xs turns.Finish) well.is next) well.end in (on.0, tt, on.1, on.2)) g
-  finish_goes {T} (Err e) next so_far valid quiet well stop =
-      subst (λ xs. (f : IsGoing A y may from a s t most first now xs) → AreTurns f.led.built.led.calls → Goes {T = T} ds (Err e) f.led.built.led.calls 0) (sym stop.is) (λ f before. end_refused stop.child quiet f (subst (λ xs. IsTurn most now xs turns.Finish) stop.is next) before valid e stop.end) g so_far
+  finish_goes {T} (Ok x) next valid quiet well listed stop =
+      subst (λ xs. (f : IsGoing A y may from a s t most first now xs) → Goes {T = T} ds (Ok x) f.led.built.led.calls 0) (sym well.is) (λ f. let on = ended_well well.child quiet f (subst (λ xs. IsTurn most now xs turns.Finish) well.is next) well.end (subst (PutsFirst t u) well.is listed) in (on.0, tt, on.1, (on.2, on.3))) g
+  finish_goes {T} (Err e) next valid quiet well listed stop =
+      subst (λ xs. (f : IsGoing A y may from a s t most first now xs) → Goes {T = T} ds (Err e) f.led.built.led.calls 0) (sym stop.is) (λ f. end_refused stop.child quiet f (subst (λ xs. IsTurn most now xs turns.Finish) stop.is next) valid e stop.end) g
 
 -- fewer children are left after a refusal than may run
 pub start_room : {J T E : Type 0} (r : Result T E) (now : EngineValue) (cs ds : List (Child J)) (turn : Turn) (i : ℕ) → turn ≡ turns.Start i → OnErr r (ds ≡ cs) → OnErr r ((most : ℕ) → IsTurn most now cs turn → length cs ≤ most → length ds < most)
@@ -261,12 +293,30 @@ module _ (A : Type 0) (z y : Yields) (t : Telling) (within : YieldsNoMore z y) w
   leads_within most [] old new same = same
   leads_within most (c ∷ cs) old new (mid, does, few, rest) = (mid, does_within cs c old mid does, few, leads_within most cs mid new rest)
 
-  pub refused_within : {most i : ℕ} {calls : List Call} {old new : EngineValue} {r : Refusal A} → IsRefusedBuild A z t most calls old new i r → IsRefusedBuild A y t most calls old new i r
-  refused_within {most} {i} {calls} {old} {new} {r} h = record {
+  pub refused_within : {before : Telling} {most i : ℕ} {whole calls : List Call} {old new : EngineValue} {r : Refusal A} → IsRefusedBuild A z before t most whole calls old new i r → IsRefusedBuild A y before t most whole calls old new i r
+  refused_within {before} {most} {i} {whole} {calls} {old} {new} {r} h = record {
     at = h.at;
     led = record { calls = h.led.calls; leads = leads_within most h.led.calls old h.at h.led.leads };
-    turns = h.turns;
+    begun = h.begun;
+    are = h.are;
+    turn = h.turn;
     rest = record { ids = h.rest.ids; calls = h.rest.calls; leads = leads_within most (map lost h.rest.ids) h.at new h.rest.leads };
     planned = h.planned;
     stops = stops_within z y t h.at i r within h.stops;
   }
+
+-- ---- what its watcher was told
+
+pub progress_within : (A : Type 0) (z y : Yields) (t : Telling) → YieldsNoMore z y → {most : ℕ} {first : EngineValue} {all : List Call} (n : ℕ) (p : Progress) → IsProgress A z t most first all n p → IsProgress A y t most first all n p
+progress_within A z y t within {most} {first} {all} n p h = record {
+  told = h.told;
+  now = h.now;
+  led = record { calls = h.led.calls; leads = leads_within A z y h.told within most h.led.calls first h.now h.led.leads };
+  whole = h.whole;
+  count = h.count;
+  is = h.is;
+  later = h.later;
+  rest = h.rest;
+  since = h.since;
+  still = h.still;
+}

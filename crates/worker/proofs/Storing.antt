@@ -1,5 +1,5 @@
 -- A store has what a build has finished, whatever else is put.
-use Rattle.std.proofs.Common.{◌≡◌, ◌≢◌, ℕ, zero, suc, ◌<◌, true, false, Bool, List, [], ◌∷◌, ◌++◌, ◌+◌, take, get_or, length, set, Option, Some, None, refl, ap, sym, ◌∙◌, subst, arith, inl, inr}
+use Rattle.std.proofs.Common.{◌≡◌, ◌≢◌, ℕ, zero, suc, ◌<◌, true, false, Bool, List, [], ◌∷◌, ◌++◌, ◌+◌, take, get_or, length, length-append, append_assoc, set, Option, Some, None, refl, ap, sym, ◌∙◌, subst, arith, inl, inr}
 use Rattle.std.specs.Prelude.{◌⊎◌, Result, Ok, Err, OnOk, ◌==◌, ℤ, pos, negsuc, IsSome, slice_get}
 use Rattle.std.specs.List.{AllByRecursion}
 use Rattle.std.proofs.lemmas.Bool.Decides.{eqb_tells}
@@ -25,9 +25,9 @@ use Rattle.runs.proofs.Places.{set_other}
 use Rattle.verifier.proofs.FreshRuns.{one_answer}
 use Rattle.worker.specs.Storing.{HasAt, IsKeptBut, HasResultOf, IsResultOfStep, IsForForm, StoresStep, StoresSteps, IsHeldWhole, tree_blobs}
 use Rattle.worker.specs.Calls.{IsResultFor}
-use Rattle.worker.specs.Outcomes.{HasTree, HasTrees}
+use Rattle.worker.specs.Outcomes.{HasTree, HasTrees, directories_of}
 use Rattle.worker.specs.Stored.{IsKept, IsToldOrTree, IsStored}
-use Rattle.worker.proofs.Keeping.{right_still, same_bytes, same_digest}
+use Rattle.worker.proofs.Keeping.{all_split, right_still, same_bytes, same_digest}
 use Rattle.worker.proofs.Telling.{recorded_still, trees_still}
 
 -- ---- one form
@@ -202,18 +202,30 @@ trees_taken {A} B C es i e lt is keeps held one =
     subst (AllByRecursion (HasTree C)) (sym values) (trees_more C (outputs_in (take i es)) (value e) (trees_still B C (outputs_in (take i es)) keeps held) one)
 
 -- the blobs of their Trees are those of the first ones, and its own
-tree_blobs_join : (es fs : List (List Name × OutputValue)) → tree_blobs (es ++ fs) ≡ tree_blobs es + tree_blobs fs
-tree_blobs_join [] fs = omega arith
+tree_blobs_join : (es fs : List (List Name × OutputValue)) → tree_blobs (es ++ fs) ≡ tree_blobs es ++ tree_blobs fs
+tree_blobs_join [] fs = refl
 tree_blobs_join ((p, outputs.File d x) ∷ es) fs = tree_blobs_join es fs
 tree_blobs_join ((p, outputs.Link t) ∷ es) fs = tree_blobs_join es fs
-tree_blobs_join ((p, outputs.Tree t) ∷ es) fs = let rest = tree_blobs_join es fs in omega (arith, rest)
+tree_blobs_join ((p, outputs.Tree t) ∷ es) fs = ap (λ bs. (tree_bytes t ∷ directories_of t) ++ bs) (tree_blobs_join es fs) ∙ sym (append_assoc (tree_bytes t ∷ directories_of t) (tree_blobs es) (tree_blobs fs))
 
 pub tree_blobs_more : {A : Type 0} (es : List (List Name × Output A)) (i : ℕ) (e : List Name × Output A) → i < length es → e ≡ get_or es i e
-    → tree_blobs (outputs_in (take (i + 1) es)) ≡ tree_blobs (outputs_in (take i es)) + tree_blobs ((e.0, output_value e.1) ∷ [])
+    → length (tree_blobs (outputs_in (take (i + 1) es))) ≡ length (tree_blobs (outputs_in (take i es))) + length (tree_blobs ((e.0, output_value e.1) ∷ []))
 tree_blobs_more {A} es i e lt is =
     let value : List Name × Output A → List Name × OutputValue = λ x. (x.0, output_value x.1) in
     let taken : take (i + 1) es ≡ take i es ++ e ∷ [] = take_more es i e lt ∙ ap (λ y. take i es ++ y ∷ []) (sym is) in
-    ap tree_blobs (ap outputs_in taken ∙ map-append value (take i es) (e ∷ [])) ∙ tree_blobs_join (outputs_in (take i es)) (value e ∷ [])
+    ap length (ap tree_blobs (ap outputs_in taken ∙ map-append value (take i es) (e ∷ [])) ∙ tree_blobs_join (outputs_in (take i es)) (value e ∷ []))
+    ∙ length-append (tree_blobs (outputs_in (take i es))) (tree_blobs (value e ∷ []))
+
+-- of those of one output too
+pub tree_blobs_so : {A : Type 0} (P : List ℕ → Type 0) (es : List (List Name × Output A)) (i : ℕ) (e : List Name × Output A) → i < length es → e ≡ get_or es i e → AllByRecursion P (tree_blobs (outputs_in es)) → AllByRecursion P (tree_blobs ((e.0, output_value e.1) ∷ []))
+tree_blobs_so P [] i e lt is h = absurd (omega (arith, lt))
+tree_blobs_so {A} P (x ∷ es) zero e lt is h = subst (λ (y : List Name × Output A). AllByRecursion P (tree_blobs ((y.0, output_value y.1) ∷ []))) (sym is) (all_split P (tree_blobs ((x.0, output_value x.1) ∷ [])) (tree_blobs (outputs_in es)) (subst (AllByRecursion P) (tree_blobs_join ((x.0, output_value x.1) ∷ []) (outputs_in es)) h)).0
+tree_blobs_so P (x ∷ es) (suc i) e lt is h = tree_blobs_so P es i e (omega (arith, lt)) is (all_split P (tree_blobs ((x.0, output_value x.1) ∷ [])) (tree_blobs (outputs_in es)) (subst (AllByRecursion P) (tree_blobs_join ((x.0, output_value x.1) ∷ []) (outputs_in es)) h)).1
+
+pub tree_so : {A : Type 0} (P : List ℕ → Type 0) (es : List (List Name × Output A)) (i : ℕ) (e : List Name × Output A) (t : TreeValue) → i < length es → e ≡ get_or es i e → e.1 ≡ outputs.Tree t → AllByRecursion P (tree_blobs (outputs_in es)) → P (tree_bytes t) × AllByRecursion P (directories_of t)
+tree_so P es i e t lt is tree h =
+    let own = subst (λ o. AllByRecursion P (tree_blobs ((e.0, output_value o) ∷ []))) tree (tree_blobs_so P es i e lt is h) in
+    (own.0, (all_split P (directories_of t) [] own.1).0)
 
 pub no_tree : {A : Type 0} (B : Blobs) (p : List Name) (o : Output A) → ((t : TreeValue) → o ≡ outputs.Tree t → ⊥) → HasTree B (p, output_value o)
 no_tree B p (outputs.File d x) not = tt

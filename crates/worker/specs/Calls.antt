@@ -4,6 +4,7 @@ use Rattle.std.specs.Prelude.{Some, None, slice_get}
 use Rattle.std.specs.List.{AllByRecursion}
 use Rattle.blob_digest.specs.Digest.{DigestValue}
 use Rattle.action_messages.specs.ActionResult.{ActionResultValue}
+use Rattle.action_messages.specs.Command.{CommandValue}
 use Rattle.action_messages.specs.Reads.{Reads}
 use Rattle.actions.specs.Outcome.{OutcomeValue}
 use Rattle.actions.specs.Recorded.{IsRecorded}
@@ -154,11 +155,6 @@ AreTurns (started i id ∷ taken w d v ∷ cs) = (w ≡ id) × AreTurns cs
 AreTurns (ran id d v ∷ cs) = AreTurns cs
 AreTurns cs = ⊥
 
--- whole turns, after which this step may have been started
-abbrev pub AreTurnsUntil : ℕ → List Call → Type 0
-AreTurnsUntil i cs = AreTurns cs
-    ⊎ ((turns : List Call) × (id : ℕ) × AreTurns turns × (cs ≡ turns ++ started i id ∷ []))
-
 -- ---- what calls come to
 
 -- The calls, each as it comes next, lead from one engine to the other, and at most this many jobs
@@ -176,6 +172,12 @@ pub record IsLed (A : Type 0) (yields : Yields) (t : Telling) (most : ℕ)
     (old new : EngineValue) : Type 0 where
   pub calls : List Call
   pub leads : Leads A yields t most calls old new
+
+-- the digests of the actions whose children came to something, one for each child
+abbrev pub came_of : List Call → List DigestValue
+came_of [] = []
+came_of (ran id d v ∷ cs) = d ∷ came_of cs
+came_of (c ∷ cs) = came_of cs
 
 -- the digests are of actions whose children came to something, at most one for each of these, in
 -- this order
@@ -202,12 +204,16 @@ pub record IsBuiltBy (A : Type 0) (yields : Yields) (before t : Telling) (most :
   pub led : IsLed A yields t most old new
   pub puts : PutsOf led.calls before t
 
--- A child of an action is started only where the store had no result to take for it before, unless
--- a child of the same action came to something.
+-- The store had no result to take for the action and the command before, unless a child of the same
+-- action came to something.
+abbrev pub LeavesNone : List Call → Telling → DigestValue → CommandValue → Type 0
+LeavesNone calls before d c = (v : OutcomeValue) → IsHeld before d v → CanBeTaken c v
+    → (w : OutcomeValue) × CameTo calls d w
+
+-- a child is started only where there was none
 abbrev pub TakesRecorded : List Call → Telling → Type 0
 TakesRecorded calls before = (d : DigestValue) (s : StartValue) → HasChild calls d s
-    → (v : OutcomeValue) → IsHeld before d v → CanBeTaken s.command v
-    → (w : OutcomeValue) × CameTo calls d w
+    → LeavesNone calls before d s.command
 
 -- The children that the runner started are those of the calls, right bytes stay, and what the store
 -- had recorded was taken.

@@ -131,7 +131,7 @@ IsForLayout B input n = (l : LayoutValue) × IsLayoutOf B input l
 -- for the Trees of what a job finished with, and their Directories
 abbrev pub IsForTrees : ℕ → EngineValue → EngineValue → ℕ → Type 0
 IsForTrees id old new n =
-    (v : OutcomeValue) × IsFinished id v old new × (n ≡ tree_blobs v.outputs)
+    (v : OutcomeValue) × IsFinished id v old new × (n ≡ length (tree_blobs v.outputs))
 
 -- As a job goes on the store is called at most once for its action, for each Directory of its input
 -- that wasn't put, for the action's result and for each Tree of that; and for what is laid out for
@@ -178,6 +178,11 @@ pub record HasEndedFirst {J : Type 0} (ends : Child J → EngineValue → Engine
 abbrev pub HasResultOfFirst : {J : Type 0} → Telling → EngineValue → List (Child J) → Type 0
 HasResultOfFirst t e [] = ⊥
 HasResultOfFirst t e (c ∷ cs) = HasResultOf t e c.step c.action
+
+-- a result was put for the first child's action
+abbrev pub PutsFirst : {J : Type 0} → Telling → Telling → List (Child J) → Type 0
+PutsFirst s t [] = ⊥
+PutsFirst s t (c ∷ cs) = t.puts ≡ s.puts ++ c.action ∷ []
 
 -- ---- the turns
 

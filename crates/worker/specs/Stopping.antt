@@ -1,5 +1,5 @@
 -- Why a turn of a build is refused: words of private functions.
-use Rattle.std.specs.Prelude.{◌≡◌, ◌⊎◌, ℕ, string_bytes}
+use Rattle.std.specs.Prelude.{◌≡◌, ◌⊎◌, ℕ, [], string_bytes}
 use Rattle.blob_digest.specs.Digest.{DigestValue}
 use Rattle.action_messages.specs.Command.{CommandValue}
 use Rattle.blob_source.specs.Source.{Blobs, Telling}
@@ -14,7 +14,7 @@ use Rattle.worker.specs.Going.{EndedWell}
 use Rattle.worker.specs.Layout.{IsLayoutOf}
 use Rattle.worker.specs.Outcomes.{Yields, YieldsFor, HasAllRight, HasTrees}
 use Rattle.worker.specs.Refusals.{IsLayoutFault}
-use Rattle.worker.specs.Stopped.{StopsStep, IsStoreFault}
+use Rattle.worker.specs.Stopped.{StopsStep, IsOfChild, HadNoneFor, IsStoreFault}
 use Rattle.worker.specs.Stored.{IsKept}
 use Rattle.worker.specs.Values.{LayoutValue, ProducedValue, EndValue, made, bad_at, failed}
 use Rattle.worker.specs.Values.{IsAbsolute}
@@ -24,7 +24,8 @@ abbrev pub StopsChild : {A : Type 0} → Yields → Blobs → DigestValue → Co
     → Type 0
 StopsChild yields B input c (refusals.Engine why) = ⊥
 StopsChild yields B input c (refusals.Layout why) = IsLayoutFault B input why
-StopsChild yields B input c (refusals.Run children.NotAbsolute) = IsAbsolute c → ⊥
+StopsChild yields B input c (refusals.Run children.NotAbsolute) =
+    (l : LayoutValue) × IsLayoutOf B input l × (IsAbsolute c → ⊥)
 StopsChild yields B input c (refusals.Run (children.BadOutput path)) = ⊥
 StopsChild yields B input c (refusals.Run (children.Device program cause)) = (l : LayoutValue)
     × IsLayoutOf B input l × YieldsFor yields l c (failed (string_bytes program) cause)
@@ -56,9 +57,11 @@ StopsSettling may s t c old new r =
     (IsLost c.id old new × IsKept s t × StopsEnd may t.blobs c old r)
     ⊎ (EndedWell may s t c old new × IsStoreFault r)
 
--- A step is refused as it is started; or as its job goes on, which is lost then.
-abbrev pub StopsBeginning : (A : Type 0) → Yields → Telling → ℕ → EngineValue → EngineValue
-    → Refusal A → Type 0
-StopsBeginning A yields t i old new r = ((new ≡ old) × StopsStep yields t old i r)
+-- A step is refused as it is started; or as its job goes on, which is lost then: for its child only
+-- where the store had no result to take.
+abbrev pub StopsBeginning : (A : Type 0) → Yields → Telling → Telling → ℕ → EngineValue
+    → EngineValue → Refusal A → Type 0
+StopsBeginning A yields s t i old new r = ((new ≡ old) × StopsStep yields t old i r)
     ⊎ ((id : ℕ) × (mid : EngineValue) × WasStarted A t.blobs i id old mid
-    × (new ≡ without_job id mid) × StopsStep yields t mid i r)
+    × (new ≡ without_job id mid) × StopsStep yields t mid i r
+    × (IsOfChild r → HadNoneFor [] s mid i))

@@ -1,6 +1,7 @@
 -- What a store has of the steps that a build has finished.
-use Rattle.std.specs.Prelude.{◌≡◌, ◌⊎◌, ℕ, List, Some, None, Contains}
-use Rattle.blob_digest.specs.Digest.{DigestValue, NoClash}
+use Rattle.std.specs.Prelude.{◌≡◌, ◌≢◌, ◌⊎◌, ℕ, List, Some, None, Contains}
+use Rattle.std.specs.List.{AllByRecursion}
+use Rattle.blob_digest.specs.Digest.{DigestValue, digest_of, NoClash}
 use Rattle.messages.specs.Tree.{TreeValue, tree_bytes}
 use Rattle.actions.specs.declared.outcome.Output.TheVariants as outputs
 use Rattle.actions.specs.Outcome.{OutcomeValue}
@@ -34,6 +35,10 @@ pub record IsStored (t : Telling) (e : EngineValue) : Type 0 where
 -- no step has finished
 abbrev pub HasNoneFinished : EngineValue → Type 0
 HasNoneFinished e = (i : ℕ) → finished_in i e ≡ None
+
+-- No other blobs are put than these: what stands under other digests is as it was.
+pub record PutsNoOther (bs : List (List ℕ)) (old new : Blobs) : Type 0 where
+  pub same : (d : DigestValue) → AllByRecursion (λ b. digest_of b ≢ d) bs → new d ≡ old d
 
 -- calls that put no result: results stay, and blobs that have their digests
 pub record IsKept (old new : Telling) : Type 0 where

@@ -1,10 +1,11 @@
 -- What a store has while a build goes on: words of private functions.
-use Rattle.std.specs.Prelude.{suc, ◌≡◌, ◌⊎◌, ◌+◌, ◌≤◌, ℕ, List, [], ◌∷◌, ◌++◌, length, true, Some}
+use Rattle.std.specs.Prelude.{◌≡◌, ◌⊎◌, ◌+◌, ◌≤◌, ℕ, List, [], ◌∷◌, ◌++◌, length, true, Some}
 use Rattle.std.specs.Prelude.{None}
 use Rattle.std.specs.Prelude.{if◌then◌else◌}
 use Rattle.std.specs.List.{AllByRecursion}
 use Rattle.std.specs.BTreeSet.{BTreeSet, contains}
 use Rattle.blob_digest.specs.Digest.{DigestValue, digest_cmp, digest_of}
+use Rattle.messages.specs.Tree.{tree_bytes}
 use Rattle.action_messages.specs.ActionResult.{ActionResultValue}
 use Rattle.action_messages.specs.Reads.{Reads}
 use Rattle.actions.specs.declared.outcome.Output.TheVariants as outputs
@@ -20,6 +21,8 @@ use Rattle.runs.specs.Served.{IsKeptOf}
 use Rattle.worker.specs.declared.remembering.Remembered.{Remembered}
 use Rattle.tree.specs.Tree.{Name}
 use Rattle.worker.specs.Outcomes.{HasTrees, IsHeld, directories_of}
+use Rattle.worker.specs.Stored.{PutsNoOther}
+use Rattle.worker.specs.Values.{ProducedValue, EndValue, made}
 
 -- bytes of which this is so stand under a digest
 abbrev pub HasAt : (List ℕ → Type 0) → Blobs → DigestValue → Type 0
@@ -70,12 +73,17 @@ abbrev pub AsksResultOnce : DigestValue → Telling → Telling → Type 0
 AsksResultOnce d old new =
     (most : ℕ) → HasFewTrees new d most → new.calls ≤ old.calls + 1 + most
 
--- how many blobs the Trees among outputs are: each, and its Directories
-abbrev pub tree_blobs : List (List Name × OutputValue) → ℕ
-tree_blobs [] = 0
+-- the Trees among outputs and their Directories, as blobs
+abbrev pub tree_blobs : List (List Name × OutputValue) → List (List ℕ)
+tree_blobs [] = []
 tree_blobs ((p, outputs.File d executable) ∷ es) = tree_blobs es
 tree_blobs ((p, outputs.Link target) ∷ es) = tree_blobs es
-tree_blobs ((p, outputs.Tree t) ∷ es) = suc (length (directories_of t)) + tree_blobs es
+tree_blobs ((p, outputs.Tree t) ∷ es) = (tree_bytes t ∷ directories_of t) ++ tree_blobs es
+
+-- No blob is put but those of what a child came to: its own, and its Trees with their Directories.
+abbrev pub PutsMade : (EndValue → Type 0) → Blobs → Blobs → Type 0
+PutsMade may old new = (new ≡ old) ⊎ ((p : ProducedValue) × may (made p)
+    × PutsNoOther (p.blobs ++ tree_blobs p.outcome.outputs) old new)
 
 -- how many of the blobs weren't put before
 abbrev pub not_put : BTreeSet DigestValue → List (List ℕ) → ℕ

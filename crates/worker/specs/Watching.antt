@@ -5,7 +5,8 @@ use Rattle.blob_source.specs.Sink.{KeepsRight}
 use Rattle.blob_source.specs.Source.{Telling}
 use Rattle.runs.specs.Engine.{FinishedValue, EngineValue}
 use Rattle.worker.specs.declared.watching.Progress.{Progress}
-use Rattle.worker.specs.Calls.{running, Call, started, launched, ran, taken, lost, IsLed, PutsOf}
+use Rattle.worker.specs.Calls.{running, Call, started, launched, ran, taken, lost, AreTurns, IsLed}
+use Rattle.worker.specs.Calls.{PutsOf}
 use Rattle.worker.specs.Outcomes.{Yields}
 
 -- ---- what a watcher is told
@@ -21,11 +22,12 @@ abbrev pub AreAfterTurns : (ℕ → Progress → Type 0) → ℕ → List Progre
 AreAfterTurns Is turns [] = Unit {0}
 AreAfterTurns Is turns (p ∷ ps) = Is (suc turns) p × AreAfterTurns Is (suc turns) ps
 
--- some were told, one after each of the first turns, and each is as it has to be after so many
-pub record IsWatched (Is : ℕ → Progress → Type 0) (before after : Option (List Progress))
-    : Type 0 where
+-- one was told after each of so many first turns, and each is as it has to be after so many
+pub record IsWatched (Is : ℕ → Progress → Type 0) (turns : ℕ)
+    (before after : Option (List Progress)) : Type 0 where
   pub told : List Progress
   pub heard : Hears before after told
+  pub count : length told ≡ turns
   pub each : AreAfterTurns Is 0 told
 
 -- what was told last is so; nothing was told, where this is so
@@ -97,13 +99,15 @@ turns_in (started i id ∷ cs) = suc (turns_in cs)
 turns_in (ran id d v ∷ cs) = suc (turns_in cs)
 turns_in (c ∷ cs) = turns_in cs
 
--- The numbers are those of an engine to which the first of all calls led, in so many turns, by what
--- the store told then; and what it tells at the end differs from that by what the later ones put.
+-- The numbers are those of an engine to which the first of all calls led, in so many whole turns, by
+-- what the store told then; and what it tells at the end differs from that by what the later ones
+-- put.
 pub record IsProgress (A : Type 0) (yields : Yields) (t : Telling) (most : ℕ)
     (first : EngineValue) (all : List Call) (turns : ℕ) (p : Progress) : Type 0 where
   pub told : Telling
   pub now : EngineValue
   pub led : IsLed A yields told most first now
+  pub whole : AreTurns led.calls
   pub count : turns_in led.calls ≡ turns
   pub is : IsProgressOf led.calls now p
   pub later : List Call

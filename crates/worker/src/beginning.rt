@@ -10,9 +10,9 @@ ghost use Rattle.worker.specs.Outcomes.{YieldsFor, YieldsNoMore};
 ghost use Rattle.worker.specs.Values.{LayoutValue, EndValue, StartsNone, StartsOne};
 ghost use Rattle.tree.specs.Folded.{items_of};
 ghost use Rattle.worker.specs.Going.{CallsForJob, CallsForStart, IsJobIn, kept_job, IsBegun};
-ghost use Rattle.worker.specs.Going.{IsLaunched};
+ghost use Rattle.worker.specs.Going.{HasNoneToTake, IsLaunched};
 ghost use Rattle.worker.specs.Stopping.{StopsChild, StopsBeginning};
-ghost use Rattle.worker.specs.Stopped.{StopsStep};
+ghost use Rattle.worker.specs.Stopped.{IsOfChild, StopsStep};
 
 use crate::child::Child;
 use crate::ending::lose;
@@ -85,6 +85,8 @@ fn launch<A: Allocator + Copy, S: BlobSink<A>, N: Runner<A>>(
     ensures unlisted { OnErr result (StartsNone (N.starts runner.old) (N.starts runner.new)) }
     ensures refused { IfErr result
         (StopsStep (N.yields runner.old) (S.tells sink.new) engine.old job.now.step) }
+    ensures untaken { IfErr result (λ refusal. IsOfChild refusal
+        → HasNoneToTake (S.tells sink.old) job.now.digest job.now.command) }
     ensures unchanged { OnErr result (engine.new ≡ engine.old) }
     ensures same { OnErr result (children.new.items ≡ children.old.items) }
     ensures within { YieldsNoMore (N.yields runner.new) (N.yields runner.old) }
@@ -143,7 +145,7 @@ pub(crate) fn begin<A: Allocator + Copy, S: BlobSink<A>, N: Runner<A>>(
         × CallsForStart remembered.old remembered.new b) }
     ensures unlisted { OnErr result (StartsNone (N.starts runner.old) (N.starts runner.new)) }
     ensures stopped { IfErr result (λ e. (e.step ≡ step) × StopsBeginning A (N.yields runner.old)
-        (S.tells sink.new) step engine.old engine.new e.refusal) }
+        (S.tells sink.old) (S.tells sink.new) step engine.old engine.new e.refusal) }
     ensures same { OnErr result (children.new.items ≡ children.old.items) }
     ensures within { YieldsNoMore (N.yields runner.new) (N.yields runner.old) }
     ensures alive { N.alive runner.new + length children.old.items

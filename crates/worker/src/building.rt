@@ -71,8 +71,8 @@ fn take_turns<A: Allocator + Copy, S: BlobSink<A>, N: Runner<A>, W: Watcher>(
     ensures going { (g : IsGoing A (N.yields runner.old) N.may_give (N.starts runner.old)
         (N.starts runner.new) (S.tells sink.old) (S.tells sink.new) jobs engine.old engine.new
         children.new.items)
-        × EndsBuild A (N.yields runner.old) (S.tells sink.new) jobs engine.old engine.new
-        g.led.built.led.calls (W.told watcher.old) (W.told watcher.new) result }
+        × EndsBuild A (N.yields runner.old) (S.tells sink.old) (S.tells sink.new) jobs engine.old
+        engine.new g.led.built.led.calls (W.told watcher.old) (W.told watcher.new) result }
     ensures done { OnOk result (HaveAllFinished engine.new) }
     ensures ended { OnOk result (children.new.items ≡ []) }
     ensures few { OnErr result (length children.new.items < jobs) }
@@ -116,14 +116,13 @@ pub fn build<A: Allocator + Copy, S: BlobSink<A>, N: Runner<A>, W: Watcher>(
     // Calls lead to the engine, and at most `jobs` jobs run after each. What a job finishes with is
     // from the runner or from the store. The children that were started are of these jobs, and the
     // results that were put are of what they came to; those under other digests stay.
-    // The calls are turns, and children's jobs finish in the order of their starts. Where it is
-    // refused, the first of them led to an engine in which the refusal of that step stands, and
-    // after them jobs alone were lost.
-    // The watcher is told the numbers after each of the first turns, and in the end after all.
+    // The calls are whole turns, and children's jobs finish in the order of their starts. Where it
+    // is refused, the turn that comes next is begun, the refusal of its step stands, and then jobs
+    // alone are lost. The watcher is told the numbers after each whole turn.
     ensures led { (b : IsBuiltWith A (N.yields runner.old) (N.starts runner.old)
         (N.starts runner.new) (S.tells sink.old) (S.tells sink.new) jobs engine.old engine.new)
-        × EndsBuild A (N.yields runner.old) (S.tells sink.new) jobs engine.old engine.new
-        b.built.led.calls (W.told watcher.old) (W.told watcher.new) result }
+        × EndsBuild A (N.yields runner.old) (S.tells sink.old) (S.tells sink.new) jobs engine.old
+        engine.new b.built.led.calls (W.told watcher.old) (W.told watcher.new) result }
     ensures done { OnOk result (HaveAllFinished engine.new) }
     // The store has what each step came to, from the first to the last.
     ensures stored { OnOk result

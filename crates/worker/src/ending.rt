@@ -1,4 +1,5 @@
-ghost use Rattle.std.specs.Prelude.{◌≡◌, ◌+◌, ◌-◌, ◌<◌, Some, IfErr, IfOk, OnOk, OnErr, length};
+ghost use Rattle.std.specs.Prelude.{◌≡◌, ◌+◌, ◌-◌, ◌<◌, [], ◌∷◌, ◌++◌, Some, IfErr, IfOk, OnOk};
+ghost use Rattle.std.specs.Prelude.{OnErr, length};
 ghost use Rattle.runs.specs.Calls.{without_job};
 ghost use Rattle.runs.specs.Engine.{JobValue, job_in};
 ghost use Rattle.std.specs.Result.{IsErrAnd};
@@ -6,10 +7,10 @@ ghost use Rattle.worker.specs.Counted.{Counts, IsDevice, IsFetch};
 ghost use Rattle.worker.specs.Outcomes.{YieldsNoMore, HasAllRight, HasTrees};
 ghost use Rattle.worker.specs.Values.{ProducedValue, StartsNone, made};
 ghost use Rattle.worker.specs.Going.{AreJobsOf, IsJobOf, HasEndedFirst, EndedWell};
-ghost use Rattle.worker.specs.Going.{HasResultOfFirst};
+ghost use Rattle.worker.specs.Going.{HasResultOfFirst, PutsFirst};
 ghost use Rattle.worker.specs.Stopping.{StopsCollecting, StopsEnd, StopsSettling};
 ghost use Rattle.worker.specs.Stored.{IsKept};
-ghost use Rattle.worker.specs.Storing.{HasResultOf};
+ghost use Rattle.worker.specs.Storing.{HasResultOf, PutsMade};
 
 use crate::child::Child;
 use crate::error::{BuildError, Refusal};
@@ -43,6 +44,7 @@ fn collect<A: Allocator + Copy, S: BlobSink<A>, N: Runner<A>>(
     ensures gave { IfOk result (λ v. (p : ProducedValue) × N.may_give job (made p)
         × (v ≡ p.outcome) × HasAllRight (S.tells sink.new).blobs p.blobs) }
     ensures trees { IfOk result (HasTrees (S.tells sink.new).blobs) }
+    ensures only { PutsMade (N.may_give job) (S.tells sink.old).blobs (S.tells sink.new).blobs }
     ensures refused { IfErr result (StopsCollecting (N.may_give job)) }
     ensures within { YieldsNoMore (N.yields runner.new) (N.yields runner.old) }
     ensures unlisted { StartsNone (N.starts runner.old) (N.starts runner.new) }
@@ -72,6 +74,8 @@ fn take<A: Allocator + Copy, S: BlobSink<A>, N: Runner<A>>(
     ensures refused { IfErr result
         (StopsEnd N.may_give (S.tells sink.new).blobs child engine.old) }
     ensures unchanged { OnErr result (engine.new ≡ engine.old) }
+    ensures only { PutsMade (N.may_give child.job) (S.tells sink.old).blobs
+        (S.tells sink.new).blobs }
     ensures within { YieldsNoMore (N.yields runner.new) (N.yields runner.old) }
     ensures unlisted { StartsNone (N.starts runner.old) (N.starts runner.new) }
     ensures closed { N.alive runner.new ≡ N.alive runner.old - 1 }
@@ -99,8 +103,12 @@ fn settle<A: Allocator + Copy, S: BlobSink<A>, N: Runner<A>>(
         (EndedWell N.may_give (S.tells sink.old) (S.tells sink.new) child engine.old engine.new) }
     ensures put { OnOk result
         (HasResultOf (S.tells sink.new) engine.new child.step child.action) }
+    ensures listed { OnOk result
+        ((S.tells sink.new).puts ≡ (S.tells sink.old).puts ++ child.action ∷ []) }
     ensures stopped { IfErr result (StopsSettling N.may_give
         (S.tells sink.old) (S.tells sink.new) child engine.old engine.new) }
+    ensures only { PutsMade (N.may_give child.job) (S.tells sink.old).blobs
+        (S.tells sink.new).blobs }
     ensures within { YieldsNoMore (N.yields runner.new) (N.yields runner.old) }
     ensures unlisted { StartsNone (N.starts runner.old) (N.starts runner.new) }
     ensures closed { N.alive runner.new ≡ N.alive runner.old - 1 }
@@ -137,10 +145,16 @@ pub(crate) fn finish_first<A: Allocator + Copy, S: BlobSink<A>, N: Runner<A>>(
         engine.old engine.new children.old.items children.new.items) }
     ensures put { OnOk result
         (HasResultOfFirst (S.tells sink.new) engine.new children.old.items) }
+    ensures listed { OnOk result
+        (PutsFirst (S.tells sink.old) (S.tells sink.new) children.old.items) }
     ensures stopped { IfErr result (λ e. HasEndedFirst
         (λ c old new. (e.step ≡ c.step) × StopsSettling N.may_give
         (S.tells sink.old) (S.tells sink.new) c old new e.refusal)
         engine.old engine.new children.old.items children.new.items) }
+    // What is put is the first child's.
+    ensures only { HasEndedFirst (λ c old new. PutsMade (N.may_give c.job)
+        (S.tells sink.old).blobs (S.tells sink.new).blobs)
+        engine.old engine.new children.old.items children.new.items }
     ensures within { YieldsNoMore (N.yields runner.new) (N.yields runner.old) }
     ensures unlisted { StartsNone (N.starts runner.old) (N.starts runner.new) }
     ensures closed { N.alive runner.new ≡ N.alive runner.old - 1 }

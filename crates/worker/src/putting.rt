@@ -1,8 +1,7 @@
-ghost use Rattle.std.specs.Prelude.{◌≡◌, ◌≢◌, ◌+◌, ◌-◌, ◌<◌, ◌≤◌, [], ◌∷◌, Some, IsSome, IfErr};
+ghost use Rattle.std.specs.Prelude.{◌≡◌, ◌+◌, ◌-◌, ◌<◌, ◌≤◌, [], ◌∷◌, ◌++◌, Some, IsSome, IfErr};
 ghost use Rattle.std.specs.Prelude.{OnOk, length};
-ghost use Rattle.std.specs.List.{AllByRecursion};
 ghost use Rattle.std.specs.Result.{IsErrAnd};
-ghost use Rattle.blob_digest.specs.Digest.{DigestValue, digest_of};
+ghost use Rattle.blob_digest.specs.Digest.{digest_of};
 ghost use Rattle.action_messages.specs.Action.{action_bytes};
 ghost use Rattle.wire.specs.Bytes.{IsBytes};
 ghost use Rattle.blob_source.specs.Sink.{HasRight};
@@ -13,7 +12,7 @@ ghost use Rattle.worker.specs.Outcomes.{HasAllRight, HasTrees, directories_of};
 ghost use Rattle.worker.specs.Counted.{Counts, IsFetch};
 ghost use Rattle.tree.specs.Folded.{items_of};
 ghost use Rattle.worker.specs.Stopped.{IsStoreFault};
-ghost use Rattle.worker.specs.Stored.{IsKept};
+ghost use Rattle.worker.specs.Stored.{IsKept, PutsNoOther};
 
 use crate::error::Refusal;
 use actions::{Outcome, Output};
@@ -35,9 +34,8 @@ pub fn put_all<A: Allocator + Copy, S: BlobSink<A>>(
     ensures kept { IsKept (S.tells sink.old) (S.tells sink.new) }
     ensures held { OnOk result (HasAllRight (S.tells sink.new).blobs (items_of blobs.now)) }
     // What stands under the digest of none of them stays.
-    ensures others { (d : DigestValue)
-        → AllByRecursion (λ b. digest_of b ≢ d) (items_of blobs.now)
-        → (S.tells sink.new).blobs d ≡ (S.tells sink.old).blobs d }
+    ensures only { PutsNoOther (items_of blobs.now) (S.tells sink.old).blobs
+        (S.tells sink.new).blobs }
     // The store is called at most once for each.
     ensures once { (S.tells sink.new).calls ≤ (S.tells sink.old).calls + length blobs.now }
     ensures failed { IfErr result IsStoreFault }
@@ -64,6 +62,7 @@ fn put_once<A: Allocator + Copy, S: BlobSink<A>>(
     ensures held { OnOk result (HasRight (S.tells sink.new).blobs (digest_of blob.now)) }
     ensures stays { StaysPut put.old put.new }
     ensures listed { OnOk result (HasPut put.new (digest_of blob.now)) }
+    ensures only { PutsNoOther (blob.now ∷ []) (S.tells sink.old).blobs (S.tells sink.new).blobs }
     ensures once { (S.tells sink.new).calls
         ≤ (S.tells sink.old).calls + not_put put.old (blob.now ∷ []) }
     ensures failed { IfErr result IsStoreFault }
@@ -96,6 +95,9 @@ pub(crate) fn put_input<A: Allocator + Copy, S: BlobSink<A>>(
         (HasAllRight (S.tells sink.new).blobs (items_of job.now.input.directories.items)) }
     ensures stays { StaysPut put.old put.new }
     ensures listed { OnOk result (HasPutAll put.new (items_of job.now.input.directories.items)) }
+    ensures only { PutsNoOther (action_bytes job.now.action
+        ∷ items_of job.now.input.directories.items)
+        (S.tells sink.old).blobs (S.tells sink.new).blobs }
     // The store is called for the action, and at most once for each Directory that wasn't put.
     ensures once { (S.tells sink.new).calls ≤ (S.tells sink.old).calls + 1
         + not_put put.old (items_of job.now.input.directories.items) }
@@ -121,6 +123,8 @@ fn put_directories<A: Allocator + Copy, S: BlobSink<A>>(
     ensures kept { IsKept (S.tells sink.old) (S.tells sink.new) }
     ensures held { OnOk result
         (HasAllRight (S.tells sink.new).blobs (directories_of tree.now)) }
+    ensures only { PutsNoOther (directories_of tree.now) (S.tells sink.old).blobs
+        (S.tells sink.new).blobs }
     ensures once { OnOk result
         ((S.tells sink.new).calls ≤ (S.tells sink.old).calls + length (directories_of tree.now)) }
     ensures failed { IfErr result IsStoreFault }
@@ -143,9 +147,11 @@ pub(crate) fn put_trees<A: Allocator + Copy, S: BlobSink<A>>(
 ) -> Result<(), Refusal<A>>
     ensures kept { IsKept (S.tells sink.old) (S.tells sink.new) }
     ensures held { OnOk result (HasTrees (S.tells sink.new).blobs outcome.now) }
+    ensures only { PutsNoOther (tree_blobs outcome.now.outputs) (S.tells sink.old).blobs
+        (S.tells sink.new).blobs }
     // The store is called at most once for each Tree and each of its Directories.
-    ensures once { OnOk result
-        ((S.tells sink.new).calls ≤ (S.tells sink.old).calls + tree_blobs outcome.now.outputs) }
+    ensures once { OnOk result ((S.tells sink.new).calls
+        ≤ (S.tells sink.old).calls + length (tree_blobs outcome.now.outputs)) }
     ensures failed { IfErr result IsStoreFault }
     ensures fetched { Counts (S.tells sink.old).failures (S.tells sink.new).failures
         (IsErrAnd result IsFetch) }
@@ -168,6 +174,9 @@ fn put_encoded<A: Allocator + Copy, S: BlobSink<A>>(
 ) -> Result<(), Refusal<A>>
     ensures kept { IsKeptBut action.now (λ b. b ≡ bytes.now) (S.tells sink.old) (S.tells sink.new) }
     ensures held { OnOk result ((S.tells sink.new).results action.now ≡ Some bytes.now) }
+    ensures listed { OnOk result
+        ((S.tells sink.new).puts ≡ (S.tells sink.old).puts ++ action.now ∷ []) }
+    ensures blobs { (S.tells sink.new).blobs ≡ (S.tells sink.old).blobs }
     // For the prover: what is in a slice are bytes.
     ensures bytes { IsBytes bytes.now }
     ensures failed { IfErr result IsStoreFault }
@@ -191,6 +200,9 @@ pub(crate) fn put_outcome<A: Allocator + Copy, S: BlobSink<A>>(
     ensures kept { IsKeptBut action.now (IsResultOfStep engine.now step)
         (S.tells sink.old) (S.tells sink.new) }
     ensures put { OnOk result (HasResultOf (S.tells sink.new) engine.now step action.now) }
+    ensures listed { OnOk result
+        ((S.tells sink.new).puts ≡ (S.tells sink.old).puts ++ action.now ∷ []) }
+    ensures blobs { (S.tells sink.new).blobs ≡ (S.tells sink.old).blobs }
     ensures failed { IfErr result IsStoreFault }
     ensures fetched { Counts (S.tells sink.old).failures (S.tells sink.new).failures
         (IsErrAnd result IsFetch) }

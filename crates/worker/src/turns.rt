@@ -1,4 +1,5 @@
-ghost use Rattle.std.specs.Prelude.{◌≡◌, ◌↔◌, ◌+◌, ◌-◌, ◌<◌, ◌≤◌, ℕ, [], Some, None, IsTrue};
+ghost use Rattle.std.specs.Prelude.{◌≡◌, ◌↔◌, ◌+◌, ◌-◌, ◌<◌, ◌≤◌, ℕ, [], ◌++◌, Some, None};
+ghost use Rattle.std.specs.Prelude.{IsTrue};
 ghost use Rattle.std.specs.Prelude.{IfSome, IfErr, OnOk, OnErr, length};
 ghost use Rattle.blob_source.specs.Sink.{KeepsRight};
 ghost use Rattle.blob_source.specs.Source.{Telling};
@@ -8,8 +9,8 @@ ghost use Rattle.std.specs.Result.{IsErrAnd};
 ghost use Rattle.worker.specs.Counted.{Counts, IsDevice, IsFetch};
 ghost use Rattle.worker.specs.Storing.{Remembers, StaysRemembered, StoresSteps};
 ghost use Rattle.worker.specs.Outcomes.{YieldsNoMore};
-ghost use Rattle.worker.specs.Calls.{AreTurns, HasNoneStartable, IsLeastStartable, IsStartable};
-ghost use Rattle.worker.specs.Calls.{PutsOf};
+ghost use Rattle.worker.specs.Calls.{HasNoneStartable, IsLeastStartable, IsStartable, PutsOf};
+ghost use Rattle.worker.specs.Calls.{came_of};
 ghost use Rattle.worker.specs.Going.{AreJobsOf, IsJobOf, IsTurn, IsGoing, turns_left};
 ghost use Rattle.worker.specs.Going.{AreOneTurn, FinishesOnly, GoesOnBy, is_start, step_of};
 ghost use Rattle.worker.specs.Going.{taken_in};
@@ -102,15 +103,16 @@ pub(crate) fn take_turn<A: Allocator + Copy, S: BlobSink<A>, N: Runner<A>>(
         → IsTurn most engine.old children.old.items turn
         → (g : IsGoing A (N.yields entry) N.may_give (N.starts entry) (N.starts runner.old)
         before (S.tells sink.old) most first
-        engine.old children.old.items) → AreTurns g.led.built.led.calls
+        engine.old children.old.items)
         → (on : GoesOnBy A (N.yields entry) N.may_give (N.starts entry) (N.starts runner.new)
         before (S.tells sink.new) most first
         engine.new children.new.items g.led.built.led.calls
         (taken_in (is_start turn) (step_of turn children.old.items) engine.old engine.new))
-        × IfErr result (λ e. IsRefusedBuild A (N.yields entry) (S.tells sink.new) most
-        on.going.led.built.led.calls first engine.new e.step e.refusal)
+        × IfErr result (λ e. IsRefusedBuild A (N.yields entry) before (S.tells sink.new) most
+        g.led.built.led.calls on.going.led.built.led.calls first engine.new e.step e.refusal)
         × PutsOf on.more (S.tells sink.old) (S.tells sink.new)
-        × OnOk result (AreOneTurn on.more) }
+        × OnOk result (AreOneTurn on.more
+        × ((S.tells sink.new).puts ≡ (S.tells sink.old).puts ++ came_of on.more)) }
     // What the store has of what has finished, it has of what finishes in this turn too.
     ensures stored { OnOk result ((entry : N) (before : Telling) (most : ℕ) (first : EngineValue)
         → IsGoing A (N.yields entry) N.may_give (N.starts entry) (N.starts runner.old)

@@ -47,14 +47,19 @@ returns-in-Err-clause-bad g c path is =
       after = whole.0;
       whole = whole.1;
       collected = all_collected works ended folder c.args.paths.now (take c.loop-path.path-index c.args.paths.now) _ c.loop-path.outcome (items_of c.loop-path.blobs.items) c.loop-path.invariant;
-      bad = subst (HasNoOutput works ended) place bad;
+      is = subst (HasNoOutput works ended) place bad;
     })
 
 pub returns-in-Err-clause-failed : goal.returns-in-Err-clause-failed
 returns-in-Err-clause-failed g c =
     let works = g.W.Workshop.works in
     let paths = c.args.paths.now in
-    trouble_tells (IsUnread works c.args.ended.now paths) c.in-Err.trouble c.args.program c.at.result
-    (trouble_so (IsUnreadOutput works c.args.ended.now c.loop-path.outcome c.path-item.result) (IsUnread works c.args.ended.now paths) c.in-Err.trouble
-    (λ error h. unread_output works c.args.ended.now paths c.loop-path.path-index c.path-item.result c.loop-path.outcome error c.loop-path-test.true c.path-item.is c.loop-path.invariant.among h) c.in-Err.ensures.failed)
+    let ended = c.args.ended.now in
+    let folder = c.args.folder.now in
+    let before = take c.loop-path.path-index paths in
+    let place : c.as_str-in-loop-path.result.now ≡ place_in folder (path_text c.path-item.result) = c.as_str-in-loop-path.ensures.value ∙ c.in-Ok.ensures ∙ ap (λ t. place_in folder t) c.as_str.ensures.value in
+    let collected = all_collected works ended folder paths before _ c.loop-path.outcome (items_of c.loop-path.blobs.items) c.loop-path.invariant in
+    trouble_tells (IsUnread works ended folder paths) c.in-Err.trouble c.args.program c.at.result
+    (trouble_so (IsUnreadOutput works ended c.as_str-in-loop-path.result.now c.loop-path.outcome c.path-item.result) (IsUnread works ended folder paths) c.in-Err.trouble
+    (λ error h. unread_output works ended folder c.as_str-in-loop-path.result.now paths c.loop-path.path-index c.path-item.result c.loop-path.outcome error c.loop-path-test.true c.path-item.is place collected c.loop-path.invariant.among h) c.in-Err.ensures.failed)
     c.at.ensures.failed

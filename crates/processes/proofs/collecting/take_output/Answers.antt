@@ -4,7 +4,7 @@ use Rattle.actions.specs.Outcome.{AddsOutput, output_value}
 use Rattle.processes.specs.Collected.{IsOutputAt}
 use Rattle.processes.proofs.Walks.{contains_one}
 use Rattle.std.proofs.lemmas.Result.{err_from_is_err_and}
-use Rattle.processes.proofs.Unread.{output_unread}
+use Rattle.processes.proofs.Unread.{here_unwalked, output_unread, system_tells, unread_added, walk_unread}
 use Rattle.processes.proofs.collecting.take_output.Goals as goal
 use Rattle.processes.proofs.collecting.take_output.Goals.{in-File+in_ok-digest-in-File, in-Folder+in_ok-keep_folder-in-Folder}
 
@@ -45,4 +45,24 @@ returns-clause-more g c =
 pub returns-in_err-add-clause-failed : goal.returns-in_err-add-clause-failed
 returns-in_err-add-clause-failed g c =
     let p = err_from_is_err_and c.from_residual-in_err-add.result c.from_residual-in_err-add.ensures.1 in
-    rw p.1 (output_unread g.W.Workshop.works c.args.ended.now c.in_err-add.field-0.0 p.0 c.args.outcome.now _ c.args.path.now c.in_ok-copy_of.ensures p.2 c.in_err-add.ensures.refused)
+    rw p.1 (output_unread g.W.Workshop.works c.args.ended.now c.args.place.now c.in_err-add.field-0.0 p.0 c.args.outcome.now _ c.args.path.now c.in_ok-copy_of.ensures p.2 c.in_err-add.ensures.refused)
+
+pub returns-in_err-look-clause-failed : goal.returns-in_err-look-clause-failed
+returns-in_err-look-clause-failed g c =
+    let works = g.W.Workshop.works in
+    let p = err_from_is_err_and c.from_residual.result c.from_residual.ensures.1 in
+    rw p.1 (unread_added works c.args.ended.now c.args.place.now c.args.outcome.now c.args.path.now p.0 (walk_unread works c.args.ended.now c.args.place.now p.0
+    (here_unwalked works c.args.ended.now c.args.place.now p.0 (system_tells (works.unread c.args.ended.now c.args.place.now) c.in_err-look.field-0.0 p.0 p.2 c.in_err-look.ensures.failed))))
+
+pub returns-in_err-digest-in-File-clause-failed : goal.returns-in_err-digest-in-File-clause-failed
+returns-in_err-digest-in-File-clause-failed g c =
+    let works = g.W.Workshop.works in
+    let p = err_from_is_err_and c.from_residual-in_err-digest-in-File.result c.from_residual-in_err-digest-in-File.ensures.1 in
+    rw (p.1, p.2) (unread_added works c.args.ended.now c.args.place.now c.args.outcome.now c.args.path.now c.in_err-digest-in-File.field-0.0 (walk_unread works c.args.ended.now c.args.place.now c.in_err-digest-in-File.field-0.0
+    (here_unwalked works c.args.ended.now c.args.place.now c.in_err-digest-in-File.field-0.0 c.in_err-digest-in-File.ensures.failed)))
+
+pub returns-in_err-keep_folder-in-Folder-clause-failed : goal.returns-in_err-keep_folder-in-Folder-clause-failed
+returns-in_err-keep_folder-in-Folder-clause-failed g c =
+    let works = g.W.Workshop.works in
+    let p = err_from_is_err_and c.from_residual-in_err-keep_folder-in-Folder.result c.from_residual-in_err-keep_folder-in-Folder.ensures.1 in
+    rw (p.1, p.2) (unread_added works c.args.ended.now c.args.place.now c.args.outcome.now c.args.path.now c.in_err-keep_folder-in-Folder.field-0.0 c.in_err-keep_folder-in-Folder.ensures.failed)

@@ -13,7 +13,9 @@ use Rattle.processes.specs.Laying.{place_in}
 use Rattle.processes.specs.Walking.{IsBare}
 use Rattle.processes.proofs.Walks.{IsSoFar, none_seen, all_seen, one_bare, one_file, one_folder, one_of, one_fewer, bad_name, bad_below, bad_standing}
 use Rattle.tree.specs.FlatTree.{IsTaken}
-use Rattle.processes.proofs.Unread.{add_unread, listed_twice}
+use Rattle.processes.proofs.Unread.{add_unread, below_unwalked, here_unwalked, listed_twice, system_tells}
+use Rattle.processes.specs.Walking.{TellsTrouble}
+use Rattle.processes.specs.Collected.{IsUnwalked}
 use Rattle.processes.proofs.walking.+walk.Goals as goal
 use Rattle.processes.proofs.walking.+walk.Goals.{in-File+in_ok-digest-in-File+in_ok-add-in-File, in-Folder+in_ok-copy_of-in-Folder+in_ok-add-in-Folder+in_ok-walk-in-Folder+in-None-1, in-Folder+in_ok-copy_of-in-Folder+in_ok-add-in-Folder+in_ok-walk-in-Folder+in-Some-1}
 
@@ -160,7 +162,7 @@ returns-in_err-add-in-File-clause-failed g t c =
     let at : c.in_ok-path.path ≡ path ++ n ∷ [] = c.in_ok-path.ensures.path ∙ ap (λ x. path ++ x ∷ []) c.as_str.ensures.value in
     let p = err_from_is_err_and c.from_residual-in_err-add-in-File.result c.from_residual-in_err-add-in-File.ensures.1 in
     let listed = subst (λ ns. works.lists ended place (Some (map string_bytes ns))) (sym c.deref-name-items.ensures.value) c.in_ok-names.ensures.listed in
-    rw p.1 (add_unread works ended c.in_err-add-in-File.field-0.0 p.0 _ (IsTaken c.loop-name.tree _) p.2 c.in_err-add-in-File.ensures.refused (λ taken.
+    rw p.1 (add_unread works ended place c.in_err-add-in-File.field-0.0 p.0 _ (IsTaken c.loop-name.tree _) p.2 c.in_err-add-in-File.ensures.refused (λ taken.
     listed_twice works ended string_bytes place path c.deref-name-items.result.now c.loop-name.name-index c.name-item.result c.loop-name-test.true c.name-item.is listed
     c.args.tree.now c.loop-name.tree (items_of c.args.blobs.now.items) (items_of c.loop-name.blobs.items) c.loop-name.invariant (subst (IsTaken c.loop-name.tree) (at) taken)))
 
@@ -174,6 +176,44 @@ returns-in_err-add-in-Folder-clause-failed g t c =
     let at : c.in_ok-path.path ≡ path ++ n ∷ [] = c.in_ok-path.ensures.path ∙ ap (λ x. path ++ x ∷ []) c.as_str.ensures.value in
     let p = err_from_is_err_and c.from_residual-in_err-add-in-Folder.result c.from_residual-in_err-add-in-Folder.ensures.1 in
     let listed = subst (λ ns. works.lists ended place (Some (map string_bytes ns))) (sym c.deref-name-items.ensures.value) c.in_ok-names.ensures.listed in
-    rw p.1 (add_unread works ended c.in_err-add-in-Folder.field-0.0 p.0 _ (IsTaken c.loop-name.tree _) p.2 c.in_err-add-in-Folder.ensures.refused (λ taken.
+    rw p.1 (add_unread works ended place c.in_err-add-in-Folder.field-0.0 p.0 _ (IsTaken c.loop-name.tree _) p.2 c.in_err-add-in-Folder.ensures.refused (λ taken.
     listed_twice works ended string_bytes place path c.deref-name-items.result.now c.loop-name.name-index c.name-item.result c.loop-name-test.true c.name-item.is listed
     c.args.tree.now c.loop-name.tree (items_of c.args.blobs.now.items) (items_of c.loop-name.blobs.items) c.loop-name.invariant (subst (IsTaken c.loop-name.tree) (c.in_ok-copy_of-in-Folder.ensures ∙ at) taken)))
+
+pub returns-in_err-names-clause-failed : goal.returns-in_err-names-clause-failed
+returns-in_err-names-clause-failed g t c =
+    let p = err_from_is_err_and c.from_residual.result c.from_residual.ensures.1 in
+    rw (p.1, p.2) (here_unwalked g.W.Workshop.works c.args.ended.now c.args.place.now c.in_err-names.field-0.0 c.in_err-names.ensures.failed)
+
+pub returns-in_err-look-clause-failed : goal.returns-in_err-look-clause-failed
+returns-in_err-look-clause-failed g t c =
+    let works = g.W.Workshop.works in
+    let ended = c.args.ended.now in
+    let place = c.args.place.now in
+    let n = string_bytes c.name-item.result in
+    let spot : string_bytes c.in_ok-place.place ≡ place_in place n = c.in_ok-place.ensures ∙ ap (λ x. place_in place x) c.as_str-in-loop-name.ensures.value in
+    let p = err_from_is_err_and c.from_residual-in_err-look.result c.from_residual-in_err-look.ensures.1 in
+    rw p.1 (below_unwalked works ended place n p.0 (here_unwalked works ended (place_in place n) p.0 (system_tells (works.unread ended (place_in place n)) c.in_err-look.field-0.0 p.0 p.2
+    (subst (λ q. works.unread ended q c.in_err-look.field-0.0) (c.as_str-in-loop-name-2.ensures.value ∙ spot) c.in_err-look.ensures.failed))))
+
+pub returns-in_err-digest-in-File-clause-failed : goal.returns-in_err-digest-in-File-clause-failed
+returns-in_err-digest-in-File-clause-failed g t c =
+    let works = g.W.Workshop.works in
+    let ended = c.args.ended.now in
+    let place = c.args.place.now in
+    let n = string_bytes c.name-item.result in
+    let spot : string_bytes c.in_ok-place.place ≡ place_in place n = c.in_ok-place.ensures ∙ ap (λ x. place_in place x) c.as_str-in-loop-name.ensures.value in
+    let p = err_from_is_err_and c.from_residual-in_err-digest-in-File.result c.from_residual-in_err-digest-in-File.ensures.1 in
+    rw (p.1, p.2) (below_unwalked works ended place n c.in_err-digest-in-File.field-0.0 (here_unwalked works ended (place_in place n) c.in_err-digest-in-File.field-0.0
+    (subst (λ q. TellsTrouble (works.unread ended q) c.in_err-digest-in-File.field-0.0) (c.as_str-in-File.ensures.value ∙ spot) c.in_err-digest-in-File.ensures.failed)))
+
+pub returns-in_err-walk-in-Folder-clause-failed : goal.returns-in_err-walk-in-Folder-clause-failed
+returns-in_err-walk-in-Folder-clause-failed g t c =
+    let works = g.W.Workshop.works in
+    let ended = c.args.ended.now in
+    let place = c.args.place.now in
+    let n = string_bytes c.name-item.result in
+    let spot : string_bytes c.in_ok-place.place ≡ place_in place n = c.in_ok-place.ensures ∙ ap (λ x. place_in place x) c.as_str-in-loop-name.ensures.value in
+    let p = err_from_is_err_and c.from_residual-in_err-walk-in-Folder.result c.from_residual-in_err-walk-in-Folder.ensures.1 in
+    rw (p.1, p.2) (below_unwalked works ended place n c.in_err-walk-in-Folder.field-0.0
+    (subst (λ q. TellsTrouble (λ error. IsUnwalked works ended error q) c.in_err-walk-in-Folder.field-0.0) (c.as_str-in-Folder.ensures.value ∙ spot) c.in_err-walk-in-Folder.ensures.failed))

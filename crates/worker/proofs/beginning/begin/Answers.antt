@@ -6,6 +6,8 @@ use Rattle.runs.specs.Engine.{EngineValue, job_in}
 use Rattle.worker.specs.Going.{kept_job}
 use Rattle.worker.specs.Stopped.{StopsStep}
 use Rattle.worker.proofs.Started.{started_in, started_value, was_started}
+use Rattle.std.specs.Prelude.{slice_get}
+use Rattle.worker.proofs.Telling.{held_kept}
 use Rattle.worker.proofs.Goes.{begun}
 use Rattle.worker.proofs.Knowing.{known_of, knows_still, knows_started}
 use Rattle.worker.proofs.PutOnce.{put_still}
@@ -92,6 +94,17 @@ returns-clause-stopped g c =
         was_started started t.blobs c.launch.ensures.kept.blobs,
         c.lose.ensures ∙ ap (without_job c.in-Ok.job.id) c.in-Err-launch.ensures.unchanged,
         subst (λ i. StopsStep (g.N.Runner.yields c.args.runner.now) t c.start.new.self i c.in-Err-launch.refusal) started.prepared.of_step c.in-Err-launch.ensures.refused,
+        λ of_child. (
+          c.in-Ok.job.id,
+          kept_job c.in-Ok.job,
+          started_value started,
+          started.prepared.of_step,
+          (
+            c.in-Ok.job.command,
+            subst (λ i. slice_get c.start.new.self.commands i ≡ Some c.in-Ok.job.command) started.prepared.of_step (started_in started).command,
+            λ v held fits. absurd (c.in-Err-launch.ensures.untaken of_child v (held_kept (kept_some c.start.ensures.called) held) fits),
+          ),
+        ),
       ),
     )
 

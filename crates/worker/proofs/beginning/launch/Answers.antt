@@ -6,7 +6,7 @@ use Rattle.std.specs.Prelude.{IfSome}
 use Rattle.worker.specs.declared.child.Child.{Child}
 use Rattle.worker.specs.Outcomes.{IsHeld, CanBeTakenFor, CanBeTaken}
 use Rattle.worker.specs.Going.{kept_job}
-use Rattle.worker.proofs.Stopping.{store_stops, job_begun, child_stops}
+use Rattle.worker.proofs.Stopping.{store_stops, store_no_child, job_begun, child_stops}
 use Rattle.worker.proofs.Telling.{held_kept}
 use Rattle.worker.proofs.Keeping.{kept_trans, right_still}
 use Rattle.worker.proofs.PutOnce.{put_still}
@@ -114,6 +114,36 @@ returns-in_err-child-clause-refused g c =
     (subst (HasRight (g.S.BlobSource.tells c.start_child.new.sink).blobs) (sym c.requires.job.digest) (right_still (kept_trans c.recorded_outcome.ensures.kept c.start_child.ensures.kept).blobs c.in_ok-put_input.ensures.held))
     c.in_err-child.field-0.0 c.in_err-child.ensures.refused)
 
+pub returns-in_err-put_input-clause-untaken : goal.returns-in_err-put_input-clause-untaken
+returns-in_err-put_input-clause-untaken g c =
+    let p = err_from_is_err_and c.from_residual.result c.from_residual.ensures.1 in
+    rw (p.1, p.2) (λ of_child. absurd (store_no_child c.in_err-put_input.field-0.0 c.in_err-put_input.ensures.failed of_child))
+
+pub returns-in_err-outcome-clause-untaken : goal.returns-in_err-outcome-clause-untaken
+returns-in_err-outcome-clause-untaken g c =
+    let p = err_from_is_err_and c.from_residual-in_err-outcome.result c.from_residual-in_err-outcome.ensures.1 in
+    rw (p.1, p.2) (λ of_child. absurd (store_no_child c.in_err-outcome.field-0.0 c.in_err-outcome.ensures.failed of_child))
+
+pub returns-in_err-put_trees-clause-untaken : goal.returns-in_err-put_trees-clause-untaken
+returns-in_err-put_trees-clause-untaken g c =
+    let p = err_from_is_err_and c.from_residual-in_err-put_trees.result c.from_residual-in_err-put_trees.ensures.1 in
+    rw (p.1, p.2) (λ of_child. absurd (store_no_child c.in_err-put_trees.field-0.0 c.in_err-put_trees.ensures.failed of_child))
+
+pub returns-in_err-finish-clause-untaken : goal.returns-in_err-finish-clause-untaken
+returns-in_err-finish-clause-untaken g c =
+    let p = err_from_is_err_and c.from_residual-in_err-finish.result c.from_residual-in_err-finish.ensures.1 in
+    rw (p.1, p.2) (λ of_child. absurd of_child)
+
+pub returns-in_err-reserve-clause-untaken : goal.returns-in_err-reserve-clause-untaken
+returns-in_err-reserve-clause-untaken g c =
+    let p = err_from_is_err_and c.from_residual-in_err-reserve.result c.from_residual-in_err-reserve.ensures.1 in
+    rw (p.1, p.2) (λ of_child. absurd of_child)
+
+pub returns-in_err-child-clause-untaken : goal.returns-in_err-child-clause-untaken
+returns-in_err-child-clause-untaken g c =
+    let p = err_from_is_err_and c.from_residual-in_err-child.result c.from_residual-in_err-child.ensures.1 in
+    rw (p.1, p.2) (λ of_child v held fits. c.in_ok-outcome.ensures.none c.in_default.is v (held_kept (kept_trans c.put_input.ensures.kept c.recorded_outcome.ensures.kept) held) fits)
+
 pub returns-in_err-put_input-clause-fetched : goal.returns-in_err-put_input-clause-fetched
 returns-in_err-put_input-clause-fetched g c = counts_exit IsFetch c.from_residual.result c.from_residual.ensures.1 (c.in_err-put_input.ensures.fetched)
 
@@ -170,7 +200,7 @@ returns-in-Some-clause-put g c = put_still c.put_input.new.put (kept_trans c.rec
 
 pub returns-in-Some-clause-once : goal.returns-in-Some-clause-once
 returns-in-Some-clause-once g c = record {
-  rest = tree_blobs c.in-Some.outcome.outputs;
+  rest = length (tree_blobs c.in-Some.outcome.outputs);
   for_rest = inr (c.in-Some.outcome, c.in_ok-finish.ensures.finished, refl);
   once = λ most few.
       let put = c.put_input.ensures.once in

@@ -17,7 +17,7 @@ end_all-requires g c = record {
 }
 
 pub returns-in-Ok-clause-led : goal.returns-in-Ok-clause-led
-returns-in-Ok-clause-led g c = let going = c.in-Ok.ensures.going in let ends = going.1 in (going.0.led, record { turns = ends.turns; refused = tt; in_order = ends.in_order; watched = ends.watched; up_to_date = ends.up_to_date })
+returns-in-Ok-clause-led g c = let going = c.in-Ok.ensures.going in let ends = going.1 in (going.0.led, record { whole = ends.whole; turns = ends.turns; all = ends.all; refused = tt; in_order = ends.in_order; put = ends.put; watched = ends.watched; up_to_date = ends.up_to_date })
 
 pub returns-clause-led : goal.returns-clause-led
 returns-clause-led g c =
@@ -28,9 +28,12 @@ returns-clause-led g c =
     let t = g.S.BlobSource.tells c.take_turns.new.sink in (
       rest.0,
       record {
-        turns = tt;
-        refused = record { at = stop.at; led = stop.led; turns = stop.turns; rest = loses_then stop.rest lost_then; planned = stop.planned; stops = stop.stops };
+        whole = going.1.whole;
+        turns = going.1.turns;
+        all = tt;
+        refused = record { at = stop.at; led = stop.led; begun = stop.begun; are = stop.are; turn = stop.turn; rest = loses_then stop.rest lost_then; planned = stop.planned; stops = stop.stops };
         in_order = subst (FinishInOrder []) (sym lost_then.calls) (finish_join [] going.0.led.built.led.calls (map lost lost_then.ids) going.1.in_order (lost_in_order (jobs_after [] going.0.led.built.led.calls) lost_then.ids));
+        put = going.1.put;
         watched = watched_moved g.row.A.Denot (g.N.Runner.yields c.args.runner.now) c.args.jobs c.args.engine.now t t going.0.led.built.led.calls rest.0.built.led.calls (map lost lost_then.ids) lost_then.calls (puts_none t t (map lost lost_then.ids) kept_none) (λ e b at right. at) going.1.watched;
         up_to_date = tt;
       },

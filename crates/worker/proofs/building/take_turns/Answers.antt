@@ -1,12 +1,12 @@
-use Rattle.std.proofs.Common.{◌≡◌, ◌+◌, arith, refl, subst, sym, ap, ◌∙◌, length}
+use Rattle.std.proofs.Common.{◌≡◌, ◌+◌, [], ◌++◌, append-nil, append_assoc, arith, refl, subst, sym, ap, ◌∙◌, length}
 use Rattle.std.proofs.lemmas.Result.{err_from_is_err_and}
-use Rattle.worker.specs.Calls.{AreTurns}
+use Rattle.worker.specs.Calls.{AreTurns, came_of}
 use Rattle.worker.specs.Going.{AreJobsOf, FinishesOnly, IsJobOf, IsGoing, is_start, taken_in}
 use Rattle.worker.specs.Watching.{IsProgressOf, taken_count}
 use Rattle.worker.proofs.Keeping.{right_trans}
 use Rattle.worker.proofs.PutOnce.{remembers_none, remembers_then}
 use Rattle.worker.proofs.Complete.{all_finished}
-use Rattle.worker.proofs.Goes.{going_none, own_jobs, taken_join}
+use Rattle.worker.proofs.Goes.{came_join, going_none, own_jobs, taken_join}
 use Rattle.worker.proofs.Stopping.{turns_then}
 use Rattle.worker.proofs.Heard.{IsHeard, heard_none, heard_more, watched_moved}
 use Rattle.worker.specs.Counted.{IsDevice, IsFetch}
@@ -19,11 +19,12 @@ loop-turn-init g c =
     record {
       going = subst (λ xs. (h : IsGoing g.row.A.Denot (g.N.Runner.yields c.args.runner.now) g.N.Runner.may_give (g.N.Runner.starts c.args.runner.now) (g.N.Runner.starts c.args.runner.now) t t c.args.jobs c.args.engine.now c.args.engine.now xs) × IsProgressOf h.led.built.led.calls c.args.engine.now c.first_progress-progress.result
           × IsHeard g.row.A.Denot (g.N.Runner.yields c.args.runner.now) c.args.jobs c.args.engine.now t c.args.engine.now h.led.built.led.calls (g.W.Watcher.told c.args.watcher.now) (g.W.Watcher.told c.args.watcher.now)
-          × AreTurns h.led.built.led.calls) (sym c.requires.none) (
+          × AreTurns h.led.built.led.calls × (t.puts ≡ t.puts ++ came_of h.led.built.led.calls)) (sym c.requires.none) (
             going_none g.row.A.Denot g.row.N-Job.Denot (g.N.Runner.yields c.args.runner.now) g.N.Runner.may_give (g.N.Runner.starts c.args.runner.now) t c.args.jobs c.args.engine.now c.requires.idle,
             c.first_progress-progress.ensures,
             heard_none g.row.A.Denot (g.N.Runner.yields c.args.runner.now) c.args.jobs c.args.engine.now t (g.W.Watcher.told c.args.watcher.now),
             tt,
+            sym (append-nil t.puts),
           );
       within = λ l d p h. h;
       right = λ e b at right. at;
@@ -49,14 +50,14 @@ before_turn-before-requires-clause-there g c = own_jobs g.row.A.Denot (g.N.Runne
 pub progress_after-progress-requires-clause-there : goal.progress_after-progress-requires-clause-there
 progress_after-progress-requires-clause-there g c =
     own_jobs g.row.A.Denot (g.N.Runner.yields c.args.runner.now) g.N.Runner.may_give (g.N.Runner.starts c.args.runner.now) (g.N.Runner.starts c.take_turn.new.runner) (g.S.BlobSource.tells c.args.sink.now) (g.S.BlobSource.tells c.take_turn.new.sink) c.args.jobs c.args.engine.now c.take_turn.new.engine c.take_turn.new.children.items
-    (c.take_turn.ensures.going c.args.runner.now (g.S.BlobSource.tells c.args.sink.now) c.args.jobs c.args.engine.now c.loop-turn.invariant.within c.in-Some.ensures.turn c.loop-turn.invariant.going.0 c.loop-turn.invariant.going.3).0.going
+    (c.take_turn.ensures.going c.args.runner.now (g.S.BlobSource.tells c.args.sink.now) c.args.jobs c.args.engine.now c.loop-turn.invariant.within c.in-Some.ensures.turn c.loop-turn.invariant.going.0).0.going
 
 pub loop-turn-preserved : goal.loop-turn-preserved
 loop-turn-preserved g c =
     let told = g.W.Watcher.told in
     let new = c.take_turn.new.engine in
     let was = c.loop-turn.invariant.going in
-    let turn = c.in_ok-take_turn.ensures.going c.args.runner.now (g.S.BlobSource.tells c.args.sink.now) c.args.jobs c.args.engine.now c.loop-turn.invariant.within c.in-Some.ensures.turn was.0 was.3 in
+    let turn = c.in_ok-take_turn.ensures.going c.args.runner.now (g.S.BlobSource.tells c.args.sink.now) c.args.jobs c.args.engine.now c.loop-turn.invariant.within c.in-Some.ensures.turn was.0 in
     let on = turn.0 in
     let going = on.going in
     let calls = was.0.led.built.led.calls in
@@ -66,10 +67,13 @@ loop-turn-preserved g c =
     subst (λ b. taken_count all ≡ taken_count calls + taken_in b c.before_turn-before.result.step c.loop-turn.engine new) (sym c.before_turn-before.ensures.start)
     (subst (λ i. taken_count all ≡ taken_count calls + taken_in (is_start c.in-Some.turn) i c.loop-turn.engine new) (sym c.before_turn-before.ensures.step) (ap taken_count on.are ∙ taken_join calls on.more ∙ ap (λ m. taken_count calls + m) on.taken)) in
     let is : IsProgressOf all new c.progress_after-progress.result = c.progress_after-progress.ensures c.loop-turn.engine calls all was.1 c.before_turn-before.ensures.finished only counts going.order in
+    let whole = subst AreTurns (sym on.are) (turns_then calls on.more was.3 turn.3.0.0) in
+    let before = (g.S.BlobSource.tells c.args.sink.now).puts in
+    let put = turn.3.1 ∙ ap (λ ds. ds ++ came_of on.more) was.4 ∙ append_assoc before (came_of calls) (came_of on.more) ∙ ap (λ ds. before ++ ds) (sym (came_join calls on.more) ∙ ap came_of (sym on.are)) in
     let heard = heard_more g.row.A.Denot (g.N.Runner.yields c.args.runner.now) c.args.jobs c.args.engine.now (g.S.BlobSource.tells c.loop-turn.sink) (g.S.BlobSource.tells c.take_turn.new.sink) c.loop-turn.engine new calls on.more
-    (told c.args.watcher.now) (told c.loop-turn.watcher) (told c.watch.new.self) c.progress_after-progress.result was.2 turn.3.1 turn.2 c.take_turn.ensures.right c.watch.ensures going.led.built.led on.are is in
+    (told c.args.watcher.now) (told c.loop-turn.watcher) (told c.watch.new.self) c.progress_after-progress.result was.2 turn.3.0.1 turn.2 c.take_turn.ensures.right c.watch.ensures going.led.built.led on.are whole is in
     record {
-      going = (going, is, heard, subst AreTurns (sym on.are) (turns_then calls on.more was.3 turn.3.0));
+      going = (going, is, heard, whole, put);
       within = λ l d p h. c.loop-turn.invariant.within l d p (c.take_turn.ensures.within l d p h);
       right = right_trans c.loop-turn.invariant.right c.take_turn.ensures.right;
       stored = λ h. c.in_ok-take_turn.ensures.stored c.args.runner.now (g.S.BlobSource.tells c.args.sink.now) c.args.jobs c.args.engine.now c.loop-turn.invariant.going.0 (c.loop-turn.invariant.stored h);
@@ -84,12 +88,12 @@ pub returns-in_err-take_turn-clause-going : goal.returns-in_err-take_turn-clause
 returns-in_err-take_turn-clause-going g c =
     let p = err_from_is_err_and c.from_residual.result c.from_residual.ensures.1 in
     let was = c.loop-turn.invariant.going in
-    let on = c.in_err-take_turn.ensures.going c.args.runner.now (g.S.BlobSource.tells c.args.sink.now) c.args.jobs c.args.engine.now c.loop-turn.invariant.within c.in-Some.ensures.turn was.0 was.3 in
-    let heard = watched_moved g.row.A.Denot (g.N.Runner.yields c.args.runner.now) c.args.jobs c.args.engine.now (g.S.BlobSource.tells c.loop-turn.sink) (g.S.BlobSource.tells c.take_turn.new.sink) was.0.led.built.led.calls on.0.going.led.built.led.calls on.0.more on.0.are on.2 c.take_turn.ensures.right was.2.0.0 in
-    rw (p.1, p.2) (on.0.going, record { turns = tt; refused = on.1; in_order = on.0.going.in_order; watched = heard; up_to_date = tt })
+    let on = c.in_err-take_turn.ensures.going c.args.runner.now (g.S.BlobSource.tells c.args.sink.now) c.args.jobs c.args.engine.now c.loop-turn.invariant.within c.in-Some.ensures.turn was.0 in
+    let heard = watched_moved g.row.A.Denot (g.N.Runner.yields c.args.runner.now) c.args.jobs c.args.engine.now (g.S.BlobSource.tells c.loop-turn.sink) (g.S.BlobSource.tells c.take_turn.new.sink) was.0.led.built.led.calls on.0.going.led.built.led.calls on.0.more on.0.are on.2 c.take_turn.ensures.right was.2.0 in
+    rw (p.1, p.2) (on.0.going, record { whole = was.0.led.built.led.calls; turns = was.3; all = tt; refused = on.1; in_order = on.0.going.in_order; put = (on.2.put, on.2.are ∙ ap (λ ds. ds ++ on.2.put) was.4); watched = heard; up_to_date = tt })
 
 pub returns-clause-going : goal.returns-clause-going
-returns-clause-going g c = let was = c.loop-turn.invariant.going in (was.0, record { turns = was.3; refused = tt; in_order = was.0.in_order; watched = was.2.0.0; up_to_date = was.2.1 })
+returns-clause-going g c = let was = c.loop-turn.invariant.going in (was.0, record { whole = was.0.led.built.led.calls; turns = was.3; all = refl; refused = tt; in_order = was.0.in_order; put = ([], was.4 ∙ sym (append-nil _)); watched = was.2.0; up_to_date = was.2.1 })
 
 pub returns-in_err-take_turn-clause-right : goal.returns-in_err-take_turn-clause-right
 returns-in_err-take_turn-clause-right g c = right_trans c.loop-turn.invariant.right c.take_turn.ensures.right

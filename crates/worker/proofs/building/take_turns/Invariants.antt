@@ -1,8 +1,8 @@
-use Rattle.std.proofs.Common.{◌≡◌, ◌+◌, length}
+use Rattle.std.proofs.Common.{◌≡◌, ◌+◌, ◌++◌, length}
 use Rattle.blob_source.specs.Sink.{KeepsRight}
 use Rattle.worker.specs.Storing.{Remembers, StaysRemembered, StoresSteps}
 use Rattle.worker.specs.Outcomes.{YieldsNoMore}
-use Rattle.worker.specs.Calls.{AreTurns}
+use Rattle.worker.specs.Calls.{AreTurns, came_of}
 use Rattle.worker.specs.Going.{IsGoing, turns_left}
 use Rattle.worker.specs.Watching.{IsProgressOf}
 use Rattle.worker.proofs.Heard.{IsHeard}
@@ -17,7 +17,7 @@ invariant-loop-turn g l =
       going : (h : IsGoing g.row.A.Denot (yields l.fn.runner) g.N.Runner.may_give (g.N.Runner.starts l.fn.runner) (g.N.Runner.starts l.runner) (tells l.fn.sink) (tells l.sink) l.jobs l.fn.engine l.engine l.children.items)
           × IsProgressOf h.led.built.led.calls l.engine l.progress
           × IsHeard g.row.A.Denot (yields l.fn.runner) l.jobs l.fn.engine (tells l.sink) l.engine h.led.built.led.calls (told l.fn.watcher) (told l.watcher)
-          × AreTurns h.led.built.led.calls;
+          × AreTurns h.led.built.led.calls × ((tells l.sink).puts ≡ (tells l.fn.sink).puts ++ came_of h.led.built.led.calls);
       within : YieldsNoMore (yields l.runner) (yields l.fn.runner);
       right : KeepsRight (tells l.fn.sink).blobs (tells l.sink).blobs;
       stored : StoresSteps (tells l.fn.sink) l.fn.engine → StoresSteps (tells l.sink) l.engine;

@@ -1,10 +1,12 @@
-use Rattle.std.proofs.Common.{ap, subst}
+use Rattle.std.proofs.Common.{ap, inl, inr, refl, subst}
 use Rattle.std.proofs.lemmas.Result.{err_from_is_err_and}
 use Rattle.worker.proofs.Stopping.{end_comes}
 use Rattle.worker.specs.Values.{ProducedValue}
 use Rattle.tree.specs.Folded.{items_of}
 use Rattle.worker.specs.Outcomes.{HasAllRight}
-use Rattle.worker.proofs.Keeping.{kept_trans, all_right_still}
+use Rattle.worker.specs.Stored.{PutsNoOther}
+use Rattle.worker.specs.Storing.{tree_blobs}
+use Rattle.worker.proofs.Keeping.{kept_trans, all_right_still, only_behind, only_front, only_then}
 use Rattle.std.proofs.Common.{◌∙◌}
 use Rattle.worker.specs.Counted.{IsDevice, IsFetch}
 use Rattle.worker.proofs.Failures.{counts_none, counts_same, counts_from, counts_exit, store_no_device}
@@ -27,6 +29,34 @@ returns-clause-gave g c =
       ap (λ (p : ProducedValue). p.outcome) c.outcome.view_is,
       subst (λ (p : ProducedValue). HasAllRight end p.blobs) c.outcome.view_is (all_right_still put end bs c.put_trees.ensures.kept.blobs held),
     )
+
+pub returns-in_err-outcome-clause-only : goal.returns-in_err-outcome-clause-only
+returns-in_err-outcome-clause-only g c = inl refl
+
+pub returns-in_err-put_all-clause-only : goal.returns-in_err-put_all-clause-only
+returns-in_err-put_all-clause-only g c =
+    let old = (g.S.BlobSource.tells c.args.sink.now).blobs in
+    let put = (g.S.BlobSource.tells c.put_all.new.sink).blobs in
+    let own = subst (λ (p : ProducedValue). PutsNoOther p.blobs old put) c.outcome.view_is (subst (λ vs. PutsNoOther (items_of vs) old put) c.deref.ensures.value c.put_all.ensures.only) in
+    inr (c.in_ok-outcome.field-0, c.in_ok-outcome.ensures.gave, only_front _ _ own)
+
+pub returns-in_err-put_trees-clause-only : goal.returns-in_err-put_trees-clause-only
+returns-in_err-put_trees-clause-only g c =
+    let old = (g.S.BlobSource.tells c.args.sink.now).blobs in
+    let put = (g.S.BlobSource.tells c.put_all.new.sink).blobs in
+    let end = (g.S.BlobSource.tells c.put_trees.new.sink).blobs in
+    let own = subst (λ (p : ProducedValue). PutsNoOther p.blobs old put) c.outcome.view_is (subst (λ vs. PutsNoOther (items_of vs) old put) c.deref.ensures.value c.put_all.ensures.only) in
+    let trees = subst (λ (p : ProducedValue). PutsNoOther (tree_blobs p.outcome.outputs) put end) c.outcome.view_is c.put_trees.ensures.only in
+    inr (c.in_ok-outcome.field-0, c.in_ok-outcome.ensures.gave, only_then (only_front _ _ own) (only_behind _ _ trees))
+
+pub returns-clause-only : goal.returns-clause-only
+returns-clause-only g c =
+    let old = (g.S.BlobSource.tells c.args.sink.now).blobs in
+    let put = (g.S.BlobSource.tells c.put_all.new.sink).blobs in
+    let end = (g.S.BlobSource.tells c.put_trees.new.sink).blobs in
+    let own = subst (λ (p : ProducedValue). PutsNoOther p.blobs old put) c.outcome.view_is (subst (λ vs. PutsNoOther (items_of vs) old put) c.deref.ensures.value c.put_all.ensures.only) in
+    let trees = subst (λ (p : ProducedValue). PutsNoOther (tree_blobs p.outcome.outputs) put end) c.outcome.view_is c.put_trees.ensures.only in
+    inr (c.in_ok-outcome.field-0, c.in_ok-outcome.ensures.gave, only_then (only_front _ _ own) (only_behind _ _ trees))
 
 pub returns-in_err-outcome-clause-refused : goal.returns-in_err-outcome-clause-refused
 returns-in_err-outcome-clause-refused g c =

@@ -1,5 +1,5 @@
 use Rattle.std.proofs.Common.{refl, sym, subst}
-use Rattle.worker.specs.Going.{AreJobsOf, IsJobOf, HasResultOfFirst}
+use Rattle.worker.specs.Going.{AreJobsOf, IsJobOf, HasResultOfFirst, PutsFirst}
 use Rattle.worker.proofs.ending.finish_first.Goals as goal
 
 pub settle-requires : goal.settle-requires
@@ -15,6 +15,15 @@ returns-in-Ok-clause-put g c = subst (HasResultOfFirst (g.S.BlobSource.tells c.s
 
 pub returns-in-Err-clause-stopped : goal.returns-in-Err-clause-stopped
 returns-in-Err-clause-stopped g c = record { child = c.in-Some.child; is = c.in-Some.ensures.items; end = (refl, c.in-Err.ensures.stopped) }
+
+pub returns-in-Ok-clause-listed : goal.returns-in-Ok-clause-listed
+returns-in-Ok-clause-listed g c = subst (PutsFirst (g.S.BlobSource.tells c.args.sink.now) (g.S.BlobSource.tells c.settle.new.sink)) (sym c.in-Some.ensures.items) c.in-Ok.ensures.listed
+
+pub returns-in-Ok-clause-only : goal.returns-in-Ok-clause-only
+returns-in-Ok-clause-only g c = record { child = c.in-Some.child; is = c.in-Some.ensures.items; end = c.settle.ensures.only }
+
+pub returns-in-Err-clause-only : goal.returns-in-Err-clause-only
+returns-in-Err-clause-only g c = record { child = c.in-Some.child; is = c.in-Some.ensures.items; end = c.settle.ensures.only }
 
 pub returns-in-Ok-clause-fetched : goal.returns-in-Ok-clause-fetched
 returns-in-Ok-clause-fetched g c = c.in-Ok.ensures.fetched

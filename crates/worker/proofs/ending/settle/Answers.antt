@@ -1,7 +1,9 @@
-use Rattle.std.proofs.Common.{◌≡◌, ◌∙◌, Some, ap, subst, sym, inl, inr}
+use Rattle.std.specs.Prelude.{OnOk}
+use Rattle.std.proofs.Common.{◌≡◌, ◌∙◌, [], ◌∷◌, ◌++◌, Some, ap, subst, sym, inl, inr}
 use Rattle.runs.specs.Calls.{without_job}
 use Rattle.runs.specs.Engine.{EngineValue, job_in}
 use Rattle.std.proofs.lemmas.Result.{IfErr-weaker}
+use Rattle.worker.specs.Storing.{PutsMade}
 use Rattle.worker.proofs.Lefts.{finished_there}
 use Rattle.worker.proofs.Taking.{ends_put, on_ok}
 use Rattle.worker.proofs.Failures.{counts_same, counts_from, put_no_device}
@@ -33,6 +35,12 @@ returns-in-Err-clause-stopped g c =
       c.take.ensures.kept,
       c.in-Err.ensures.refused,
     )
+
+pub returns-in-Ok-clause-listed : goal.returns-in-Ok-clause-listed
+returns-in-Ok-clause-listed g c = subst (λ ds. OnOk c.put_outcome.result ((g.S.BlobSource.tells c.put_outcome.new.sink).puts ≡ ds ++ c.args.child.action ∷ [])) c.take.ensures.kept.puts c.put_outcome.ensures.listed
+
+pub returns-in-Ok-clause-only : goal.returns-in-Ok-clause-only
+returns-in-Ok-clause-only g c = subst (PutsMade (g.N.Runner.may_give c.args.child.job) (g.S.BlobSource.tells c.args.sink.now).blobs) (sym c.put_outcome.ensures.blobs) c.take.ensures.only
 
 pub returns-in-Ok-clause-fetched : goal.returns-in-Ok-clause-fetched
 returns-in-Ok-clause-fetched g c = counts_from (c.in-Ok.ensures.fetched.unfailed (λ f. f)) c.put_outcome.ensures.fetched

@@ -1,7 +1,5 @@
-use Rattle.std.proofs.Common.{◌≡◌, ◌≢◌, ◌+◌, ◌≤◌, length, take}
-use Rattle.std.specs.List.{AllByRecursion}
-use Rattle.blob_digest.specs.Digest.{DigestValue, digest_of}
-use Rattle.worker.specs.Stored.{IsKept}
+use Rattle.std.proofs.Common.{◌≡◌, ◌+◌, ◌≤◌, length, take}
+use Rattle.worker.specs.Stored.{IsKept, PutsNoOther}
 use Rattle.worker.specs.Outcomes.{HasAllRight}
 use Rattle.tree.specs.Folded.{items_of}
 use Rattle.worker.proofs.putting.put_all.Given as goal
@@ -13,7 +11,7 @@ invariant-loop-blob g l =
       kept : IsKept (tells l.fn.sink) (tells l.sink);
       fetched : (tells l.sink).failures ≡ (tells l.fn.sink).failures;
       held : HasAllRight (tells l.sink).blobs (items_of (take l.blob-index l.blobs));
-      others : (d : DigestValue) → AllByRecursion (λ b. digest_of b ≢ d) (items_of l.blobs) → (tells l.sink).blobs d ≡ (tells l.fn.sink).blobs d;
+      only : PutsNoOther (items_of l.blobs) (tells l.fn.sink).blobs (tells l.sink).blobs;
       once : (tells l.sink).calls ≤ (tells l.fn.sink).calls + l.blob-index;
       within : l.blob-index ≤ length l.blobs;
     }

@@ -1,9 +1,9 @@
-use Rattle.std.proofs.Common.{◌≡◌, ℕ, ◌<◌, ◌≤◌, ◌+◌, List, [], ◌∷◌, length, get_or, subst, ◌∙◌, arith}
+use Rattle.std.proofs.Common.{◌≡◌, ◌≢◌, ℕ, ◌<◌, ◌≤◌, ◌+◌, List, [], ◌∷◌, length, get_or, subst, sym, ◌∙◌, arith}
 use Rattle.std.specs.declared.vec.Vec.{Vec}
 use Rattle.blob_digest.specs.Digest.{digest_of}
 use Rattle.blob_source.specs.Sink.{HasRight}
 use Rattle.worker.specs.Counted.{IsFetch}
-use Rattle.worker.proofs.Keeping.{kept_trans, kept_blob, right_put, right_still, all_right_taken}
+use Rattle.worker.proofs.Keeping.{kept_trans, kept_blob, right_put, right_still, all_right_taken, differs, only_one, only_then}
 use Rattle.worker.specs.Storing.{HasPut, not_put}
 use Rattle.worker.proofs.PutOnce.{call_counts, once_first, once_more, put_all_more, put_still}
 use Rattle.worker.proofs.Failures.{counts_same, counts_from, counts_exit}
@@ -17,6 +17,7 @@ loop-directory-init g c =
     record {
       put = put_still c.args.put.now c.put_blob.ensures.called.asked.right c.requires.put;
       kept = kept_blob c.put_blob.ensures.called;
+      only = only_one (λ d all. subst (λ bs. digest_of bs ≢ d) (sym (c.deref.ensures.value ∙ c.in_ok-action.ensures.bytes)) all.0) c.put_blob.ensures.called;
       fetched = c.in_ok-put_blob.ensures.called.unfailed ok_no_error;
       held = subst (λ bs. HasRight put (digest_of bs)) (c.deref.ensures.value ∙ c.in_ok-action.ensures.bytes) (right_put old put c.in_ok-put_blob.ensures.held);
       stays = λ d among. among;
@@ -32,6 +33,14 @@ loop-directory-preserved g c =
     record {
       put = c.put_once.ensures.put;
       kept = kept_trans c.loop-directory.invariant.kept c.put_once.ensures.kept;
+      only = only_then c.loop-directory.invariant.only (record {
+        same = λ d all. c.put_once.ensures.only.same d (
+          subst (λ bs. digest_of bs ≢ d) (sym c.deref-in-loop-directory.ensures.value)
+              (differs d c.args.job.now.input.directories.items c.loop-directory.directory-index c.directory-item.result (subst (λ (xs : List (Vec ℕ g.row.A.Denot)). c.loop-directory.directory-index < length xs) c.deref-directory-items.ensures.value c.loop-directory-test.true)
+              (subst (λ (xs : List (Vec ℕ g.row.A.Denot)). c.directory-item.result ≡ get_or xs c.loop-directory.directory-index c.directory-item.result) c.deref-directory-items.ensures.value c.directory-item.is) all.1),
+          tt,
+        );
+      });
       fetched = c.in_ok-put_once.ensures.fetched.unfailed (λ f. f) ∙ c.loop-directory.invariant.fetched;
       held = right_still c.put_once.ensures.kept.blobs c.loop-directory.invariant.held;
       stays = λ d among. c.put_once.ensures.stays d (c.loop-directory.invariant.stays d among);
@@ -52,6 +61,19 @@ loop-directory-preserved g c =
           (subst (λ (xs : List (Vec ℕ g.row.A.Denot)). c.directory-item.result ≡ get_or xs c.loop-directory.directory-index c.directory-item.result) items c.directory-item.is) c.put_once.ensures.kept.blobs c.loop-directory.invariant.input
           (subst (λ bs. HasRight after (digest_of bs)) c.deref-in-loop-directory.ensures.value c.in_ok-put_once.ensures.held);
     }
+
+pub returns-in_err-put_blob-clause-only : goal.returns-in_err-put_blob-clause-only
+returns-in_err-put_blob-clause-only g c = only_one (λ d all. subst (λ bs. digest_of bs ≢ d) (sym (c.deref.ensures.value ∙ c.in_ok-action.ensures.bytes)) all.0) c.put_blob.ensures.called
+
+pub returns-in_err-put_once-clause-only : goal.returns-in_err-put_once-clause-only
+returns-in_err-put_once-clause-only g c = only_then c.loop-directory.invariant.only (record {
+  same = λ d all. c.put_once.ensures.only.same d (
+    subst (λ bs. digest_of bs ≢ d) (sym c.deref-in-loop-directory.ensures.value)
+        (differs d c.args.job.now.input.directories.items c.loop-directory.directory-index c.directory-item.result (subst (λ (xs : List (Vec ℕ g.row.A.Denot)). c.loop-directory.directory-index < length xs) c.deref-directory-items.ensures.value c.loop-directory-test.true)
+        (subst (λ (xs : List (Vec ℕ g.row.A.Denot)). c.directory-item.result ≡ get_or xs c.loop-directory.directory-index c.directory-item.result) c.deref-directory-items.ensures.value c.directory-item.is) all.1),
+    tt,
+  );
+})
 
 pub returns-in_err-put_once-clause-fetched : goal.returns-in_err-put_once-clause-fetched
 returns-in_err-put_once-clause-fetched g c = counts_from c.loop-directory.invariant.fetched (counts_exit IsFetch c.from_residual-in_err-put_once.result c.from_residual-in_err-put_once.ensures.1 (c.in_err-put_once.ensures.fetched))

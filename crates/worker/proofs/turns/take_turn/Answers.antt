@@ -1,7 +1,7 @@
-use Rattle.std.proofs.Common.{subst, sym}
+use Rattle.std.proofs.Common.{◌≡◌, ◌++◌, subst, sym}
 use Rattle.std.specs.Prelude.{IfErr, OnOk}
 use Rattle.worker.specs.Going.{AreOneTurn, FinishesOnly, GoesOnBy, IsTurn, is_start, step_of, taken_in}
-use Rattle.worker.specs.Calls.{PutsOf}
+use Rattle.worker.specs.Calls.{PutsOf, came_of}
 use Rattle.worker.specs.Stopped.{IsRefusedBuild}
 use Rattle.worker.proofs.Taking.{finish_right, start_stored, finish_stored}
 use Rattle.worker.proofs.Stopping.{start_goes, finish_goes, start_room, finish_room, ended_of}
@@ -11,17 +11,17 @@ use Rattle.worker.proofs.PutOnce.{remembers_none, remembers_still}
 use Rattle.worker.proofs.turns.take_turn.Goals as goal
 
 pub returns-in-Start-clause-going : goal.returns-in-Start-clause-going
-returns-in-Start-clause-going g c entry s most first within turn going so_far =
+returns-in-Start-clause-going g c entry s most first within turn going =
     let calls = going.led.built.led.calls in
     let old = c.args.engine.now in
     let new = c.begin.new.engine in
     let yields = g.N.Runner.yields entry in
     let sink = g.S.BlobSource.tells c.begin.new.sink in
     subst (λ t. (on : GoesOnBy g.row.A.Denot yields g.N.Runner.may_give (g.N.Runner.starts entry) (g.N.Runner.starts c.begin.new.runner) s sink most first new c.begin.new.children.items calls (taken_in (is_start t) (step_of t c.args.children.now.items) old new))
-    × IfErr c.begin.result (λ e. IsRefusedBuild g.row.A.Denot yields sink most on.going.led.built.led.calls first new e.step e.refusal)
-    × PutsOf on.more (g.S.BlobSource.tells c.args.sink.now) sink × OnOk c.begin.result (AreOneTurn on.more)) (sym c.in-Start.is)
+    × IfErr c.begin.result (λ e. IsRefusedBuild g.row.A.Denot yields s sink most calls on.going.led.built.led.calls first new e.step e.refusal)
+    × PutsOf on.more (g.S.BlobSource.tells c.args.sink.now) sink × OnOk c.begin.result (AreOneTurn on.more × (sink.puts ≡ (g.S.BlobSource.tells c.args.sink.now).puts ++ came_of on.more))) (sym c.in-Start.is)
     (start_goes g.row.A.Denot g.row.N-Job.Denot yields g.N.Runner.may_give (g.N.Runner.starts entry) (g.N.Runner.starts c.args.runner.now) (g.N.Runner.starts c.begin.new.runner) s (g.S.BlobSource.tells c.args.sink.now) sink most first old new c.args.children.now.items c.begin.new.children.items going
-    c.begin.result (g.N.Runner.yields c.args.runner.now) c.in-Start.step within c.begin.ensures.kept c.begin.ensures.unlisted (subst (IsTurn most old c.args.children.now.items) c.in-Start.is turn) so_far c.plan.ensures.valid c.begin.ensures.begun c.begin.ensures.stopped c.begin.ensures.same)
+    c.begin.result (g.N.Runner.yields c.args.runner.now) c.in-Start.step within c.begin.ensures.kept c.begin.ensures.unlisted (subst (IsTurn most old c.args.children.now.items) c.in-Start.is turn) c.plan.ensures.valid c.begin.ensures.begun c.begin.ensures.stopped c.begin.ensures.same)
 
 pub returns-in-Start-clause-fewer : goal.returns-in-Start-clause-fewer
 returns-in-Start-clause-fewer g c =
@@ -30,17 +30,17 @@ returns-in-Start-clause-fewer g c =
     c.begin.result c.in-Start.step c.args.children.now.items c.begin.new.children.items turn.1 turn.2.startable c.begin.ensures.begun
 
 pub returns-in-Finish-clause-going : goal.returns-in-Finish-clause-going
-returns-in-Finish-clause-going g c entry s most first within turn going so_far =
+returns-in-Finish-clause-going g c entry s most first within turn going =
     let calls = going.led.built.led.calls in
     let old = c.args.engine.now in
     let new = c.finish_first.new.engine in
     let yields = g.N.Runner.yields entry in
     let sink = g.S.BlobSource.tells c.finish_first.new.sink in
     subst (λ t. (on : GoesOnBy g.row.A.Denot yields g.N.Runner.may_give (g.N.Runner.starts entry) (g.N.Runner.starts c.finish_first.new.runner) s sink most first new c.finish_first.new.children.items calls (taken_in (is_start t) (step_of t c.args.children.now.items) old new))
-    × IfErr c.finish_first.result (λ e. IsRefusedBuild g.row.A.Denot yields sink most on.going.led.built.led.calls first new e.step e.refusal)
-    × PutsOf on.more (g.S.BlobSource.tells c.args.sink.now) sink × OnOk c.finish_first.result (AreOneTurn on.more)) (sym c.in-Finish.is)
+    × IfErr c.finish_first.result (λ e. IsRefusedBuild g.row.A.Denot yields s sink most calls on.going.led.built.led.calls first new e.step e.refusal)
+    × PutsOf on.more (g.S.BlobSource.tells c.args.sink.now) sink × OnOk c.finish_first.result (AreOneTurn on.more × (sink.puts ≡ (g.S.BlobSource.tells c.args.sink.now).puts ++ came_of on.more))) (sym c.in-Finish.is)
     (finish_goes g.row.A.Denot g.row.N-Job.Denot yields g.N.Runner.may_give (g.N.Runner.starts entry) (g.N.Runner.starts c.args.runner.now) (g.N.Runner.starts c.finish_first.new.runner) s (g.S.BlobSource.tells c.args.sink.now) sink most first old new c.args.children.now.items c.finish_first.new.children.items going
-    c.finish_first.result (subst (IsTurn most old c.args.children.now.items) c.in-Finish.is turn) so_far c.plan.ensures.valid c.finish_first.ensures.unlisted c.finish_first.ensures.ended c.finish_first.ensures.stopped)
+    c.finish_first.result (subst (IsTurn most old c.args.children.now.items) c.in-Finish.is turn) c.plan.ensures.valid c.finish_first.ensures.unlisted c.finish_first.ensures.ended c.finish_first.ensures.listed c.finish_first.ensures.stopped)
 
 pub returns-in-Finish-clause-fewer : goal.returns-in-Finish-clause-fewer
 returns-in-Finish-clause-fewer g c =
