@@ -68,7 +68,7 @@ pub record SoFar {F : Type 0} (works : FolderWorks F) (tries : Tried) (B : Blobs
   pub made : MakesEntries works B old now folder done
   pub calls : tries (places_of folder done)
 
-pub none_left : {X : Type 0} (xs : List X) → length xs ≡ 0 → xs ≡ []
+none_left : {X : Type 0} (xs : List X) → length xs ≡ 0 → xs ≡ []
 none_left [] h = refl
 none_left (x ∷ xs) h = absurd (omega (arith, h))
 

@@ -33,10 +33,10 @@ pub record FolderWorks (Folder : Type 0) : Type 1 where
 abbrev pub IsHad : {F : Type 0} → FolderWorks F → FolderValue → Type 0
 IsHad {F} works v = (folder : F) × works.has folder v
 
--- what the folder has becomes this and one thing more
-abbrev pub Gains : {F : Type 0} → FolderWorks F → F → F → List ℕ → Written → Type 0
-Gains works old new path w =
-    (v : FolderValue) → works.has old v → works.has new (with_written ((path, w) ∷ []) v)
+-- what the old folder has the new one has, and this besides
+abbrev pub Gains : {F : Type 0} → FolderWorks F → F → F → List (List ℕ × Written) → Type 0
+Gains works old new more =
+    (v : FolderValue) → works.has old v → works.has new (with_written more v)
 
 -- ---- calls, made or refused
 
@@ -44,7 +44,7 @@ Gains works old new path w =
 abbrev pub Tried : Type 1
 Tried = List (List ℕ) → Type 0
 
--- for which it was called besides
+-- it was called for these besides
 abbrev pub Tries : {W : Type 0} → (W → Tried) → W → W → Tried
 Tries tried old new more = (paths : List (List ℕ)) → tried old paths → tried new (paths ++ more)
 
@@ -54,5 +54,5 @@ Tries tried old new more = (paths : List (List ℕ)) → tried old paths → tri
 abbrev pub nothing_known : {F : Type 0} → FolderWorks F
 nothing_known = record { has = λ _ _. Unit {0}; refuses = λ _ _. Unit {0} }
 
-abbrev pub unknown_calls : {W : Type 0} → W → List (List ℕ) → Type 0
+abbrev pub unknown_calls : {W : Type 0} → W → Tried
 unknown_calls writer paths = Unit {0}

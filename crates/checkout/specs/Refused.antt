@@ -1,6 +1,5 @@
 -- Why a tree isn't written.
-use Rattle.std.specs.Prelude.{◌≡◌, ◌≢◌, ◌⊎◌, ℕ, Bool, List, [], ◌∷◌, ◌++◌, Result, Err}
-use Rattle.std.specs.Prelude.{string_bytes}
+use Rattle.std.specs.Prelude.{◌≡◌, ◌≢◌, ◌⊎◌, ℕ, Bool, List, [], ◌∷◌, ◌++◌, string_bytes}
 use Rattle.std.specs.IoError.{error_kind}
 use Rattle.std.specs.declared.io.Error.{Error}
 use Rattle.std.specs.declared.io.ErrorKind.TheVariants.{OutOfMemory}
@@ -24,13 +23,6 @@ use Rattle.checkout.specs.declared.error.CheckoutError.TheVariants.{TooDeep, Fet
 -- what the system refused at a path, with its error
 abbrev pub Refuses : Type 1
 Refuses = List ℕ → Error → Type 0
-
--- why a call made nothing at a path: the system's error is told, unless it is lack of memory
-abbrev pub FailsAt : {A T : Type 0} → List ℕ → Result T Error → CheckoutError A → Type 0
-FailsAt path made (Place p fault) = (error_kind fault ≢ OutOfMemory) × (string_bytes p ≡ path)
-    × (made ≡ Err fault)
-FailsAt path made Memory = (fault : Error) × (error_kind fault ≡ OutOfMemory) × (made ≡ Err fault)
-FailsAt path made e = ⊥
 
 -- why a content isn't had: nothing or other bytes are told under its digest, unless the source
 -- failed or memory ran out

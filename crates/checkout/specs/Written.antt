@@ -1,6 +1,8 @@
 -- What is written of the tree that a source tells.
-use Rattle.std.specs.Prelude.{◌≡◌, ◌⊎◌, ℕ, ◌+◌, ◌≤◌, List, [], ◌∷◌, ◌++◌, map, length, Contains}
-use Rattle.blob_digest.specs.Digest.{DigestValue}
+use Rattle.std.specs.Prelude.{◌≡◌, ◌⊎◌, ℕ, ◌+◌, ◌≤◌, List, [], ◌∷◌, ◌++◌, map, sum_by, Contains}
+use Rattle.std.specs.Prelude.{if◌then◌else◌}
+use Rattle.std.specs.Ordering.{eq_by_cmp}
+use Rattle.blob_digest.specs.Digest.{DigestValue, digest_cmp, empty_digest}
 use Rattle.messages.specs.Path.{path_text}
 use Rattle.messages.specs.declared.node.Node.TheVariants.{File, Link}
 use Rattle.blob_source.specs.Source.{Blobs, IsBlobUnder, Telling}
@@ -9,8 +11,8 @@ use Rattle.tree.specs.Memo.{Asked, LooksAtBlob}
 use Rattle.tree.specs.Tree.{Name, Standing, a_leaf, a_directory}
 use Rattle.tree.specs.Form.{NodeValue}
 use Rattle.tree.specs.FlatTree.{FlatValue}
-use Rattle.tree.specs.Unfolded.{AreFound, IsUnfolded}
-use Rattle.checkout.specs.Folder.{FolderWorks, FolderValue, Tried, Written, with_written}
+use Rattle.tree.specs.Unfolded.{AsksDirectories, IsUnfolded, directories_in}
+use Rattle.checkout.specs.Folder.{FolderWorks, FolderValue, Gains, Tried, Written}
 use Rattle.checkout.specs.Folder.Written.{a_folder, a_file, a_link}
 
 -- the text of a path below a folder
@@ -71,11 +73,24 @@ abbrev pub CheckoutLooksAt : Blobs → DigestValue → Asked → Type 0
 CheckoutLooksAt B d a = UnfoldLooksAt B d a
     ⊎ ((entries : FlatValue) × IsUnfolded B d entries × EntriesLookAt entries a)
 
--- At most one call for each path of the tree, as far as it is told.
-pub record AsksEachOnce (d : DigestValue) (old new : Telling) : Type 0 where
-  pub places : FlatValue
-  pub found_there : AreFound new.blobs d places
-  pub few : new.calls ≤ old.calls + length places
+-- ---- how often the source is asked
+
+-- how many contents are asked for at a path: a file's, unless it is the empty one, which is always
+-- there
+abbrev pub contents_at : Standing NodeValue → ℕ
+contents_at (a_leaf (File d x)) = if eq_by_cmp digest_cmp d empty_digest then 0 else 1
+contents_at s = 0
+
+abbrev pub contents_in : FlatValue → ℕ
+contents_in entries = sum_by (λ e. contents_at e.1) entries
+
+-- At most one call for each directory of the tree, its root too, as far as they are told; and where
+-- all are, one for each file's content besides.
+pub data AsksEachOnce (d : DigestValue) (old new : Telling) : Type 0 where
+  in_tree : AsksDirectories new.blobs d old new → AsksEachOnce d old new
+  in_entries : (entries : FlatValue) → IsUnfolded new.blobs d entries
+      → new.calls ≤ old.calls + 1 + directories_in entries + contents_in entries
+      → AsksEachOnce d old new
 
 -- ---- entry by entry
 
@@ -84,17 +99,15 @@ pub record MakesEntry {F : Type 0} (works : FolderWorks F) (B : Blobs) (old new 
     (place : List ℕ) (s : Standing NodeValue) : Type 0 where
   pub written : Written
   pub of_entry : IsWrittenFor B s written
-  pub gains : (v : FolderValue) → works.has old v
-      → works.has new (with_written ((place, written) ∷ []) v)
+  pub gains : Gains works old new ((place, written) ∷ [])
 
 -- some folder has what the old one has, and this besides
 abbrev pub IsGained : {F : Type 0} → FolderWorks F → F → List (List ℕ × Written) → Type 0
-IsGained {F} works old written =
-    (new : F) × ((v : FolderValue) → works.has old v → works.has new (with_written written v))
+IsGained {F} works old written = (new : F) × Gains works old new written
 
--- entries were
+-- entries were, below a folder
 pub record MakesEntries {F : Type 0} (works : FolderWorks F) (B : Blobs) (old new : F)
     (folder : List ℕ) (entries : FlatValue) : Type 0 where
   pub written : List (List ℕ × Written)
   pub of_entries : AreWritten B folder entries written
-  pub gains : (v : FolderValue) → works.has old v → works.has new (with_written written v)
+  pub gains : Gains works old new written

@@ -16,9 +16,7 @@ pub trait FolderWriter {
     /// That it was called for these paths, in this order, and for nothing else.
     ghost tried: { Self → List (List ℕ) → Type 0 };
 
-    /// Takes a folder in which nothing stands. Where nothing stands at the path, it is made. A
-    /// clause that a writer is as it was says that it wasn't called, of a writer that each call
-    /// changes.
+    /// Takes a folder in which nothing stands. Where nothing stands at the path, it is made.
     fn take(&mut self, path: &str) -> io::Result<Self::Folder>
         ensures taken { IfOk result (λ folder. works.has folder (empty_folder path.now)) }
         ensures refused { IfErr result (works.refuses path.now) }
@@ -26,7 +24,8 @@ pub trait FolderWriter {
 
     /// Makes a folder where nothing stands.
     fn make_folder(&mut self, folder: &mut Self::Folder, path: &str) -> io::Result<()>
-        ensures made { OnOk result (Gains works folder.old folder.new path.now a_folder) }
+        ensures made { OnOk result
+            (Gains works folder.old folder.new ((path.now, a_folder) ∷ [])) }
         ensures refused { IfErr result (works.refuses path.now) }
         ensures tries { Tries tried self.old self.new (path.now ∷ []) };
 
@@ -39,14 +38,14 @@ pub trait FolderWriter {
         executable: bool,
     ) -> io::Result<()>
         ensures made { OnOk result
-            (Gains works folder.old folder.new path.now (a_file bytes.now executable)) }
+            (Gains works folder.old folder.new ((path.now, a_file bytes.now executable) ∷ [])) }
         ensures refused { IfErr result (works.refuses path.now) }
         ensures tries { Tries tried self.old self.new (path.now ∷ []) };
 
     /// Makes a symbolic link where nothing stands.
     fn make_link(&mut self, folder: &mut Self::Folder, path: &str, target: &str) -> io::Result<()>
         ensures made { OnOk result
-            (Gains works folder.old folder.new path.now (a_link target.now)) }
+            (Gains works folder.old folder.new ((path.now, a_link target.now) ∷ [])) }
         ensures refused { IfErr result (works.refuses path.now) }
         ensures tries { Tries tried self.old self.new (path.now ∷ []) };
 }

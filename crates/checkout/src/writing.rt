@@ -1,6 +1,6 @@
 ghost use Rattle.std.specs.Prelude.{◌≡◌, ◌↔◌, ◌⊎◌, ◌+◌, ◌≤◌, [], ◌∷◌, IfErr, IfOk, IsErrOf};
-ghost use Rattle.std.specs.Prelude.{OnErr, OnOk, length, string_bytes};
-ghost use Rattle.blob_digest.specs.Digest.{DigestValue};
+ghost use Rattle.std.specs.Prelude.{OnErr, OnOk, string_bytes};
+ghost use Rattle.blob_digest.specs.Digest.{DigestValue, empty_digest};
 ghost use Rattle.blob_source.specs.Called.{Called, Calls};
 ghost use Rattle.blob_source.specs.Source.{Asks, Blobs, IsBlobUnder};
 ghost use Rattle.tree.specs.FlatTree.{entry_value, path_values};
@@ -8,13 +8,14 @@ ghost use Rattle.tree.specs.LooksAt.{UnfoldLooksAt};
 ghost use Rattle.tree.specs.Memo.{AsksNoOther, LooksAtBlob};
 ghost use Rattle.tree.specs.TreeError.{Explains, FailsBlob};
 ghost use Rattle.tree.specs.Unfolded.{AsksDirectories, ExplainsUnfold, IsUnfolded};
-ghost use Rattle.tree.specs.Unfolded.{directories_at, directories_in};
+ghost use Rattle.tree.specs.Unfolded.{directories_in};
 ghost use Rattle.checkout.specs.Folder.{IsHad, Tries};
 ghost use Rattle.checkout.specs.Written.{HoldsTree, IsGained, MakesEntry, MakesEntries, TriesTree};
 ghost use Rattle.checkout.specs.Written.{AsksEachOnce, CheckoutLooksAt, EntriesLookAt};
-ghost use Rattle.checkout.specs.Written.{EntryLooksAt, IsToldTree, place_below, places_of};
-ghost use Rattle.checkout.specs.Refused.{FailsAt, FailsContent, FailsOneEntry, FailsEntries};
-ghost use Rattle.checkout.specs.Refused.{FailsCheckout, FailsTree, StopsUnfold};
+ghost use Rattle.checkout.specs.Written.{EntryLooksAt, IsToldTree, contents_at, contents_in};
+ghost use Rattle.checkout.specs.Written.{place_below, places_of};
+ghost use Rattle.checkout.specs.Refused.{FailsCheckout, FailsContent, FailsEntries, FailsOneEntry};
+ghost use Rattle.checkout.specs.Refused.{FailsPlace, FailsTree, StopsUnfold};
 
 use crate::error::CheckoutError;
 use crate::writer::FolderWriter;
@@ -31,7 +32,7 @@ fn made_at<A: Allocator, T: Drop>(
     made: io::Result<T>,
 ) -> Result<T, CheckoutError<A>>
     ensures same { IfOk result (λ value. made ≡ Ok value) }
-    ensures refused { IfErr result (FailsAt (string_bytes place) made) }
+    ensures refused { IfErr result (FailsPlace (λ _ fault. made ≡ Err fault) (string_bytes place)) }
 {
     match made {
         Ok(value) => Ok(value),
@@ -51,6 +52,7 @@ fn read_content<A: Allocator + Copy, S: BlobSource<A>>(
     ensures refused { IfErr result (FailsContent (S.tells source.new).blobs digest.now) }
     ensures called { Calls (Asks 1) (S.tells source.old) (S.tells source.new)
         (IsErrOf result CheckoutError.Fetch) }
+    ensures unasked { digest.now ≡ empty_digest → S.tells source.new ≡ S.tells source.old }
     ensures only { AsksNoOther (LooksAtBlob digest.now)
         (S.tells source.old).blobs (S.tells source.new).blobs }
 {
@@ -124,8 +126,8 @@ fn write_entry<A: Allocator + Copy, S: BlobSource<A>, W: FolderWriter>(
         folder.new (string_bytes place) (entry_value entry.now)) }
     ensures tried { OnOk result
         (Tries W.tried writer.old writer.new (string_bytes place ∷ [])) }
-    ensures few { (S.tells source.new).calls + directories_at (entry_value entry.now)
-        ≤ (S.tells source.old).calls + 1 }
+    ensures few { (S.tells source.new).calls
+        ≤ (S.tells source.old).calls + contents_at (entry_value entry.now) }
     ensures refused { IfErr result (FailsOneEntry W.works.refuses
         (Tries W.tried writer.old writer.new) (S.tells source.new).blobs
         (string_bytes place) (entry_value entry.now)) }
@@ -164,8 +166,8 @@ fn write_entries<A: Allocator + Copy, S: BlobSource<A>, W: FolderWriter>(
         folder.new path.now (path_values entries.items)) }
     ensures tried { OnOk result (Tries W.tried writer.old writer.new
         (places_of path.now (path_values entries.items))) }
-    ensures few { (S.tells source.new).calls + directories_in (path_values entries.items)
-        ≤ (S.tells source.old).calls + length entries.items }
+    ensures few { (S.tells source.new).calls
+        ≤ (S.tells source.old).calls + contents_in (path_values entries.items) }
     ensures refused { IfErr result (FailsEntries (IsGained W.works folder.old) W.works.refuses
         (Tries W.tried writer.old writer.new) (S.tells source.new).blobs path.now
         (path_values entries.items)) }
@@ -198,7 +200,7 @@ pub fn check_out<A: Allocator + Copy, S: BlobSource<A>, W: FolderWriter>(
         HoldsTree (W.works.has folder) (S.tells source.new).blobs root.now path.now) }
     ensures tried { OnOk result (TriesTree (Tries W.tried writer.old writer.new)
         (S.tells source.new).blobs root.now path.now) }
-    // Until the tree is told no folder is taken.
+    // Until the tree is told no folder is taken: the writer is as it was.
     ensures unwritten { OnErr result
         (IsToldTree (S.tells source.new).blobs root.now ⊎ (writer.new ≡ writer.old)) }
     ensures few { AsksEachOnce root.now (S.tells source.old) (S.tells source.new) }

@@ -1,6 +1,6 @@
 -- The parts of a verdict's line have no newline.
-use Rattle.std.proofs.Common.{◌≡◌, ◌≢◌, ℕ, true, false, List, [], ◌∷◌, ◌++◌, sym, ap, ◌∙◌, inl, inr, arith, refl}
-use Rattle.std.specs.Prelude.{decimal, ◌==◌, ◌/◌, ◌%◌, ◌+◌, not, codes, nat_lt, if◌then◌else◌, Result, Ok, Err, IfOk}
+use Rattle.std.proofs.Common.{◌≡◌, ◌≢◌, ℕ, true, false, List, [], ◌∷◌, ◌++◌, append_assoc, sym, subst, ap, ◌∙◌, inl, inr, arith, refl}
+use Rattle.std.specs.Prelude.{decimal, ◌==◌, ◌/◌, ◌%◌, ◌+◌, not, codes, nat_lt, if◌then◌else◌, Result, Ok, Err, IfOk, OnOk}
 use Rattle.std.specs.Fmt.{signed_decimal}
 use Rattle.std.specs.Char.{is_ascii_digit}
 use Rattle.std.specs.List.{list_all}
@@ -18,13 +18,16 @@ use Rattle.std.specs.Int.Signed.{mag}
 use Rattle.std.specs.Prelude.{ℤ, pos, negsuc, suc, ◌<◌, ◌^◌}
 use Rattle.verifier.specs.declared.verdict.Place.{Place}
 use Rattle.verifier.specs.declared.verdict.Cause.{Cause}
-use Rattle.std.proofs.lemmas.List.{append_assoc}
 use Rattle.report.specs.Line.{HasNoNewline, IsOneLine, cause_text, named, no_text, place_text, yes_text}
 
 -- what holds holds where a result is good
-pub where_ok : {P T E : Type 0} (result : Result T E) → P → IfOk result (λ x. P)
+pub where_ok : {P T E : Type 0} (result : Result T E) → P → OnOk result P
 where_ok (Ok x) holds = holds
 where_ok (Err e) holds = tt
+
+-- a text that is put together from the right
+pub written : {T E : Type 0} (result : Result T E) (bytes : T → List ℕ) (a b c d e : List ℕ) → IfOk result (λ text. bytes text ≡ a ++ (b ++ (c ++ (d ++ e)))) → IfOk result (λ text. bytes text ≡ a ++ b ++ c ++ d ++ e)
+written result bytes a b c d e = subst (λ (line : List ℕ). IfOk result (λ text. bytes text ≡ line)) (simp append_assoc)
 
 pub none_in_nil : HasNoNewline []
 none_in_nil (k, lt, e) = omega arith
@@ -83,27 +86,18 @@ none_in_text (b ∷ text) = none_joined (escaped_byte b) (escaped text) (none_in
 pub none_in_path : (path : List (List ℕ)) → HasNoNewline (escaped_path path)
 none_in_path path = none_in_text (path_text path)
 
-pub one_line : (text line : List ℕ) → HasNoNewline text → line ≡ text ++ 10 ∷ [] → IsOneLine line
-one_line text line unbroken e = record { text = text; unbroken = unbroken; ended = e }
+-- a line of two words and what they name
+one_line : (word a other b : List ℕ) → HasNoNewline word → HasNoNewline a → HasNoNewline other → HasNoNewline b → IsOneLine (word ++ a ++ other ++ b ++ 10 ∷ [])
+one_line word a other b in_word in_a in_other in_b = record {
+  text = word ++ a ++ other ++ b;
+  unbroken = none_joined (word ++ a ++ other) b (none_joined (word ++ a) other (none_joined word a in_word in_a) in_other) in_b;
+  ended = refl;
+}
 
 -- the two lines
 pub yes_line : (root : DigestValue) (steps : ℕ) → IsDigest root → steps < 2 ^ 64 → IsOneLine (yes_text root steps)
-yes_line root steps valid small =
-    let number = none_joined (codes " steps ") (decimal steps) (none_seen (codes " steps ") refl) (none_in_number steps small) in
-    let text = none_joined (digest_text root) (codes " steps " ++ decimal steps) (none_in_digest root valid) number in
-    record {
-      text = codes "yes " ++ (digest_text root ++ (codes " steps " ++ decimal steps));
-      unbroken = none_joined (codes "yes ") (digest_text root ++ (codes " steps " ++ decimal steps)) (none_seen (codes "yes ") refl) text;
-      ended = ap (λ l. codes "yes " ++ l) (ap (λ l. digest_text root ++ l) (sym (append_assoc (codes " steps ") (decimal steps) (10 ∷ []))) ∙ sym (append_assoc (digest_text root) (codes " steps " ++ decimal steps) (10 ∷ [])));
-    }
+yes_line root steps valid small = one_line (codes "yes ") (digest_text root) (codes " steps ") (decimal steps) (none_seen (codes "yes ") refl) (none_in_digest root valid) (none_seen (codes " steps ") refl) (none_in_number steps small)
 
 pub no_line : {A : Type 0} (place : Place A) (cause : Cause A) → HasNoNewline (place_text place) → HasNoNewline (cause_text cause)
     → IsOneLine (no_text place cause)
-no_line place cause p c =
-    let told = none_joined (codes " cause ") (cause_text cause) (none_seen (codes " cause ") refl) c in
-    let text = none_joined (place_text place) (codes " cause " ++ cause_text cause) p told in
-    record {
-      text = codes "no " ++ (place_text place ++ (codes " cause " ++ cause_text cause));
-      unbroken = none_joined (codes "no ") (place_text place ++ (codes " cause " ++ cause_text cause)) (none_seen (codes "no ") refl) text;
-      ended = ap (λ l. codes "no " ++ l) (ap (λ l. place_text place ++ l) (sym (append_assoc (codes " cause ") (cause_text cause) (10 ∷ []))) ∙ sym (append_assoc (place_text place) (codes " cause " ++ cause_text cause) (10 ∷ [])));
-    }
+no_line place cause p c = one_line (codes "no ") (place_text place) (codes " cause ") (cause_text cause) (none_seen (codes "no ") refl) p (none_seen (codes " cause ") refl) c

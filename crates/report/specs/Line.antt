@@ -42,12 +42,12 @@ place_text Root = codes "root"
 -- `yes HASH/SIZE steps N`
 abbrev pub yes_text : DigestValue → ℕ → List ℕ
 yes_text root steps =
-    codes "yes " ++ (digest_text root ++ (codes " steps " ++ (decimal steps ++ 10 ∷ [])))
+    codes "yes " ++ digest_text root ++ codes " steps " ++ decimal steps ++ 10 ∷ []
 
 -- `no`, the place, `cause` and the cause
 abbrev pub no_text : {A : Type 0} → Place A → Cause A → List ℕ
 no_text place cause =
-    codes "no " ++ (place_text place ++ (codes " cause " ++ (cause_text cause ++ 10 ∷ [])))
+    codes "no " ++ place_text place ++ codes " cause " ++ cause_text cause ++ 10 ∷ []
 
 abbrev pub report_line : {A : Type 0} → Verdict A → List ℕ
 report_line (Yes root steps) = yes_text root steps

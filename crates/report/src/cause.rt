@@ -1,4 +1,4 @@
-ghost use Rattle.std.specs.Prelude.{◌≡◌, IfOk, string_bytes};
+ghost use Rattle.std.specs.Prelude.{◌≡◌, IfOk, OnOk, string_bytes};
 ghost use Rattle.std.specs.Fmt.{signed_decimal};
 ghost use Rattle.blob_digest.specs.Text.{digest_text};
 ghost use Rattle.plan.specs.Escape.{escaped_path};
@@ -19,8 +19,7 @@ fn digest_named<A: Allocator + Copy>(
     requires { HasNoNewline word.now }
     ensures value { IfOk result
         (λ text. string_bytes text ≡ named word.now (digest_text digest.now)) }
-    ensures unbroken { IfOk result
-        (λ text. HasNoNewline (named word.now (digest_text digest.now))) }
+    ensures unbroken { OnOk result (HasNoNewline (named word.now (digest_text digest.now))) }
 {
     // A read for the prover: a digest's hash has 32 bytes.
     let _ = digest.hash();
@@ -37,7 +36,7 @@ fn path_named<A: Allocator + Copy, B: Allocator>(
     requires { HasNoNewline word.now }
     ensures value { IfOk result
         (λ text. string_bytes text ≡ named word.now (escaped_path path.now)) }
-    ensures unbroken { IfOk result (λ text. HasNoNewline (named word.now (escaped_path path.now))) }
+    ensures unbroken { OnOk result (HasNoNewline (named word.now (escaped_path path.now))) }
 {
     let path = write_path(alloc, path)?;
     format!(in alloc; "{word} {path}")
@@ -47,7 +46,7 @@ fn path_named<A: Allocator + Copy, B: Allocator>(
 fn code_named<A: Allocator + Copy>(alloc: A, word: &str, code: i32) -> Result<String<A>, AllocError>
     requires { HasNoNewline word.now }
     ensures value { IfOk result (λ text. string_bytes text ≡ named word.now (signed_decimal code)) }
-    ensures unbroken { IfOk result (λ text. HasNoNewline (named word.now (signed_decimal code))) }
+    ensures unbroken { OnOk result (HasNoNewline (named word.now (signed_decimal code))) }
 {
     format!(in alloc; "{word} {code}")
 }
@@ -59,7 +58,7 @@ pub fn cause_text<A: Allocator + Copy, B: Allocator>(
     cause: &Cause<B>,
 ) -> Result<String<A>, AllocError>
     ensures value { IfOk result (λ text. string_bytes text ≡ cause_text cause.now) }
-    ensures unbroken { IfOk result (λ text. HasNoNewline (cause_text cause.now)) }
+    ensures unbroken { OnOk result (HasNoNewline (cause_text cause.now)) }
 {
     match cause {
         Cause::BlobMissing(digest) => digest_named(alloc, "blob-missing", digest),

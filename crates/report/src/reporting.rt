@@ -1,4 +1,4 @@
-ghost use Rattle.std.specs.Prelude.{◌≡◌, ◌↔◌, IfOk, IsTrue, string_bytes};
+ghost use Rattle.std.specs.Prelude.{◌≡◌, ◌↔◌, IfOk, IsTrue, OnOk, string_bytes};
 ghost use Rattle.report.specs.Line.{HasNoNewline, IsOneLine, no_text, place_text};
 ghost use Rattle.report.specs.Line.{report_line, yes_text};
 ghost use Rattle.verifier.specs.Verdict.{IsYes};
@@ -15,7 +15,7 @@ fn place_text<A: Allocator + Copy, B: Allocator>(
     place: &Place<B>,
 ) -> Result<String<A>, AllocError>
     ensures value { IfOk result (λ text. string_bytes text ≡ place_text place.now) }
-    ensures unbroken { IfOk result (λ text. HasNoNewline (place_text place.now)) }
+    ensures unbroken { OnOk result (HasNoNewline (place_text place.now)) }
 {
     match place {
         Place::Step(name) => {
@@ -33,7 +33,7 @@ fn yes_line<A: Allocator + Copy>(
     steps: u64,
 ) -> Result<String<A>, AllocError>
     ensures value { IfOk result (λ text. string_bytes text ≡ yes_text root.now steps) }
-    ensures one { IfOk result (λ text. IsOneLine (yes_text root.now steps)) }
+    ensures one { OnOk result (IsOneLine (yes_text root.now steps)) }
 {
     // A read for the prover: a digest's hash has 32 bytes.
     let _ = root.hash();
@@ -48,7 +48,7 @@ fn no_line<A: Allocator + Copy, B: Allocator>(
     cause: &Cause<B>,
 ) -> Result<String<A>, AllocError>
     ensures value { IfOk result (λ text. string_bytes text ≡ no_text place.now cause.now) }
-    ensures one { IfOk result (λ text. IsOneLine (no_text place.now cause.now)) }
+    ensures one { OnOk result (IsOneLine (no_text place.now cause.now)) }
 {
     let place = place_text(alloc, place)?;
     let cause = cause_text(alloc, cause)?;
@@ -63,7 +63,7 @@ pub fn report<A: Allocator + Copy, B: Allocator>(
 ) -> Result<String<A>, AllocError>
     ensures value { IfOk result (λ text. string_bytes text ≡ report_line verdict.now) }
     // No newline stands before the one at its end.
-    ensures one { IfOk result (λ text. IsOneLine (report_line verdict.now)) }
+    ensures one { OnOk result (IsOneLine (report_line verdict.now)) }
 {
     match verdict {
         Verdict::Yes { root, steps } => yes_line(alloc, root, *steps),

@@ -11,7 +11,7 @@ use Rattle.text_verifier.specs.declared.answering.Answer.{Answer}
 use Rattle.text_verifier.specs.Lacking.{lack_of}
 use Rattle.text_verifier.specs.Texts.{Question}
 
--- The verdict on a question by what a store told. Where it is yes, every complete run of the plan
+-- The verdict on a question by what a source told. Where it is yes, every complete run of the plan
 -- ends in exactly the claimed root, and no run is ever stuck.
 pub record IsJudged {A : Type 0} (told : Telling) (q : Question) (v : Verdict A) : Type 0 where
   pub verdict : IsVerdict told q.sources q.plan q.noted.digests q.claim v

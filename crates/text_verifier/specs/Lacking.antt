@@ -15,10 +15,9 @@ use Rattle.verifier.specs.declared.verdict.Verdict.TheVariants.{No}
 
 -- the digest that is noted for the first step of a name
 abbrev pub noted_for : List ℕ → List (List ℕ) → List DigestValue → Option DigestValue
-noted_for name [] digests = None
-noted_for name (step ∷ steps) [] = None
 noted_for name (step ∷ steps) (d ∷ digests) =
     if bytes_eq step name then Some d else noted_for name steps digests
+noted_for name steps digests = None
 
 -- and for the step of a place
 abbrev pub noted_at : {A : Type 0} → Question → Place A → Option DigestValue

@@ -30,37 +30,25 @@ IsSpelled text = (digest : DigestValue) × IsDigestText text digest
 abbrev pub IsDigestRefusal : List ℕ → List ℕ → TextError → Type 0
 IsDigestRefusal sources claim (Sources fault) = IsNoDigest sources fault
 IsDigestRefusal sources claim (Claim fault) = IsSpelled sources × IsNoDigest claim fault
-IsDigestRefusal sources claim (Plan fault) = ⊥
-IsDigestRefusal sources claim (Record fault) = ⊥
-IsDigestRefusal sources claim Fetch = ⊥
-IsDigestRefusal sources claim Memory = ⊥
+IsDigestRefusal sources claim e = ⊥
 
 -- a line of the plan's text is at fault, or memory ran out
 abbrev pub IsPlanRefusal : List ℕ → TextError → Type 0
-IsPlanRefusal text (Sources fault) = ⊥
-IsPlanRefusal text (Claim fault) = ⊥
 IsPlanRefusal text (Plan fault) = IsPlanFault text fault
-IsPlanRefusal text (Record fault) = ⊥
-IsPlanRefusal text Fetch = ⊥
 IsPlanRefusal text Memory = Unit {0}
+IsPlanRefusal text e = ⊥
 
 -- a line of the text of a record of these steps is at fault, or memory ran out
 abbrev pub IsRecordRefusal : List (List ℕ) → List ℕ → TextError → Type 0
-IsRecordRefusal names text (Sources fault) = ⊥
-IsRecordRefusal names text (Claim fault) = ⊥
-IsRecordRefusal names text (Plan fault) = ⊥
 IsRecordRefusal names text (Record fault) = IsRecordFault names text fault
-IsRecordRefusal names text Fetch = ⊥
 IsRecordRefusal names text Memory = Unit {0}
+IsRecordRefusal names text e = ⊥
 
 -- no text is at fault: the source failed, or memory ran out
 abbrev pub IsNoFault : TextError → Type 0
-IsNoFault (Sources fault) = ⊥
-IsNoFault (Claim fault) = ⊥
-IsNoFault (Plan fault) = ⊥
-IsNoFault (Record fault) = ⊥
 IsNoFault Fetch = Unit {0}
 IsNoFault Memory = Unit {0}
+IsNoFault e = ⊥
 
 -- this is answered, unless memory ran out
 abbrev pub AnswersUnlessMemory : {X : Type 0} → Result X TextError → X → Type 0

@@ -11,8 +11,8 @@ pub record IsDigestText (text : List ℕ) (digest : DigestValue) : Type 0 where
   pub valid : IsDigest digest
   pub text_is : text ≡ digest_text digest
 
--- Whether each build of a plan, from sources with a digest, ends in a claimed root, and what a
--- build of it noted.
+-- The question whether each build of a plan, from sources with a digest, ends in a claimed root, by
+-- what one build of it noted.
 pub record Question : Type 0 where
   pub sources : DigestValue
   pub claim : DigestValue

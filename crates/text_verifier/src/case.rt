@@ -10,8 +10,8 @@ use plan::{Plan, Record};
 use std::alloc::Allocator;
 use std::marker::Model;
 
-/// What is asked of the verifier, as it was read: whether each build of a plan, from sources with a
-/// digest, ends in a claimed root, and what a build of it noted.
+/// A question to the verifier, as it was read: whether each build of a plan, from sources with a
+/// digest, ends in a claimed root, by what one build of it noted.
 #[derive(Drop)]
 pub struct Case<A: Allocator> {
     pub(crate) digests: Digests,

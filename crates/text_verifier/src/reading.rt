@@ -1,14 +1,12 @@
 ghost use Rattle.std.specs.Prelude.{◌≡◌, ◌≤◌, IfOk, IfErr, Ok, Err};
 ghost use Rattle.blob_digest.specs.Digest.{DigestValue};
 ghost use Rattle.plan.specs.Faults.{IsPlanFault};
-ghost use Rattle.plan.specs.Plan.{IsPlan, plan_text};
-ghost use Rattle.plan.specs.Record.{IsRecord, Fits, RecordValue, names_of, build_record_text};
-ghost use Rattle.plan.specs.Record.{IsRecordFault};
+ghost use Rattle.plan.specs.Record.{IsRecordFault, RecordValue, names_of};
 ghost use Rattle.plan.specs.Values.{PlanValue};
 ghost use Rattle.plan.specs.declared.error.PlanError.{PlanError};
 ghost use Rattle.text_verifier.specs.Refused.{AnswersUnlessMemory, IsDigestRefusal, IsPlanRefusal};
 ghost use Rattle.text_verifier.specs.Refused.{IsRecordRefusal};
-ghost use Rattle.text_verifier.specs.Texts.{IsDigestText};
+ghost use Rattle.text_verifier.specs.Texts.{HasPlan, HasRecord, IsDigestText};
 
 use crate::error::TextError;
 use blob_digest::Digest;
@@ -42,11 +40,9 @@ pub fn read_digests(sources: &[u8], claim: &[u8]) -> Result<Digests, TextError>
 
 /// The plan of this text.
 pub fn read_plan<A: Allocator + Copy>(alloc: A, text: &[u8]) -> Result<Plan<A>, TextError>
-    ensures valid { IfOk result IsPlan }
-    ensures found { IfOk result (λ plan. text.now ≡ plan_text plan) }
+    ensures found { IfOk result (HasPlan text.now) }
     // The plan whose text it is is answered.
-    ensures only { (plan : PlanValue) → IsPlan plan → text.now ≡ plan_text plan
-        → AnswersUnlessMemory result plan }
+    ensures only { (plan : PlanValue) → HasPlan text.now plan → AnswersUnlessMemory result plan }
     // Lines 1 and 2 take no memory.
     ensures early { (e : PlanError) → IsPlanFault text.now e → e.line ≤ 2
         → result ≡ Err (TextError.Plan e) }
@@ -65,12 +61,10 @@ pub(crate) fn read_record<A: Allocator + Copy>(
     text: &[u8],
     plan: &Plan<A>,
 ) -> Result<Record<A>, TextError>
-    ensures valid { IfOk result IsRecord }
-    ensures fits { IfOk result (λ noted. Fits noted plan.now) }
-    ensures found { IfOk result (λ noted. text.now ≡ build_record_text noted) }
+    ensures found { IfOk result (HasRecord plan.now text.now) }
     // The record whose text it is is answered.
-    ensures only { (noted : RecordValue) → IsRecord noted → Fits noted plan.now
-        → text.now ≡ build_record_text noted → AnswersUnlessMemory result noted }
+    ensures only { (noted : RecordValue) → HasRecord plan.now text.now noted
+        → AnswersUnlessMemory result noted }
     // Lines 1 and 2 take no memory.
     ensures early { (e : PlanError) → IsRecordFault (names_of plan.now) text.now e → e.line ≤ 2
         → result ≡ Err (TextError.Record e) }

@@ -1,15 +1,16 @@
 -- A tree that is told, and its entries.
-use Rattle.std.proofs.Common.{subst, inl}
-use Rattle.std.specs.Prelude.{IfOk, [], ◌∷◌}
+use Rattle.std.proofs.Common.{◌≡◌, subst, inl}
+use Rattle.std.specs.Prelude.{Err, IfOk, [], ◌∷◌}
 use Rattle.std.proofs.lemmas.Result.{err_from_is_err_and}
 use Rattle.blob_source.proofs.Calling.{called_ok, called_no, called_exit}
 use Rattle.blob_source.proofs.Asking.{ok_no_error}
 use Rattle.checkout.specs.Folder.{Tries, empty_folder}
-use Rattle.checkout.specs.Refused.{FailsAt, FailsEntries}
+use Rattle.checkout.specs.Refused.{FailsEntries, FailsPlace}
 use Rattle.checkout.specs.Refused.FailsCheckout.{in_tree, in_folder, in_entries}
 use Rattle.checkout.specs.Written.{AreWritten, IsGained, places_of}
+use Rattle.checkout.specs.Written.{AsksEachOnce as asking}
 use Rattle.checkout.proofs.Entries.{fails_had, told_anyway, tries_none, tries_then}
-use Rattle.checkout.proofs.Telling.{asks_files, asks_tree, place_fails, tree_looked}
+use Rattle.checkout.proofs.Telling.{asks_files, place_fails, tree_looked}
 use Rattle.tree.proofs.UnfoldSteps.{unfolded_still}
 use Rattle.tree.proofs.Leaving.{others_more}
 use Rattle.checkout.proofs.writing.check_out.Goals as goal
@@ -41,13 +42,13 @@ pub returns-in_err-place-clause-only : goal.returns-in_err-place-clause-only
 returns-in_err-place-clause-only g c = others_more (λ a h. inl h) c.read_tree.ensures.only
 
 pub returns-in_err-tree-clause-few : goal.returns-in_err-tree-clause-few
-returns-in_err-tree-clause-few g c = asks_tree c.read_tree.ensures.once
+returns-in_err-tree-clause-few g c = asking.in_tree c.read_tree.ensures.once
 
 pub returns-in_err-entries-clause-few : goal.returns-in_err-entries-clause-few
-returns-in_err-entries-clause-few g c = asks_tree c.read_tree.ensures.once
+returns-in_err-entries-clause-few g c = asking.in_tree c.read_tree.ensures.once
 
 pub returns-in_err-place-clause-few : goal.returns-in_err-place-clause-few
-returns-in_err-place-clause-few g c = asks_tree c.read_tree.ensures.once
+returns-in_err-place-clause-few g c = asking.in_tree c.read_tree.ensures.once
 
 -- ---- the folder isn't taken
 
@@ -56,7 +57,7 @@ returns-in_err-folder-clause-refused g c =
     let p = err_from_is_err_and c.from_residual-in_err-folder.result c.from_residual-in_err-folder.ensures.1 in
     rw (p.1, p.2) (in_folder c.in_ok-tree.tree c.in_ok-tree.ensures.told c.take.ensures.tries
     (place_fails g.W.FolderWriter.works.refuses c.args.path.now c.take.result c.in_err-folder.field-0.0
-    (subst (λ q. FailsAt q c.take.result c.in_err-folder.field-0.0) c.in_ok-place.ensures.ok c.in_err-folder.ensures.refused) c.take.ensures.refused))
+    (subst (λ q. FailsPlace (λ _ fault. c.take.result ≡ Err fault) q c.in_err-folder.field-0.0) c.in_ok-place.ensures.ok c.in_err-folder.ensures.refused) c.take.ensures.refused))
 
 pub returns-in_err-folder-clause-unwritten : goal.returns-in_err-folder-clause-unwritten
 returns-in_err-folder-clause-unwritten g c = told_anyway _ (inl (c.in_ok-tree.tree, c.in_ok-tree.ensures.told))
@@ -65,7 +66,7 @@ pub returns-in_err-folder-clause-only : goal.returns-in_err-folder-clause-only
 returns-in_err-folder-clause-only g c = others_more (λ a h. inl h) c.read_tree.ensures.only
 
 pub returns-in_err-folder-clause-few : goal.returns-in_err-folder-clause-few
-returns-in_err-folder-clause-few g c = asks_tree c.read_tree.ensures.once
+returns-in_err-folder-clause-few g c = asking.in_tree c.read_tree.ensures.once
 
 -- ---- an entry isn't written
 
@@ -97,7 +98,7 @@ returns-in_err-write_entries-clause-only g c =
 
 pub returns-in_err-write_entries-clause-few : goal.returns-in_err-write_entries-clause-few
 returns-in_err-write_entries-clause-few g c =
-    asks_files (g.S.BlobSource.tells c.read_tree.new.source) c.in_ok-entries.entries.items c.write_entries.ensures.called.asked.blobs c.in_ok-tree.ensures.told c.in_ok-entries.ensures.value c.in_ok-tree.ensures.few c.write_entries.ensures.few
+    asks_files (g.S.BlobSource.tells c.read_tree.new.source) c.write_entries.ensures.called.asked.blobs c.in_ok-tree.ensures.told c.in_ok-entries.ensures.value c.in_ok-tree.ensures.few c.write_entries.ensures.few
 
 -- ---- all is written
 
@@ -131,7 +132,7 @@ returns-clause-only g c =
 
 pub returns-clause-few : goal.returns-clause-few
 returns-clause-few g c =
-    asks_files (g.S.BlobSource.tells c.read_tree.new.source) c.in_ok-entries.entries.items c.write_entries.ensures.called.asked.blobs c.in_ok-tree.ensures.told c.in_ok-entries.ensures.value c.in_ok-tree.ensures.few c.write_entries.ensures.few
+    asks_files (g.S.BlobSource.tells c.read_tree.new.source) c.write_entries.ensures.called.asked.blobs c.in_ok-tree.ensures.told c.in_ok-entries.ensures.value c.in_ok-tree.ensures.few c.write_entries.ensures.few
 
 pub returns-clause-called : goal.returns-clause-called
 returns-clause-called g c = called_ok c.in_ok-tree.ensures.called (called_no ok_no_error ok_no_error c.in_ok-write_entries.ensures.called)

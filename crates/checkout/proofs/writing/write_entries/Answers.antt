@@ -4,15 +4,14 @@ use Rattle.std.specs.Prelude.{string_bytes}
 use Rattle.std.proofs.lemmas.Result.{err_from_is_err_and}
 use Rattle.blob_source.proofs.Asking.{ok_no_error}
 use Rattle.blob_source.proofs.Calling.{called_none, called_no, called_on, called_exit}
-use Rattle.tree.specs.FlatTree.{path_values}
-use Rattle.tree.specs.Unfolded.{directories_in}
-use Rattle.checkout.specs.Written.{place_below}
+use Rattle.tree.specs.FlatTree.{entry_value, path_values}
+use Rattle.checkout.specs.Written.{contents_in, place_below}
 use Rattle.checkout.specs.declared.error.CheckoutError.TheVariants.{Memory}
 use Rattle.tree.proofs.Leaving.{others_then}
 use Rattle.checkout.specs.Folder.{Tries}
 use Rattle.checkout.specs.Refused.FailsOneEntry.{untried}
-use Rattle.checkout.proofs.Telling.{asks_nothing, few_directories, listed_length}
-use Rattle.checkout.proofs.Entries.{SoFar, none_yet, next_one, next_fails, next_looked, all_done, all_tried, none_left, tries_none}
+use Rattle.checkout.proofs.Telling.{asks_nothing, contents_more}
+use Rattle.checkout.proofs.Entries.{SoFar, none_yet, next_one, next_fails, next_looked, all_done, all_tried, tries_none}
 use Rattle.checkout.proofs.writing.write_entries.Goals as goal
 
 pub loop-below-init : goal.loop-below-init
@@ -25,7 +24,7 @@ loop-below-init g c =
     record {
       called = called_none (λ n. n);
       only = asks_nothing;
-      few = subst (λ es. tells.calls + directories_in all + length es ≤ tells.calls + length c.args.entries.items + directories_in (path_values es)) {x = c.args.entries.items} (search rules) (omega arith);
+      few = let same = ap (λ es. contents_in (path_values es)) c.into_iter-below-iterator.ensures.into_iter_gives.0 in omega (arith, same);
       so_far = subst (λ es. SoFar works (Tries tried c.args.writer.now c.args.writer.now) tells.blobs folder folder c.args.path.now all (path_values es)) (search rules) (none_yet works tried c.args.writer.now c.args.path.now all tells.blobs folder);
     }
 
@@ -39,11 +38,9 @@ loop-below-preserved g c =
     record {
       called = called_on c.loop-below.invariant.called (called_no ok_no_error (λ n. n) c.in_ok-write_entry.ensures.called);
       only = others_then (λ a h. h) (next_looked works tried c.args.writer.now c.args.path.now all steps c.loop-below.invariant.so_far) c.loop-below.invariant.only c.write_entry.ensures.only;
-      few = let one = c.write_entry.ensures.few in
-          let before = c.loop-below.invariant.few in
-          let rest = ap length steps in
-          let directories = ap (λ es. directories_in (path_values es)) steps in
-          omega (arith, one, before, rest, directories);
+      few =
+          let more = ap (λ es. contents_in (path_values es)) steps ∙ contents_more (c.in-Some.below, entry_value c.in-Some.entry) (path_values c.next.new.self.rest.items) in
+          omega (arith, c.write_entry.ensures.few, c.loop-below.invariant.few, more);
       so_far = next_one works tried c.args.writer.now c.args.path.now all c.args.folder.now c.loop-below.folder c.write_entry.new.folder c.loop-below.writer c.write_entry.new.writer (string_bytes c.in_ok-place.place) steps
           c.write_entry.ensures.called.asked.blobs at c.loop-below.invariant.so_far c.in_ok-write_entry.ensures.made c.in_ok-write_entry.ensures.tried;
     }
@@ -63,19 +60,15 @@ pub returns-in_err-place-clause-called : goal.returns-in_err-place-clause-called
 returns-in_err-place-clause-called g c = called_no (λ n. n) (search rules) c.loop-below.invariant.called
 
 pub returns-in_err-place-clause-few : goal.returns-in_err-place-clause-few
-returns-in_err-place-clause-few g c =
-    let left = c.loop-below.below-iterator.rest.items in
-    omega (arith, c.loop-below.invariant.few, few_directories (path_values left), listed_length left)
+returns-in_err-place-clause-few g c = omega (arith, c.loop-below.invariant.few)
 
 -- ---- the next one isn't written
 
 pub returns-in_err-write_entry-clause-few : goal.returns-in_err-write_entry-clause-few
 returns-in_err-write_entry-clause-few g c =
-    let left = c.next.new.self.rest.items in
-    let steps : c.loop-below.below-iterator.rest.items ≡ (c.in-Some.below, c.in-Some.entry) ∷ left = search rules in
-    let rest = ap length steps in
-    let directories = ap (λ es. directories_in (path_values es)) steps in
-    omega (arith, c.loop-below.invariant.few, c.write_entry.ensures.few, rest, directories, few_directories (path_values left), listed_length left)
+    let steps : c.loop-below.below-iterator.rest.items ≡ (c.in-Some.below, c.in-Some.entry) ∷ c.next.new.self.rest.items = search rules in
+    let more = ap (λ es. contents_in (path_values es)) steps ∙ contents_more (c.in-Some.below, entry_value c.in-Some.entry) (path_values c.next.new.self.rest.items) in
+    omega (arith, c.loop-below.invariant.few, c.write_entry.ensures.few, more)
 
 pub returns-in_err-write_entry-clause-refused : goal.returns-in_err-write_entry-clause-refused
 returns-in_err-write_entry-clause-refused g c =
@@ -108,12 +101,7 @@ returns-clause-tried g c =
     all_tried g.W.FolderWriter.works g.W.FolderWriter.tried c.args.writer.now c.args.path.now (path_values c.args.entries.items) c.loop-below.below-iterator.rest.items c.args.folder.now c.loop-below.folder none c.loop-below.invariant.so_far
 
 pub returns-clause-few : goal.returns-clause-few
-returns-clause-few g c =
-    let none : c.loop-below.below-iterator.rest.items ≡ [] = none_left c.loop-below.below-iterator.rest.items (let len = c.in-None.ensures.steps.0 in let ok = c.loop-below.below-iterator.rest.ok in omega (arith, len, ok)) in
-    let before = c.loop-below.invariant.few in
-    let rest = ap length none in
-    let directories = ap (λ es. directories_in (path_values es)) none in
-    omega (arith, before, rest, directories)
+returns-clause-few g c = omega (arith, c.loop-below.invariant.few)
 
 pub returns-clause-called : goal.returns-clause-called
 returns-clause-called g c = called_no (λ n. n) ok_no_error c.loop-below.invariant.called

@@ -1,15 +1,14 @@
-use Rattle.std.proofs.Common.{ap, sym, subst, refl, inr}
+use Rattle.std.proofs.Common.{◌+◌, ◌≤◌, [], ◌∷◌, ap, sym, subst, refl, inr}
 use Rattle.std.specs.Prelude.{string_bytes}
 use Rattle.std.proofs.lemmas.Result.{err_from_is_err_and}
 use Rattle.tree.specs.FlatTree.{entry_value}
 use Rattle.checkout.specs.Refused.FailsOneEntry.{untried}
 use Rattle.checkout.specs.Folder.{Gains}
 use Rattle.checkout.specs.Folder.Written.{a_file, a_link}
-use Rattle.checkout.specs.Written.{MakesEntry}
-use Rattle.checkout.specs.Written.{EntryLooksAt}
+use Rattle.checkout.specs.Written.{EntryLooksAt, MakesEntry, contents_at}
 use Rattle.tree.specs.Memo.{AsksNoOther}
 use Rattle.checkout.proofs.Entries.{tries_none, where_ok}
-use Rattle.checkout.proofs.Telling.{asks_nothing, call_fails}
+use Rattle.checkout.proofs.Telling.{asks_nothing, call_fails, content_few}
 use Rattle.checkout.proofs.writing.write_entry.Goals as goal
 
 pub returns-in-Link-clause-made : goal.returns-in-Link-clause-made
@@ -18,7 +17,7 @@ returns-in-Link-clause-made g c =
     let B = (g.S.BlobSource.tells c.args.source.now).blobs in
     where_ok c.made_at-in-Link.result c.make_link-made.result c.made_at-in-Link.ensures.same c.make_link-made.ensures.made
     (λ gains. subst (λ e. MakesEntry works B c.args.folder.now c.make_link-made.new.folder (string_bytes c.args.place) (entry_value e)) (sym c.in-Link.is)
-    (record { written = a_link c.as_str-in-Link-2.result.now; of_entry = c.as_str-in-Link-2.ensures.value; gains = subst (λ q. Gains works c.args.folder.now c.make_link-made.new.folder q (a_link c.as_str-in-Link-2.result.now)) c.as_str-in-Link.ensures.value gains }))
+    (record { written = a_link c.as_str-in-Link-2.result.now; of_entry = c.as_str-in-Link-2.ensures.value; gains = subst (λ q. Gains works c.args.folder.now c.make_link-made.new.folder ((q, a_link c.as_str-in-Link-2.result.now) ∷ [])) c.as_str-in-Link.ensures.value gains }))
 
 pub returns-in_ok-content-in-File-clause-made : goal.returns-in_ok-content-in-File-clause-made
 returns-in_ok-content-in-File-clause-made g c =
@@ -31,8 +30,8 @@ returns-in_ok-content-in-File-clause-made g c =
     (record {
       written = a_file c.in_ok-content-in-File.content.items c.in-File.executable;
       of_entry = (c.in_ok-content-in-File.ensures.told, refl);
-      gains = subst (λ b. Gains works old new (string_bytes c.args.place) (a_file b c.in-File.executable)) c.deref.ensures.value
-          (subst (λ q. Gains works old new q (a_file c.deref.result.now c.in-File.executable)) c.as_str-in-File.ensures.value gains);
+      gains = subst (λ b. Gains works old new ((string_bytes c.args.place, a_file b c.in-File.executable) ∷ [])) c.deref.ensures.value
+          (subst (λ q. Gains works old new ((q, a_file c.deref.result.now c.in-File.executable) ∷ [])) c.as_str-in-File.ensures.value gains);
     }))
 
 pub returns-in-Dir-clause-only : goal.returns-in-Dir-clause-only
@@ -50,6 +49,18 @@ pub returns-in_ok-content-in-File-clause-only : goal.returns-in_ok-content-in-Fi
 returns-in_ok-content-in-File-clause-only g c =
     let tells = g.S.BlobSource.tells in
     subst (λ e. AsksNoOther (EntryLooksAt (entry_value e)) (tells c.args.source.now).blobs (tells c.read_content.new.source).blobs) (sym c.in-File.is) c.read_content.ensures.only
+
+pub returns-in_err-content-in-File-clause-few : goal.returns-in_err-content-in-File-clause-few
+returns-in_err-content-in-File-clause-few g c =
+    let tells = g.S.BlobSource.tells in
+    subst (λ e. (tells c.read_content.new.source).calls ≤ (tells c.args.source.now).calls + contents_at (entry_value e)) (sym c.in-File.is)
+    (content_few c.in-File.digest c.in-File.executable c.read_content.ensures.called.asked c.read_content.ensures.unasked)
+
+pub returns-in_ok-content-in-File-clause-few : goal.returns-in_ok-content-in-File-clause-few
+returns-in_ok-content-in-File-clause-few g c =
+    let tells = g.S.BlobSource.tells in
+    subst (λ e. (tells c.read_content.new.source).calls ≤ (tells c.args.source.now).calls + contents_at (entry_value e)) (sym c.in-File.is)
+    (content_few c.in-File.digest c.in-File.executable c.read_content.ensures.called.asked c.read_content.ensures.unasked)
 
 pub returns-in-Dir-clause-refused : goal.returns-in-Dir-clause-refused
 returns-in-Dir-clause-refused g c =
