@@ -5,7 +5,8 @@ use Rattle.std.proofs.Math.Dec.{eqb}
 use Rattle.std.proofs.lemmas.Bool.Decides.{eqb_tells}
 use Rattle.std.specs.Prelude.{option_map}
 use Rattle.std.specs.List.{AllByRecursion}
-use Rattle.service.specs.Member.{MemberValue, let_go, marked_by}
+use Rattle.service.specs.Member.{IsLetGo, MemberValue, let_go, marked_by}
+use Rattle.service.specs.Sockets.{Stays}
 use Rattle.service.specs.Together.{member_at, AreSame, AreSameButHeld, IsFree, OthersAreSame}
 use Rattle.service.specs.declared.sockets.Ready.{Ready}
 
@@ -26,50 +27,61 @@ module _ {S : Type 0} where
 
   -- ---- who waits for others no more
 
-  free_once : (o : Option (MemberValue S)) → IsFree (option_map let_go o)
-  free_once None = tt
-  free_once (Some m) = refl
-
-  let_go_twice : (o : Option (MemberValue S)) → option_map let_go (option_map let_go o) ≡ option_map let_go o
-  let_go_twice None = refl
-  let_go_twice (Some m) = refl
-
   -- each of them is free, or among those that are left
-  abbrev pub AreFreeBut : List ℕ → List ℕ → List (ℕ × MemberValue S) → Type 0
-  AreFreeBut held left now = (k : ℕ) → Among held k → IsFree (member_at now k) ⊎ Among left k
+  abbrev pub AreFreeBut : ℕ → List ℕ → List ℕ → List (ℕ × MemberValue S) → Type 0
+  AreFreeBut time held left now = (k : ℕ) → Among held k → IsFree time (member_at now k) ⊎ Among left k
 
-  pub frees_next : (held left rest : List ℕ) (n : ℕ) (l m : List (ℕ × MemberValue S)) → left ≡ n ∷ rest → member_at m n ≡ option_map let_go (member_at l n) → OthersAreSame n l m → AreFreeBut held left l → AreFreeBut held rest m
+module _ {S : Type 0} (spoke : ℕ → S → List ℕ → List ℕ → Type 0) (time : ℕ) where
+  pub let_go_none : (o p : Option (MemberValue S)) → o ≡ None → p ≡ o → IsLetGo spoke time o p
+  let_go_none o p none same = subst (λ q. IsLetGo spoke time q p) (sym none) (same ∙ none)
+
+  pub let_go_some : (o p : Option (MemberValue S)) (m n : MemberValue S) → o ≡ Some m → p ≡ Some n → Stays spoke m.stream n.stream → n ≡ let_go time n.stream m → IsLetGo spoke time o p
+  let_go_some o p m n old new stays is = subst (λ q. IsLetGo spoke time q p) (sym old) (n.stream, stays, new ∙ ap (λ (z : MemberValue S). Some z) is)
+
+  free_once : (o p : Option (MemberValue S)) → IsLetGo spoke time o p → IsFree time p
+  free_once None p none = subst (λ q. IsFree time q) (sym none) tt
+  free_once (Some m) p (stream, stays, is) = subst (λ q. IsFree time q) (sym is) (refl, refl)
+
+  let_go_twice : (m : MemberValue S) (stream : S) (q : Option (MemberValue S)) → Stays spoke m.stream stream → IsLetGo spoke time (Some (let_go time stream m)) q → IsLetGo spoke time (Some m) q
+  let_go_twice m stream q stays (again, on, is) = (again, λ k read sent said. on k read sent (stays k read sent said), is)
+
+  let_go_after : (o p q : Option (MemberValue S)) → (p ≡ o) ⊎ IsLetGo spoke time o p → IsLetGo spoke time p q → IsLetGo spoke time o q
+  let_go_after o p q (inl same) h = subst (λ r. IsLetGo spoke time r q) same h
+  let_go_after None p q (inr none) h = subst (λ r. IsLetGo spoke time r q) none h
+  let_go_after (Some m) p q (inr (stream, stays, is)) h = let_go_twice m stream q stays (subst (λ r. IsLetGo spoke time r q) is h)
+
+  pub frees_next : (held left rest : List ℕ) (n : ℕ) (l m : List (ℕ × MemberValue S)) → left ≡ n ∷ rest → IsLetGo spoke time (member_at l n) (member_at m n) → OthersAreSame n l m → AreFreeBut time held left l → AreFreeBut time held rest m
   frees_next held left rest n l m is at others free k among = by (eqb_tells k n) (free k among)
     where
-      own : IsFree (member_at m n)
-      own = subst (λ o. IsFree o) (sym at) (free_once (member_at l n))
+      own : IsFree time (member_at m n)
+      own = free_once (member_at l n) (member_at m n) at
 
-      further : (k ≡ n → ⊥) → Among (n ∷ rest) k → IsFree (member_at m k) ⊎ Among rest k
+      further : (k ≡ n → ⊥) → Among (n ∷ rest) k → IsFree time (member_at m k) ⊎ Among rest k
       further other (inl is) = absurd (other (sym is))
       further other (inr more) = inr more
 
-      by : ((eqb k n ≡ true) × (k ≡ n)) ⊎ ((eqb k n ≡ false) × (k ≡ n → ⊥)) → IsFree (member_at l k) ⊎ Among left k → IsFree (member_at m k) ⊎ Among rest k
-      by (inl (t, e)) h = inl (subst (λ i. IsFree (member_at m i)) (sym e) own)
-      by (inr (f, other)) (inl h) = inl (subst (λ o. IsFree o) (sym (others k other)) h)
+      by : ((eqb k n ≡ true) × (k ≡ n)) ⊎ ((eqb k n ≡ false) × (k ≡ n → ⊥)) → IsFree time (member_at l k) ⊎ Among left k → IsFree time (member_at m k) ⊎ Among rest k
+      by (inl (t, e)) h = inl (subst (λ i. IsFree time (member_at m i)) (sym e) own)
+      by (inr (f, other)) (inl h) = inl (subst (λ o. IsFree time o) (sym (others k other)) h)
       by (inr (f, other)) (inr h) = further other (subst (λ ks. Among ks k) is h)
 
-  pub frees_same : (held left : List ℕ) (l m : List (ℕ × MemberValue S)) → AreSame l m → AreFreeBut held left l → AreFreeBut held left m
+  pub frees_same : (held left : List ℕ) (l m : List (ℕ × MemberValue S)) → AreSame l m → AreFreeBut time held left l → AreFreeBut time held left m
   frees_same held left l m same free k among = by (free k among)
     where
-      by : IsFree (member_at l k) ⊎ Among left k → IsFree (member_at m k) ⊎ Among left k
-      by (inl h) = inl (subst (λ o. IsFree o) (sym (same.0 k)) h)
+      by : IsFree time (member_at l k) ⊎ Among left k → IsFree time (member_at m k) ⊎ Among left k
+      by (inl h) = inl (subst (λ o. IsFree time o) (sym (same.0 k)) h)
       by (inr h) = inr h
 
-  pub frees_all : (held left : List ℕ) (l : List (ℕ × MemberValue S)) → left ≡ [] → AreFreeBut held left l → AllByRecursion (λ k. IsFree (member_at l k)) held
-  frees_all held left l none free = all_among (λ k. IsFree (member_at l k)) held (λ k among. by k (free k among))
+  pub frees_all : (held left : List ℕ) (l : List (ℕ × MemberValue S)) → left ≡ [] → AreFreeBut time held left l → AllByRecursion (λ k. IsFree time (member_at l k)) held
+  frees_all held left l none free = all_among (λ k. IsFree time (member_at l k)) held (λ k among. by k (free k among))
     where
-      by : (k : ℕ) → IsFree (member_at l k) ⊎ Among left k → IsFree (member_at l k)
+      by : (k : ℕ) → IsFree time (member_at l k) ⊎ Among left k → IsFree time (member_at l k)
       by k (inl h) = h
       by k (inr h) = absurd (subst (λ ks. Among ks k) none h)
 
-  pub goes_but_held : (old l m n : List (ℕ × MemberValue S)) (k : ℕ) → member_at m k ≡ option_map let_go (member_at l k) → OthersAreSame k l m → length m ≡ length l → AreSame m n → AreSameButHeld old l → AreSameButHeld old n
-  goes_but_held old l m n k at others many same held = (λ j. ap (option_map let_go) (same.0 j) ∙ by j (eqb_tells j k) ∙ held.0 j, same.1 ∙ many ∙ held.1)
+  pub goes_but_held : (old l m n : List (ℕ × MemberValue S)) (k : ℕ) → IsLetGo spoke time (member_at l k) (member_at m k) → OthersAreSame k l m → length m ≡ length l → AreSame m n → AreSameButHeld spoke time old l → AreSameButHeld spoke time old n
+  goes_but_held old l m n k at others many same held = (λ j. subst (λ o. (o ≡ member_at old j) ⊎ IsLetGo spoke time (member_at old j) o) (sym (same.0 j)) (by j (eqb_tells j k)), same.1 ∙ many ∙ held.1)
     where
-      by : (j : ℕ) → ((eqb j k ≡ true) × (j ≡ k)) ⊎ ((eqb j k ≡ false) × (j ≡ k → ⊥)) → option_map let_go (member_at m j) ≡ option_map let_go (member_at l j)
-      by j (inl (t, e)) = subst (λ i. option_map let_go (member_at m i) ≡ option_map let_go (member_at l i)) (sym e) (ap (option_map let_go) at ∙ let_go_twice (member_at l k))
-      by j (inr (f, other)) = ap (option_map let_go) (others j other)
+      by : (j : ℕ) → ((eqb j k ≡ true) × (j ≡ k)) ⊎ ((eqb j k ≡ false) × (j ≡ k → ⊥)) → (member_at m j ≡ member_at old j) ⊎ IsLetGo spoke time (member_at old j) (member_at m j)
+      by j (inl (t, e)) = inr (subst (λ i. IsLetGo spoke time (member_at old i) (member_at m i)) (sym e) (let_go_after (member_at old k) (member_at l k) (member_at m k) (held.0 k) at))
+      by j (inr (f, other)) = subst (λ o. (o ≡ member_at old j) ⊎ IsLetGo spoke time (member_at old j) o) (sym (others j other)) (held.0 j)

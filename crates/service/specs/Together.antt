@@ -10,8 +10,8 @@ use Rattle.cache_server.specs.History.{HistoryEntry, End}
 use Rattle.cache_server.specs.Server.{ServerValue, ServerStands, LeadsTo, IsOpenAt, session_at}
 use Rattle.service.specs.Talks.{HasEnded, IsReason, AreBelow}
 use Rattle.service.specs.Sockets.{Cause, EndsAs, Why}
-use Rattle.service.specs.Member.{MemberValue, TalksOn, MovesOn, deadline_at, let_go, new_member}
-use Rattle.service.specs.Member.{HoldsAlone, IsDeadline, marked_by}
+use Rattle.service.specs.Member.{MemberValue, TalksOn, MovesOn, deadline_at, new_member}
+use Rattle.service.specs.Member.{HoldsAlone, IsDeadline, IsLetGo, marked_by}
 use Rattle.service.specs.declared.load.Load.{Load}
 use Rattle.service.specs.declared.sockets.Ready.{Ready}
 
@@ -87,16 +87,18 @@ LeavesPlaced places old new =
 abbrev pub AreSame : {S : Type 0} → List (ℕ × MemberValue S) → List (ℕ × MemberValue S) → Type 0
 AreSame old new = ((j : ℕ) → member_at new j ≡ member_at old j) × (length new ≡ length old)
 
--- so they are, but for which of them wait for others
+-- so they are, but that some wait for others no more
 abbrev pub AreSameButHeld :
-    {S : Type 0} → List (ℕ × MemberValue S) → List (ℕ × MemberValue S) → Type 0
-AreSameButHeld old new =
-    ((j : ℕ) → option_map let_go (member_at new j) ≡ option_map let_go (member_at old j))
+    {S : Type 0} → (ℕ → S → List ℕ → List ℕ → Type 0) → ℕ
+    → List (ℕ × MemberValue S) → List (ℕ × MemberValue S) → Type 0
+AreSameButHeld spoke now old new =
+    ((j : ℕ) → (member_at new j ≡ member_at old j)
+    ⊎ IsLetGo spoke now (member_at old j) (member_at new j))
     × (length new ≡ length old)
 
--- it waits for no others
-abbrev pub IsFree : {S : Type 0} → Option (MemberValue S) → Type 0
-IsFree member = IfSome member (λ m. m.held ≡ false)
+-- it waits for no others, and its silence counts from this time on
+abbrev pub IsFree : {S : Type 0} → ℕ → Option (MemberValue S) → Type 0
+IsFree now member = IfSome member (λ m. (m.held ≡ false) × (m.moved ≡ now))
 
 -- the same connections, for which these events are noted
 abbrev pub AreMarkedBy :

@@ -40,7 +40,8 @@ impl<S: Peer + Drop> Together<S> {
         let Some(member) = self.take(number) else {
             return;
         };
-        self.scales.weigh(number, &member.load(), &Load::none());
+        self.scales
+            .weigh(number, &member.load(), &Load::none(), self.share);
         self.waits = true;
         let (stream, peer, traffic) = member.into_parts();
         sockets.end(stream, why);

@@ -1,4 +1,4 @@
-//! A turn of each that has something to do.
+//! A round: a turn of each that has something to do.
 ghost use Rattle.std.specs.Prelude.{◌≡◌, ◌==◌, ◌&&◌, ℕ, None, IfSome, min, nat_le, not, true};
 ghost use Rattle.std.specs.Prelude.{if◌then◌else◌};
 ghost use Rattle.std.specs.Option.{option_map_or, unwrap_or};
@@ -30,17 +30,19 @@ impl<S: Peer + Drop> Together<S> {
         ensures places { LeavesPlaced N.places (sockets.old, self.old.members.entries)
             (sockets.new, self.new.members.entries) }
     {
-        let now = self.timer.now(rt);
         let spare = mem::replace(&mut self.spare, Vec::new(rt.alloc()));
         let mut ready = mem::replace(&mut self.ready, spare);
         for number in ready.iter() {
+            // All turns together may take so long that a connection would seem to be silent.
+            let now = self.timer.now(rt);
             self.turn(rt, sockets, server, *number, now);
         }
         ready.clear();
         self.spare = ready;
         if self.scales.eased {
             self.scales.eased = false;
-            self.release(rt.alloc());
+            let now = self.timer.now(rt);
+            self.release(rt.alloc(), now);
         }
     }
 
@@ -106,7 +108,7 @@ impl<S: Peer + Drop> Together<S> {
             (turn, was_held, before, member.load(), deadline)
         };
         self.wake = self.wake.min(deadline.unwrap_or(u64::MAX));
-        self.scales.weigh(number, &before, &after);
+        self.scales.weigh(number, &before, &after, self.share);
         Some((turn, was_held))
     }
 

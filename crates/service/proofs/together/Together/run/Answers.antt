@@ -16,9 +16,9 @@ returns-then-self-clause-keeps g c accepted =
     keeps_further false g.S.Peer.spoke g.N.Sockets.ended g.N.Sockets.lost c.args.self.now.members.entries c.loop-number.self.members.entries c.release.new.self.members.entries
     accepted accepted accepted c.args.server.now c.loop-number.server c.loop-number.server
     (c.loop-number.invariant.keeps accepted)
-    (keeps_but_held false g.S.Peer.spoke g.N.Sockets.ended g.N.Sockets.lost c.loop-number.self.members.entries c.release.new.self.members.entries accepted c.loop-number.server c.release.ensures.same)
+    (keeps_but_held false g.S.Peer.spoke g.N.Sockets.ended g.N.Sockets.lost _ c.loop-number.self.members.entries c.release.new.self.members.entries accepted c.loop-number.server c.release.ensures.same)
 
 pub returns-then-self-clause-places : goal.returns-then-self-clause-places
 returns-then-self-clause-places g c all accepted =
     placed_further (c.loop-number.invariant.places all accepted)
-    (placed_but_held c.loop-number.sockets c.loop-number.self.members.entries c.release.new.self.members.entries accepted c.release.ensures.same)
+    (placed_but_held g.S.Peer.spoke _ c.loop-number.sockets c.loop-number.self.members.entries c.release.new.self.members.entries accepted c.release.ensures.same)
