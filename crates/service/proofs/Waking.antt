@@ -7,7 +7,7 @@ use Rattle.std.specs.Prelude.{min, ◌&&◌, if◌then◌else◌, IfSome, IsTrue
 use Rattle.std.specs.Option.{unwrap_or}
 use Rattle.cache_server.specs.Answer.{AnswerValue}
 use Rattle.service.specs.Member.{MemberValue, HoldsAlone, IsDeadline, deadline_at, deadline_of, own_size, pressed_limit}
-use Rattle.service.specs.Together.{HoldAlone, IsInTime, OthersAreSame, SparesInTime, first_deadline, member_at}
+use Rattle.service.specs.Together.{AreHeavyInTime, HoldAlone, IsInTime, OthersAreSame, SparesInTime, first_deadline, member_at}
 use Rattle.service.specs.declared.lingering.Lingering.{Lingering}
 
 -- the time, or where there is none the last of all
@@ -43,6 +43,13 @@ wakes_calm idle pressed wake bound left rest entry r e (inl is) calm h =
     let first : first_deadline idle left ≡ first_deadline idle (entry ∷ rest) = ap (first_deadline idle) e in
     let same : or_never r ≡ or_never (deadline_at entry.1 idle) = ap or_never is in omega (arith, same, h, first)
 wakes_calm idle pressed wake bound left rest entry r e (inr (p, heavy, is)) calm h = let not : false ≡ true = sym calm ∙ p in absurd cc
+
+-- one more was looked at, whose deadline isn't over
+pub heavy_later : {S : Type 0} (idle : Option ℕ) (now : ℕ) (left rest : List (ℕ × MemberValue S)) (entry : ℕ × MemberValue S) (r : Option ℕ) (Whole : Type 0) → left ≡ entry ∷ rest
+    → ((65536 < entry.1.own) ⊎ (65536 < entry.1.load.requests) → r ≡ deadline_at entry.1 (Some (pressed_limit idle))) → IfSome r (λ deadline. now < deadline)
+    → (AreHeavyInTime idle now left → Whole) → AreHeavyInTime idle now rest → Whole
+heavy_later idle now left rest entry r Whole e heavy later whole others =
+    whole (subst (λ ms. AreHeavyInTime idle now ms) (sym e) (λ much. subst (λ o. IfSome o (λ deadline. now < deadline)) (heavy much) later, others))
 
 -- all of them are to be looked at
 pub wakes_first : {S : Type 0} (idle : Option ℕ) (members left : List (ℕ × MemberValue S)) → left ≡ members → min 18446744073709551615 (first_deadline idle left) ≡ first_deadline idle members

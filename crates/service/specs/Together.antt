@@ -1,6 +1,7 @@
 -- Open connections, each under its number, and a server.
 use Rattle.std.specs.Prelude.{◌≡◌, ℕ, ◌+◌, ◌<◌, ◌≤◌, ◌⊎◌, ◌&&◌, nat_le, min, Bool, false, List, []}
-use Rattle.std.specs.Prelude.{◌∷◌, ◌++◌, length, Option, Some, None, option_map, IfSome}
+use Rattle.std.specs.Prelude.{◌∷◌, ◌++◌, length, Option, Some, None, option_map, IfSome, IsTrue}
+use Rattle.std.specs.List.{AllByRecursion, Contains}
 use Rattle.std.specs.Option.{unwrap_or}
 use Rattle.std.specs.Ordering.{nat_cmp}
 use Rattle.std.specs.BTreeMap.{is_at}
@@ -11,7 +12,7 @@ use Rattle.cache_server.specs.Server.{ServerValue, ServerStands, LeadsTo, IsOpen
 use Rattle.service.specs.Talks.{HasEnded, IsReason, AreBelow}
 use Rattle.service.specs.Sockets.{Cause, EndsAs, Why}
 use Rattle.service.specs.Member.{MemberValue, TalksOn, MovesOn, deadline_at, new_member}
-use Rattle.service.specs.Member.{HoldsAlone, IsDeadline, IsLetGo, marked_by}
+use Rattle.service.specs.Member.{HoldsAlone, IsDeadline, IsLetGo, marked_by, pressed_limit}
 use Rattle.service.specs.declared.load.Load.{Load}
 use Rattle.service.specs.declared.sockets.Ready.{Ready}
 
@@ -99,6 +100,11 @@ AreSameButHeld spoke now old new =
 -- it waits for no others, and its silence counts from this time on
 abbrev pub IsFree : {S : Type 0} → ℕ → Option (MemberValue S) → Type 0
 IsFree now member = IfSome member (λ m. (m.held ≡ false) × (m.moved ≡ now))
+
+-- each that waits for others is listed
+abbrev pub AreListed : {S : Type 0} → List ℕ → List (ℕ × MemberValue S) → Type 0
+AreListed listed members =
+    (k : ℕ) → IfSome (member_at members k) (λ m. IsTrue m.held → Contains listed k)
 
 -- the same connections, for which these events are noted
 abbrev pub AreMarkedBy :
@@ -192,6 +198,16 @@ first_deadline idle (member ∷ members) =
 abbrev pub IsInTime : {S : Type 0} → MemberValue S → Option ℕ → ℕ → Type 0
 IsInTime m idle now =
     (pressed : Bool) (deadline : ℕ) → IsDeadline m idle pressed (Some deadline) → now < deadline
+
+-- if it holds much, it isn't past the sooner deadline either that is its where others wait for memory
+abbrev pub IsHeavyInTime : {S : Type 0} → Option ℕ → ℕ → MemberValue S → Type 0
+IsHeavyInTime idle now m =
+    (65536 < m.own) ⊎ (65536 < m.load.requests)
+    → IfSome (deadline_at m (Some (pressed_limit idle))) (λ deadline. now < deadline)
+
+-- so none of them is
+abbrev pub AreHeavyInTime : {S : Type 0} → Option ℕ → ℕ → List (ℕ × MemberValue S) → Type 0
+AreHeavyInTime idle now members = AllByRecursion (λ it. IsHeavyInTime idle now it.1) members
 
 -- those that are in time stay as they are
 abbrev pub SparesInTime :

@@ -1,6 +1,6 @@
 //! Who has something to do, and who waits for others.
-ghost use Rattle.std.specs.Prelude.{◌≡◌, ◌||◌, [], ◌∷◌, IfSome, length, min, option_map};
-ghost use Rattle.std.specs.List.{AllByRecursion, list_any};
+ghost use Rattle.std.specs.Prelude.{◌≡◌, ◌||◌, ℕ, [], ◌∷◌, IfSome, OnOk, length, min, option_map, true};
+ghost use Rattle.std.specs.List.{AllByRecursion, Contains, list_any};
 ghost use Rattle.std.specs.Option.{is_none, unwrap_or};
 ghost use Rattle.service.specs.Member.{IsLetGo, deadline_at, roused};
 ghost use Rattle.service.specs.Together.{AreSame, AreSameButHeld, AreMarkedBy, IsFree};
@@ -8,7 +8,7 @@ ghost use Rattle.service.specs.Together.{OthersAreSame, member_at};
 
 use crate::sockets::{Peer, Ready};
 use crate::together::Together;
-use std::alloc::Global;
+use std::alloc::{AllocError, Global};
 use std::mem;
 
 impl<S: Peer + Drop> Together<S> {
@@ -17,6 +17,7 @@ impl<S: Peer + Drop> Together<S> {
         ensures same { AreSame self.old.members.entries self.new.members.entries }
         ensures waits { self.new.waits ≡ self.old.waits }
         ensures held { self.new.held ≡ self.old.held }
+        ensures scales { self.new.scales ≡ self.old.scales }
     {
         if let Some(member) = self.members.get_mut(&number) {
             if !member.queue(true) && self.ready.push(number).is_err() {
@@ -102,4 +103,21 @@ impl<S: Peer + Drop> Together<S> {
         };
         self.wake = self.wake.min(deadline.unwrap_or(u64::MAX));
     }
+}
+
+/// Lists a number, if it wasn't held before, among those that wait for others.
+pub(crate) fn list(
+    held: &mut Vec<u64, Global>,
+    number: u64,
+    was_held: bool,
+) -> Result<(), AllocError>
+    ensures more { (j : ℕ) → Contains held.old.items j → Contains held.new.items j }
+    ensures listed { OnOk result
+        ((was_held ≡ true → Contains held.old.items number) → Contains held.new.items number) }
+{
+    if was_held {
+        return Ok(());
+    }
+    held.push(number)?;
+    Ok(())
 }

@@ -11,7 +11,7 @@ loop-preserved g c = record {
       (c.loop.invariant.keeps accepted) (c.give_up.ensures.keeps accepted);
   places = λ all accepted. placed_further (c.loop.invariant.places all accepted) (c.give_up.ensures.places all accepted);
   idle = c.give_up.ensures.idle ∙ c.loop.invariant.idle;
-  spares = spares_on c.args.self.now.idle c.loop.self.idle c.if-is_too_much.pressed c.args.now c.in-Err.number c.in-Err.deadline
+  spares = spares_on c.args.self.now.idle c.loop.self.idle c.is_pressed-pressed.result c.args.now c.in-Err.number c.in-Err.deadline
       c.args.self.now.members.entries c.loop.self.members.entries c.give_up.new.self.members.entries
       c.loop.invariant.spares c.loop.invariant.idle c.in-Err.ensures.late c.in-Err.ensures.due c.give_up.ensures.others;
   fewer = omega (arith, c.give_up.ensures.fewer, c.loop.invariant.fewer);
