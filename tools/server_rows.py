@@ -375,38 +375,41 @@ def begin_bodies(port, missing):
     """Sixteen clients with a body of the greatest length each, which hold together as much as requests may; so many bytes of each
     are missing. They come side by side, so that none is silent."""
     bodies = [bytes([number]) * LARGEST for number in range(16)]
-    clients = [(connect(port), put(path_of(body), body)) for body in bodies]
-    end, piece = len(clients[0][1]) - missing, 1 << 19
+    texts = [put(path_of(body), body) for body in bodies]
+    streams = [connect(port) for _ in texts]
+    end, piece = len(texts[0]) - missing, 1 << 19
     for at in range(0, end, piece):
-        for stream, text in clients:
+        for stream, text in zip(streams, texts):
             stream.sendall(text[at : min(at + piece, end)])
-    return [(stream, text[end:]) for stream, text in clients]
+    return [(stream, text[end:]) for stream, text in zip(streams, texts)]
 
 
 def try_waiting(rows, program):
     """Requests that hold together as much as they may."""
-    with many(program) as it, connect(it.port) as small:
+    with many(program) as it:
         clients = begin_bodies(it.port, 1)
         time.sleep(0.5)
-        small.sendall(get(f"/cas/{EMPTY}")[:20])
-        time.sleep(0.2)
-        right = [ask(stream, rest, DONE) for stream, rest in clients]
+        with connect(it.port) as small:
+            small.sendall(get(f"/cas/{EMPTY}")[:20])
+            time.sleep(0.2)
+            right = [ask(stream, rest, DONE) for stream, rest in clients]
         rows.tell("where requests hold all that they may, none waits for one that stops in its head", all(right), right)
-    with many(program, "--idle", "3") as it, connect(it.port) as slow:
+    body = bytes(12 << 20)
+    text = put(path_of(body), body)
+    end = len(text) - (3 << 20)
+    with many(program, "--idle", "3") as it:
         clients = begin_bodies(it.port, 1 << 19)
         time.sleep(0.5)
-        body = bytes(12 << 20)
-        text = put(path_of(body), body)
-        end = len(text) - (3 << 20)
-        slow.sendall(text[:end])
-        time.sleep(0.5)
-        for stream, rest in clients:
-            stream.sendall(rest[:1000])
-        for at in range(end, end + 40):
-            slow.sendall(text[at : at + 1])
-            time.sleep(0.1)
-        right = [ask(slow, text[end + 40 :], DONE)]
-        right += [ask(stream, rest[1000:], DONE) for stream, rest in clients]
+        with connect(it.port) as slow:
+            slow.sendall(text[:end])
+            time.sleep(0.5)
+            for stream, rest in clients:
+                stream.sendall(rest[:1000])
+            for at in range(end, end + 40):
+                slow.sendall(text[at : at + 1])
+                time.sleep(0.1)
+            right = [ask(slow, text[end + 40 :], DONE)]
+            right += [ask(stream, rest[1000:], DONE) for stream, rest in clients]
         rows.tell("those that wait for one of them for longer than --idle go on behind it", all(right), right)
 
 
