@@ -1,5 +1,5 @@
 -- Open connections, each under its number, and a server.
-use Rattle.std.specs.Prelude.{◌≡◌, ℕ, ◌+◌, ◌<◌, ◌≤◌, ◌⊎◌, ◌&&◌, nat_le, min, Bool, false, List, []}
+use Rattle.std.specs.Prelude.{◌≡◌, ℕ, ◌+◌, ◌<◌, ◌≤◌, ◌⊎◌, ◌&&◌, nat_le, min, Bool, true, false, List, []}
 use Rattle.std.specs.Prelude.{◌∷◌, ◌++◌, length, Option, Some, None, option_map, IfSome, IsTrue}
 use Rattle.std.specs.List.{AllByRecursion, Contains}
 use Rattle.std.specs.Option.{unwrap_or}
@@ -194,27 +194,34 @@ first_deadline idle [] = 18446744073709551615
 first_deadline idle (member ∷ members) =
     min (unwrap_or (deadline_at member.1 idle) 18446744073709551615) (first_deadline idle members)
 
--- none of its deadlines is over at this time, whether others wait for memory or not
-abbrev pub IsInTime : {S : Type 0} → MemberValue S → Option ℕ → ℕ → Type 0
-IsInTime m idle now =
-    (pressed : Bool) (deadline : ℕ) → IsDeadline m idle pressed (Some deadline) → now < deadline
+-- neither answers nor requests that aren't whole hold too much
+abbrev pub HoldLittle : Load → Type 0
+HoldLittle load = (load.answers < 268435456) × (load.requests < 268435456)
 
--- if it holds much, it isn't past the sooner deadline either that is its where others wait for memory
+-- None of its deadlines is over at this time: whether others wait for memory or not, or where they
+-- don't.
+abbrev pub IsInTime : {S : Type 0} → Bool → MemberValue S → Option ℕ → ℕ → Type 0
+IsInTime calm m idle now =
+    (pressed : Bool) (deadline : ℕ) → (calm ≡ true → pressed ≡ false)
+    → IsDeadline m idle pressed (Some deadline) → now < deadline
+
+-- if it holds much, its sooner deadline, which counts where others wait for memory, isn't over
 abbrev pub IsHeavyInTime : {S : Type 0} → Option ℕ → ℕ → MemberValue S → Type 0
 IsHeavyInTime idle now m =
     (65536 < m.own) ⊎ (65536 < m.load.requests)
     → IfSome (deadline_at m (Some (pressed_limit idle))) (λ deadline. now < deadline)
 
--- so none of them is
+-- so each of them is
 abbrev pub AreHeavyInTime : {S : Type 0} → Option ℕ → ℕ → List (ℕ × MemberValue S) → Type 0
 AreHeavyInTime idle now members = AllByRecursion (λ it. IsHeavyInTime idle now it.1) members
 
 -- those that are in time stay as they are
 abbrev pub SparesInTime :
-    {S : Type 0} → Option ℕ → ℕ → List (ℕ × MemberValue S) → List (ℕ × MemberValue S) → Type 0
-SparesInTime idle now old new =
+    {S : Type 0} → Bool → Option ℕ → ℕ → List (ℕ × MemberValue S) → List (ℕ × MemberValue S)
+    → Type 0
+SparesInTime calm idle now old new =
     (k : ℕ) → IfSome (member_at old k)
-    (λ m. IsInTime m idle now → member_at new k ≡ Some m)
+    (λ m. IsInTime calm m idle now → member_at new k ≡ Some m)
 
 -- The next wake comes after this time, if ever, and no later than the first of their deadlines.
 abbrev pub WakesInTime : {S : Type 0} → Option ℕ → List (ℕ × MemberValue S) → ℕ → ℕ → Type 0

@@ -1,8 +1,8 @@
 //! Which connections were silent for too long.
 ghost use Rattle.std.specs.Prelude.{◌≡◌, ◌+◌, ◌<◌, ◌≤◌, ◌⊎◌, IfErr, IfOk, IfSome, IsSome, Some};
-ghost use Rattle.std.specs.Prelude.{IsTrue, OnOk, false, length, nat_le, true};
+ghost use Rattle.std.specs.Prelude.{Bool, IsTrue, OnOk, false, length, nat_le, true};
 ghost use Rattle.service.specs.Member.{IsDeadline};
-ghost use Rattle.service.specs.Together.{AreFull, AreHeavyInTime, LeavesPlaced, LeavesTogether};
+ghost use Rattle.service.specs.Together.{AreFull, AreHeavyInTime, HoldLittle, LeavesPlaced, LeavesTogether};
 ghost use Rattle.service.specs.Together.{MayEndAt, OthersAreSame};
 ghost use Rattle.service.specs.Together.{SparesInTime, WakesInTime};
 ghost use Rattle.service.specs.Together.{first_deadline, member_at};
@@ -31,7 +31,8 @@ impl<S: Peer + Drop> Together<S> {
             (sockets.new, self.new.members.entries) }
         ensures wake { (now < self.old.wake)
             ⊎ WakesInTime self.old.idle self.new.members.entries now self.new.wake }
-        ensures spares { SparesInTime self.old.idle now
+        ensures spares { (calm : Bool) → (calm ≡ true → HoldLittle self.old.scales.load)
+            → SparesInTime calm self.old.idle now
             self.old.members.entries self.new.members.entries }
         ensures heavy { nat_le 268435456 self.new.scales.load.requests ≡ true
             → AreHeavyInTime self.old.idle now self.new.members.entries }
@@ -109,6 +110,7 @@ impl<S: Peer + Drop> Together<S> {
         ensures fewer { length self.new.members.entries + 1 ≡ length self.old.members.entries }
         ensures others { OthersAreSame number self.old.members.entries self.new.members.entries }
         ensures idle { self.new.idle ≡ self.old.idle }
+        ensures little { HoldLittle self.old.scales.load → HoldLittle self.new.scales.load }
     {
         if let Some(why) = self.silence(server, number, deadline, now) {
             self.end(rt, sockets, server, number, why);
