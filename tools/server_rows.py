@@ -3,8 +3,8 @@
 
 The streams of bytes and their exact answers, whole and byte by byte, also where room is short; heads that are refused, and
 which of them close the connection; the prefix that stands before the paths; many connections at once, of clients that are
-slow, deaf, silent or gone beside one that works; the line on a terminal; an address that is in use, or was a moment before;
-and more connections than the server may have files. It prints a line for each row, and ends with status 1 where one failed.
+slow, deaf, silent or gone beside one that works, or wait until others hold less; a server that is stopped and goes on; the
+line on a terminal; an address that is in use, or was a moment before; and more connections than the server may have files. It prints a line for each row, and ends with status 1 where one failed.
 Nothing outside this machine is asked.
 """
 
@@ -371,6 +371,62 @@ def try_silence(rows, program):
         rows.tell("one that is silent for --idle 1 is let go, and one that works isn't", right, (ends, longest))
 
 
+def begin_bodies(port, missing):
+    """Sixteen clients with a body of the greatest length each, which hold together as much as requests may; so many bytes of each
+    are missing. They come side by side, so that none is silent."""
+    bodies = [bytes([number]) * LARGEST for number in range(16)]
+    texts = [put(path_of(body), body) for body in bodies]
+    streams = [connect(port) for _ in texts]
+    end, piece = len(texts[0]) - missing, 1 << 19
+    for at in range(0, end, piece):
+        for stream, text in zip(streams, texts):
+            stream.sendall(text[at : min(at + piece, end)])
+    return [(stream, text[end:]) for stream, text in zip(streams, texts)]
+
+
+def try_waiting(rows, program):
+    """Requests that hold together as much as they may."""
+    with many(program) as it:
+        clients = begin_bodies(it.port, 1)
+        time.sleep(0.5)
+        with connect(it.port) as small:
+            small.sendall(get(f"/cas/{EMPTY}")[:20])
+            time.sleep(0.2)
+            right = [ask(stream, rest, DONE) for stream, rest in clients]
+        rows.tell("where requests hold all that they may, none waits for one that stops in its head", all(right), right)
+    body = bytes(12 << 20)
+    text = put(path_of(body), body)
+    end = len(text) - (3 << 20)
+    with many(program, "--idle", "3") as it:
+        clients = begin_bodies(it.port, 1 << 19)
+        time.sleep(0.5)
+        with connect(it.port) as slow:
+            slow.sendall(text[:end])
+            time.sleep(0.5)
+            for stream, rest in clients:
+                stream.sendall(rest[:1000])
+            for at in range(end, end + 40):
+                slow.sendall(text[at : at + 1])
+                time.sleep(0.1)
+            right = [ask(slow, text[end + 40 :], DONE)]
+            right += [ask(stream, rest[1000:], DONE) for stream, rest in clients]
+        rows.tell("those that wait for one of them for longer than --idle go on behind it", all(right), right)
+
+
+def try_stopped(rows, program):
+    """A server that is stopped, as by Ctrl-Z, and goes on."""
+    request = put(f"/cas/{DIGITS}", NINE)
+    for more in ((), ("--at-once", "4")):
+        with server(program, 1, *more) as it, connect(it.port) as stream:
+            stream.sendall(request[:-1])
+            for number in (signal.SIGSTOP, signal.SIGCONT):
+                time.sleep(0.2)
+                it.process.send_signal(number)
+            time.sleep(0.2)
+            right = ask(stream, request[-1:], DONE)
+            rows.tell(" ".join(["a server that is stopped and goes on keeps its connection", *more]), right)
+
+
 def read_until(stream, end, seconds=5):
     """What comes of a descriptor, to this text or for so long."""
     came, late = b"", time.monotonic() + seconds
@@ -423,7 +479,7 @@ def try_counts(rows, program):
 
 
 def try_many(rows, program):
-    for part in (try_mixed, try_neighbours, try_places, try_silence, try_line, try_counts):
+    for part in (try_mixed, try_neighbours, try_places, try_silence, try_waiting, try_stopped, try_line, try_counts):
         part(rows, program)
 
 

@@ -9,10 +9,10 @@ use Rattle.cache_server.specs.History.{HistoryEntry, End}
 use Rattle.std.specs.Prelude.{Ok, Err, option_map, ⊤}
 use Rattle.cache_server.specs.Server.{ServerValue, ServerStands, IsOpenAt, session_at}
 use Rattle.cache_server.specs.declared.error.ConnError.TheVariants.{Memory, ReadFault}
-use Rattle.service.specs.Sockets.{Cause, EndsAs, Failed, Finished, Shut, Silent, Why}
+use Rattle.service.specs.Sockets.{Cause, EndsAs, Failed, Finished, Shut, Silent, Stays, Why}
 use Rattle.service.specs.Talks.{entry_number, AreOfOthers, IsShut, IsReason, OrCutOff, HasEnded, AreBelow, ServesEach}
 use Rattle.service.specs.Talks as talks
-use Rattle.service.specs.Member.{MemberValue, TalksOn, MayEndNow, AreOf, HasMovedOn, let_go, new_member, marked_by}
+use Rattle.service.specs.Member.{MemberValue, TalksOn, MayEndNow, AreOf, HasMovedOn, IsLetGo, new_member, marked_by}
 use Rattle.service.specs.Together.{member_at, TalksOrEnded, KeepsTogether, GoesOnTogether, AreSame, AreSameButHeld, AreMarkedBy, OthersAreSame, MovesOnAt, MayEndAt, EntersAt, EndsAt, EndsIfAny}
 use Rattle.service.specs.declared.sockets.Ready.{Ready}
 use Rattle.service.proofs.Talking.{apart_from_own, holds_apart, ended_before, answered_apart, may_end, talks_as}
@@ -39,30 +39,35 @@ pub none_is_some : {A X : Type 0} (o : Option A) (x : A) → o ≡ Some x → o 
 none_is_some o x e f = let g : Some x ≡ None = sym e ∙ f in cc
 
 -- the same, but for what it waits for
-abbrev pub Alike : {S : Type 0} → Option (MemberValue S) → Option (MemberValue S) → Type 0
-Alike None None = ⊤
-Alike None (Some n) = ⊥
-Alike (Some m) None = ⊥
-Alike (Some m) (Some n) = (n.stream ≡ m.stream) × (n.left ≡ m.left) × (n.unsent ≡ m.unsent)
+abbrev pub Alike : {S : Type 0} → (ℕ → S → List ℕ → List ℕ → Type 0) → Option (MemberValue S) → Option (MemberValue S) → Type 0
+Alike spoke None None = ⊤
+Alike spoke None (Some n) = ⊥
+Alike spoke (Some m) None = ⊥
+Alike spoke (Some m) (Some n) = Stays spoke m.stream n.stream × (n.left ≡ m.left) × (n.unsent ≡ m.unsent)
 
-pub none_alike : {S : Type 0} (o p : Option (MemberValue S)) → Alike o p → o ≡ None → p ≡ None
-none_alike o None alike none = refl
-none_alike None (Some m) alike none = absurd alike
-none_alike (Some n) (Some m) alike none = absurd cc
+pub none_alike : {S : Type 0} (spoke : ℕ → S → List ℕ → List ℕ → Type 0) (o p : Option (MemberValue S)) → Alike spoke o p → o ≡ None → p ≡ None
+none_alike spoke o None alike none = refl
+none_alike spoke None (Some m) alike none = absurd alike
+none_alike spoke (Some n) (Some m) alike none = absurd cc
 
-pub held_alike : {S : Type 0} (o p : Option (MemberValue S)) → option_map let_go p ≡ option_map let_go o → Alike o p
-held_alike None None e = tt
-held_alike None (Some n) e = absurd cc
-held_alike (Some m) None e = absurd cc
-held_alike {S} (Some m) (Some n) e =
-    let same : let_go n ≡ let_go m = cc in (ap (λ (z : MemberValue S). z.stream) same, ap (λ (z : MemberValue S). z.left) same, ap (λ (z : MemberValue S). z.unsent) same)
+same_alike : {S : Type 0} (spoke : ℕ → S → List ℕ → List ℕ → Type 0) (o : Option (MemberValue S)) → Alike spoke o o
+same_alike spoke None = tt
+same_alike spoke (Some m) = (λ k read sent said. said, refl, refl)
 
-pub told_alike : {S : Type 0} (events : List Ready) (k : ℕ) (o p : Option (MemberValue S)) → p ≡ option_map (marked_by events k) o → Alike o p
-told_alike events k None None e = tt
-told_alike events k None (Some n) e = absurd cc
-told_alike events k (Some m) None e = absurd cc
-told_alike {S} events k (Some m) (Some n) e =
-    let same : n ≡ marked_by events k m = cc in (ap (λ (z : MemberValue S). z.stream) same, ap (λ (z : MemberValue S). z.left) same, ap (λ (z : MemberValue S). z.unsent) same)
+let_go_alike : {S : Type 0} (spoke : ℕ → S → List ℕ → List ℕ → Type 0) (now : ℕ) (o p : Option (MemberValue S)) → IsLetGo spoke now o p → Alike spoke o p
+let_go_alike spoke now None p none = subst (λ q. Alike spoke None q) (sym none) tt
+let_go_alike spoke now (Some m) p (stream, stays, is) = subst (λ q. Alike spoke (Some m) q) (sym is) (stays, refl, refl)
+
+pub held_alike : {S : Type 0} (spoke : ℕ → S → List ℕ → List ℕ → Type 0) (now : ℕ) (o p : Option (MemberValue S)) → (p ≡ o) ⊎ IsLetGo spoke now o p → Alike spoke o p
+held_alike spoke now o p (inl same) = subst (λ q. Alike spoke o q) (sym same) (same_alike spoke o)
+held_alike spoke now o p (inr free) = let_go_alike spoke now o p free
+
+marked_alike : {S : Type 0} (spoke : ℕ → S → List ℕ → List ℕ → Type 0) (events : List Ready) (k : ℕ) (o : Option (MemberValue S)) → Alike spoke o (option_map (marked_by events k) o)
+marked_alike spoke events k None = tt
+marked_alike spoke events k (Some m) = (λ k read sent said. said, refl, refl)
+
+told_alike : {S : Type 0} (spoke : ℕ → S → List ℕ → List ℕ → Type 0) (events : List Ready) (k : ℕ) (o p : Option (MemberValue S)) → p ≡ option_map (marked_by events k) o → Alike spoke o p
+told_alike spoke events k o p told = subst (λ q. Alike spoke o q) (sym told) (marked_alike spoke events k o)
 
 -- ---- why a connection may end
 
@@ -104,19 +109,19 @@ module _ {S : Type 0} (cut : Bool) (spoke : ℕ → S → List ℕ → List ℕ 
     fresh = λ k h. same.0 k ∙ keeps.fresh k h;
   }
 
-  alike_talks : (prefix : List ℕ) (opening : CacheValue) (history entries : List HistoryEntry) (k : ℕ) (o p : Option (MemberValue S)) → Alike o p
+  alike_talks : (prefix : List ℕ) (opening : CacheValue) (history entries : List HistoryEntry) (k : ℕ) (o p : Option (MemberValue S)) → Alike spoke o p
       → TalksOrEnded cut spoke ended lost prefix opening history entries k o → TalksOrEnded cut spoke ended lost prefix opening history entries k p
   alike_talks prefix opening history entries k None None alike h = h
   alike_talks prefix opening history entries k None (Some m) alike h = absurd alike
   alike_talks prefix opening history entries k (Some m) None alike h = absurd alike
-  alike_talks prefix opening history entries k (Some m) (Some n) (stream, left, unsent) h = record {
+  alike_talks prefix opening history entries k (Some m) (Some n) (stays, left, unsent) h = record {
     read = h.read;
     sent = h.sent;
-    said = subst (λ (z : S). spoke k z h.read h.sent) (sym stream) h.said;
+    said = stays k h.read h.sent h.said;
     talks = talks_as prefix opening history entries k h.read h.sent m.left m.unsent n.left n.unsent left unsent h.talks;
   }
 
-  keeps_alike : (members members' : List (ℕ × MemberValue S)) (accepted : ℕ) (server : ServerValue) → ((k : ℕ) → Alike (member_at members k) (member_at members' k)) → GoesOnTogether cut spoke ended lost members accepted server members' accepted server
+  keeps_alike : (members members' : List (ℕ × MemberValue S)) (accepted : ℕ) (server : ServerValue) → ((k : ℕ) → Alike spoke (member_at members k) (member_at members' k)) → GoesOnTogether cut spoke ended lost members accepted server members' accepted server
   keeps_alike members members' accepted server alike = record {
     on = λ prefix opening history keeps. record {
       entries = keeps.entries;
@@ -124,17 +129,17 @@ module _ {S : Type 0} (cut : Bool) (spoke : ℕ → S → List ℕ → List ℕ 
       same = keeps.same;
       theirs = keeps.theirs;
       each = λ k h. alike_talks prefix opening history keeps.entries k (member_at members k) (member_at members' k) (alike k) (keeps.each k h);
-      fresh = λ k h. none_alike (member_at members k) (member_at members' k) (alike k) (keeps.fresh k h);
+      fresh = λ k h. none_alike spoke (member_at members k) (member_at members' k) (alike k) (keeps.fresh k h);
     };
   }
 
   -- which of them wait for others makes no difference
-  pub keeps_but_held : (members members' : List (ℕ × MemberValue S)) (accepted : ℕ) (server : ServerValue) → AreSameButHeld members members' → GoesOnTogether cut spoke ended lost members accepted server members' accepted server
-  keeps_but_held members members' accepted server same = keeps_alike members members' accepted server (λ k. held_alike (member_at members k) (member_at members' k) (same.0 k))
+  pub keeps_but_held : (now : ℕ) (members members' : List (ℕ × MemberValue S)) (accepted : ℕ) (server : ServerValue) → AreSameButHeld spoke now members members' → GoesOnTogether cut spoke ended lost members accepted server members' accepted server
+  keeps_but_held now members members' accepted server same = keeps_alike members members' accepted server (λ k. held_alike spoke now (member_at members k) (member_at members' k) (same.0 k))
 
   -- nor does what the system tells
   pub keeps_told : (events : List Ready) (members members' : List (ℕ × MemberValue S)) (accepted : ℕ) (server : ServerValue) → AreMarkedBy events members members' → GoesOnTogether cut spoke ended lost members accepted server members' accepted server
-  keeps_told events members members' accepted server told = keeps_alike members members' accepted server (λ k. told_alike events k (member_at members k) (member_at members' k) (told.0 k))
+  keeps_told events members members' accepted server told = keeps_alike members members' accepted server (λ k. told_alike spoke events k (member_at members k) (member_at members' k) (told.0 k))
 
   pub keeps_same : (members members' : List (ℕ × MemberValue S)) (accepted : ℕ) (server : ServerValue) → AreSame members members' → GoesOnTogether cut spoke ended lost members accepted server members' accepted server
   keeps_same members members' accepted server same = record { on = keeps_same_so members members' accepted server same }

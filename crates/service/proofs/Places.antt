@@ -8,10 +8,11 @@ use Rattle.std.specs.Ordering.{is_eq}
 use Rattle.std.specs.declared.cmp.Ordering.{Ordering}
 use Rattle.cache_server.specs.Server.{ServerValue}
 use Rattle.service.specs.Sockets.{Cause, Why, GivesPlace, KeepsPlaces, TakesPlace}
-use Rattle.service.specs.Member.{MemberValue}
+use Rattle.std.specs.Prelude.{option_map}
+use Rattle.service.specs.Member.{MemberValue, marked_by}
 use Rattle.service.specs.Together.{member_at, ArePlaced, StaysPlaced, AreSame, AreSameButHeld, AreMarkedBy, OthersAreSame, MovesOnAt, EntersAt}
 use Rattle.service.specs.declared.sockets.Ready.{Ready}
-use Rattle.service.proofs.Keeping.{Alike, held_alike, told_alike, none_alike, none_is_some}
+use Rattle.service.proofs.Keeping.{held_alike, none_alike, none_is_some}
 
 none_left : {S : Type 0} (members : List (ℕ × MemberValue S)) → ((k : ℕ) → member_at members k ≡ None) → length members ≡ 0
 none_left [] gone = refl
@@ -50,21 +51,22 @@ module _ {N S : Type 0} {places : N → ℕ → Type 0} {all : ℕ} where
   pub placed_still : (s : N) (l m : List (ℕ × MemberValue S)) (a : ℕ) → AreSame l m → StaysPlaced places all s l a s m a
   placed_still s l m a same = placed_same s s l m a (λ free h. h) same
 
-  placed_alike : (s : N) (l m : List (ℕ × MemberValue S)) (a : ℕ) → ((k : ℕ) → Alike (member_at l k) (member_at m k)) → length m ≡ length l → StaysPlaced places all s l a s m a
-  placed_alike s l m a alike many = record {
+  -- where there was none there is none
+  placed_alike : (s : N) (l m : List (ℕ × MemberValue S)) (a : ℕ) → ((k : ℕ) → member_at l k ≡ None → member_at m k ≡ None) → length m ≡ length l → StaysPlaced places all s l a s m a
+  placed_alike s l m a none many = record {
     on = λ h. record {
       free = h.free;
       are = h.are;
       sum = ap (λ (z : ℕ). h.free + z) many ∙ h.sum;
-      fresh = λ k above. none_alike (member_at l k) (member_at m k) (alike k) (h.fresh k above);
+      fresh = λ k above. none k (h.fresh k above);
     };
   }
 
-  pub placed_but_held : (s : N) (l m : List (ℕ × MemberValue S)) (a : ℕ) → AreSameButHeld l m → StaysPlaced places all s l a s m a
-  placed_but_held s l m a same = placed_alike s l m a (λ k. held_alike (member_at l k) (member_at m k) (same.0 k)) same.1
+  pub placed_but_held : (spoke : ℕ → S → List ℕ → List ℕ → Type 0) (now : ℕ) (s : N) (l m : List (ℕ × MemberValue S)) (a : ℕ) → AreSameButHeld spoke now l m → StaysPlaced places all s l a s m a
+  placed_but_held spoke now s l m a same = placed_alike s l m a (λ k. none_alike spoke (member_at l k) (member_at m k) (held_alike spoke now (member_at l k) (member_at m k) (same.0 k))) same.1
 
   pub placed_told : (events : List Ready) (s : N) (l m : List (ℕ × MemberValue S)) (a : ℕ) → AreMarkedBy events l m → StaysPlaced places all s l a s m a
-  placed_told events s l m a told = placed_alike s l m a (λ k. told_alike events k (member_at l k) (member_at m k) (told.0 k)) told.1
+  placed_told events s l m a told = placed_alike s l m a (λ k none. told.0 k ∙ ap (option_map (marked_by events k)) none) told.1
 
   pub placed_waiting : (s t : N) (l m : List (ℕ × MemberValue S)) (a : ℕ) → KeepsPlaces places s t → m ≡ l → StaysPlaced places all s l a t m a
   placed_waiting s t l m a keeps e = placed_same s t l m a keeps (λ k. ap (λ (z : List (ℕ × MemberValue S)). member_at z k) e, ap length e)

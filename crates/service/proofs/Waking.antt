@@ -1,14 +1,15 @@
 -- When connections will have been silent for too long, and what they hold.
 use Rattle.std.proofs.Common.{◌≡◌, ℕ, ◌+◌, ◌<◌, ◌≤◌, ◌⊎◌, inl, inr, Bool, true, false, Option, Some, None, List, [], ◌∷◌, refl, sym, ◌∙◌, ap, subst, arith}
 use Rattle.std.proofs.Math.Dec.{eqb}
-use Rattle.std.proofs.lemmas.Bool.{cases_lt}
+use Rattle.std.proofs.lemmas.Bool.{cases_lt, leb-true}
 use Rattle.std.proofs.lemmas.Bool.Decides.{eqb_tells}
-use Rattle.std.specs.Prelude.{min, ◌&&◌, if◌then◌else◌, IfSome, IsTrue, length}
+use Rattle.std.specs.Prelude.{min, nat_le, ◌&&◌, if◌then◌else◌, IfSome, IsTrue, length}
 use Rattle.std.specs.Option.{unwrap_or}
 use Rattle.cache_server.specs.Answer.{AnswerValue}
 use Rattle.service.specs.Member.{MemberValue, HoldsAlone, IsDeadline, deadline_at, deadline_of, own_size, pressed_limit}
-use Rattle.service.specs.Together.{HoldAlone, IsInTime, OthersAreSame, SparesInTime, first_deadline, member_at}
+use Rattle.service.specs.Together.{AreFull, AreHeavyInTime, HoldAlone, HoldLittle, IsInTime, OthersAreSame, SparesInTime, first_deadline, member_at}
 use Rattle.service.specs.declared.lingering.Lingering.{Lingering}
+use Rattle.service.specs.declared.load.Load.{Load}
 
 -- the time, or where there is none the last of all
 abbrev pub or_never : Option ℕ → ℕ
@@ -44,6 +45,13 @@ wakes_calm idle pressed wake bound left rest entry r e (inl is) calm h =
     let same : or_never r ≡ or_never (deadline_at entry.1 idle) = ap or_never is in omega (arith, same, h, first)
 wakes_calm idle pressed wake bound left rest entry r e (inr (p, heavy, is)) calm h = let not : false ≡ true = sym calm ∙ p in absurd cc
 
+-- one more was looked at, whose deadline isn't over
+pub heavy_later : {S : Type 0} (idle : Option ℕ) (now : ℕ) (left rest : List (ℕ × MemberValue S)) (entry : ℕ × MemberValue S) (r : Option ℕ) (Whole : Type 0) → left ≡ entry ∷ rest
+    → ((65536 < entry.1.own) ⊎ (65536 < entry.1.load.requests) → r ≡ deadline_at entry.1 (Some (pressed_limit idle))) → IfSome r (λ deadline. now < deadline)
+    → (AreHeavyInTime idle now left → Whole) → AreHeavyInTime idle now rest → Whole
+heavy_later idle now left rest entry r Whole e heavy later whole others =
+    whole (subst (λ ms. AreHeavyInTime idle now ms) (sym e) (λ much. subst (λ o. IfSome o (λ deadline. now < deadline)) (heavy much) later, others))
+
 -- all of them are to be looked at
 pub wakes_first : {S : Type 0} (idle : Option ℕ) (members left : List (ℕ × MemberValue S)) → left ≡ members → min 18446744073709551615 (first_deadline idle left) ≡ first_deadline idle members
 wakes_first idle members left e = let b : first_deadline idle members ≤ 18446744073709551615 = first_below idle members in
@@ -60,33 +68,47 @@ wakes_later now wake deadline least m (inr e) d = by (cases_lt now 1844674407370
 -- ---- who is in time
 
 -- while they are the same
-pub spares_all : {S : Type 0} (idle : Option ℕ) (now : ℕ) (members : List (ℕ × MemberValue S)) → SparesInTime idle now members members
-spares_all {S} idle now members k = at (member_at members k)
+pub spares_all : {S : Type 0} (calm : Bool) (idle : Option ℕ) (now : ℕ) (members : List (ℕ × MemberValue S)) → SparesInTime calm idle now members members
+spares_all {S} calm idle now members k = at (member_at members k)
   where
-    at : (o : Option (MemberValue S)) → IfSome o (λ m. IsInTime m idle now → o ≡ Some m)
+    at : (o : Option (MemberValue S)) → IfSome o (λ m. IsInTime calm m idle now → o ≡ Some m)
     at None = tt
     at (Some m) = λ time. refl
 
 -- one more was ended, whose deadline is over
-pub spares_on : {S : Type 0} (idle limit : Option ℕ) (pressed : Bool) (now number deadline : ℕ) (old mid new : List (ℕ × MemberValue S))
-    → SparesInTime idle now old mid → limit ≡ idle → IfSome (member_at mid number) (λ m. IsDeadline m limit pressed (Some deadline)) → deadline ≤ now
-    → OthersAreSame number mid new → SparesInTime idle now old new
-spares_on {S} idle limit pressed now number deadline old mid new spares same late due others k = by_test (eqb_tells k number)
+pub spares_on : {S : Type 0} (calm : Bool) (idle limit : Option ℕ) (pressed : Bool) (now number deadline : ℕ) (old mid new : List (ℕ × MemberValue S))
+    → (calm ≡ true → pressed ≡ false) → SparesInTime calm idle now old mid → limit ≡ idle → IfSome (member_at mid number) (λ m. IsDeadline m limit pressed (Some deadline)) → deadline ≤ now
+    → OthersAreSame number mid new → SparesInTime calm idle now old new
+spares_on {S} calm idle limit pressed now number deadline old mid new only spares same late due others k = by_test (eqb_tells k number)
   where
     late_at : (m : MemberValue S) → member_at mid number ≡ Some m → IsDeadline m idle pressed (Some deadline)
     late_at m is = subst (λ l. IsDeadline m l pressed (Some deadline)) same (subst (λ o. IfSome o (λ m. IsDeadline m limit pressed (Some deadline))) is late)
 
-    ended : (o : Option (MemberValue S)) → k ≡ number → IfSome o (λ m. IsInTime m idle now → member_at mid k ≡ Some m) → IfSome o (λ m. IsInTime m idle now → member_at new k ≡ Some m)
+    ended : (o : Option (MemberValue S)) → k ≡ number → IfSome o (λ m. IsInTime calm m idle now → member_at mid k ≡ Some m) → IfSome o (λ m. IsInTime calm m idle now → member_at new k ≡ Some m)
     ended None e h = h
-    ended (Some m) e h = λ time. let over : now < deadline = time pressed deadline (late_at m (subst (λ (i : ℕ). member_at mid i ≡ Some m) e (h time))) in absurd (omega (arith, over, due))
+    ended (Some m) e h = λ time. let over : now < deadline = time pressed deadline only (late_at m (subst (λ (i : ℕ). member_at mid i ≡ Some m) e (h time))) in absurd (omega (arith, over, due))
 
-    other : (o : Option (MemberValue S)) → (k ≡ number → ⊥) → IfSome o (λ m. IsInTime m idle now → member_at mid k ≡ Some m) → IfSome o (λ m. IsInTime m idle now → member_at new k ≡ Some m)
+    other : (o : Option (MemberValue S)) → (k ≡ number → ⊥) → IfSome o (λ m. IsInTime calm m idle now → member_at mid k ≡ Some m) → IfSome o (λ m. IsInTime calm m idle now → member_at new k ≡ Some m)
     other None n h = h
     other (Some m) n h = λ time. others k n ∙ h time
 
-    by_test : ((eqb k number ≡ true) × (k ≡ number)) ⊎ ((eqb k number ≡ false) × (k ≡ number → ⊥)) → IfSome (member_at old k) (λ m. IsInTime m idle now → member_at new k ≡ Some m)
+    by_test : ((eqb k number ≡ true) × (k ≡ number)) ⊎ ((eqb k number ≡ false) × (k ≡ number → ⊥)) → IfSome (member_at old k) (λ m. IsInTime calm m idle now → member_at new k ≡ Some m)
     by_test (inl (t, e)) = ended (member_at old k) e (spares k)
     by_test (inr (f, n)) = other (member_at old k) n (spares k)
+
+-- where neither holds too much, none waits for memory
+pub is_calm : {S : Type 0} (members : List (ℕ × MemberValue S)) (load : Load) (pressed : Bool) → (nat_le 268435456 load.requests ≡ false → AreFull members load pressed) → HoldLittle load → pressed ≡ false
+is_calm members load pressed full (answers, requests) = by (full (above load.requests requests))
+  where
+    above : (count : ℕ) → count < 268435456 → nat_le 268435456 count ≡ false
+    above count less = by_test (nat_le 268435456 count) refl
+      where
+        by_test : (b : Bool) → nat_le 268435456 count ≡ b → b ≡ false
+        by_test false e = refl
+        by_test true e = let most = leb-true 268435456 count e in absurd (omega (arith, less, most))
+
+    by : AreFull members load pressed → pressed ≡ false
+    by (alone, are, is) = is ∙ ap (λ b. b && nat_le 268435456 alone) (above load.answers answers)
 
 -- ---- what nobody else holds
 

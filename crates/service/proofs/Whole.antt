@@ -1,5 +1,5 @@
 -- A whole run over connections.
-use Rattle.std.proofs.Common.{◌≡◌, ℕ, inl, inr, Bool, true, false, None, List, [], ◌∷◌, ◌++◌, length, refl, sym, subst, arith}
+use Rattle.std.proofs.Common.{◌≡◌, ℕ, inl, inr, Bool, true, false, None, List, [], ◌∷◌, ◌++◌, length, refl, sym, ◌∙◌, subst, arith}
 use Rattle.std.proofs.lemmas.List.{append-nil}
 use Rattle.cache_server.specs.Cache.{CacheValue}
 use Rattle.cache_server.specs.History.{HistoryEntry}
@@ -48,6 +48,12 @@ pub others_stay : {S : Type 0} (spoke : ℕ → S → List ℕ → List ℕ → 
     → EndsIfAny spoke over ended lost number why s old t new → OthersAreSame number old new
 others_stay spoke over ended lost number why s t old new (inl e) j n = e.others j n
 others_stay spoke over ended lost number why s t old new (inr (none, same, all)) j n = all.0 j
+
+-- and that one is gone
+pub none_stays : {S : Type 0} (spoke : ℕ → S → List ℕ → List ℕ → Type 0) (over : S → Cause → Type 0) (ended : ℕ → List ℕ → List ℕ → Why → Type 0) (lost : ℕ → Cause → Type 0) (number : ℕ) (why : Why) (s t : ServerValue) (old new : List (ℕ × MemberValue S))
+    → EndsIfAny spoke over ended lost number why s old t new → member_at new number ≡ None
+none_stays spoke over ended lost number why s t old new (inl e) = e.gone
+none_stays spoke over ended lost number why s t old new (inr (none, same, all)) = all.0 number ∙ none
 
 -- where there are none, none has a number
 pub none_open : {S : Type 0} (members : List (ℕ × MemberValue S)) → length members ≡ 0 → (k : ℕ) → member_at members k ≡ None

@@ -102,9 +102,17 @@ marked_by events k m = record m { readable = m.readable || list_any (tells_to_re
 abbrev pub HoldsAlone : {S : Type 0} → MemberValue S → ℕ → Type 0
 HoldsAlone m count = (count ≡ m.load.answers) ⊎ ((count ≡ 0) × (m.own ≡ 0))
 
--- it waits for others no more
-abbrev pub let_go : {S : Type 0} → MemberValue S → MemberValue S
-let_go m = record m { held = false }
+-- it waits for others no more, and its silence counts from this time on
+abbrev pub let_go : {S : Type 0} → ℕ → S → MemberValue S → MemberValue S
+let_go now stream m = record m { stream = stream; moved = now; held = false }
+
+-- so one does, if there is one
+abbrev pub IsLetGo :
+    {S : Type 0} → (ℕ → S → List ℕ → List ℕ → Type 0) → ℕ
+    → Option (MemberValue S) → Option (MemberValue S) → Type 0
+IsLetGo spoke now None new = new ≡ None
+IsLetGo {S} spoke now (Some m) new =
+    (stream : S) × Stays spoke m.stream stream × (new ≡ Some (let_go now stream m))
 
 -- When a connection will have been silent for too long that moved a byte last at this time and may
 -- be silent for so long. After the last answer that is 2 seconds, and 10 in all; and never while it

@@ -1,6 +1,7 @@
 -- Open connections, each under its number, and a server.
-use Rattle.std.specs.Prelude.{◌≡◌, ℕ, ◌+◌, ◌<◌, ◌≤◌, ◌⊎◌, ◌&&◌, nat_le, min, Bool, false, List, []}
-use Rattle.std.specs.Prelude.{◌∷◌, ◌++◌, length, Option, Some, None, option_map, IfSome}
+use Rattle.std.specs.Prelude.{◌≡◌, ℕ, ◌+◌, ◌<◌, ◌≤◌, ◌⊎◌, ◌&&◌, nat_le, min, Bool, true, false, List, []}
+use Rattle.std.specs.Prelude.{◌∷◌, ◌++◌, length, Option, Some, None, option_map, IfSome, IsTrue}
+use Rattle.std.specs.List.{AllByRecursion, Contains}
 use Rattle.std.specs.Option.{unwrap_or}
 use Rattle.std.specs.Ordering.{nat_cmp}
 use Rattle.std.specs.BTreeMap.{is_at}
@@ -10,8 +11,8 @@ use Rattle.cache_server.specs.History.{HistoryEntry, End}
 use Rattle.cache_server.specs.Server.{ServerValue, ServerStands, LeadsTo, IsOpenAt, session_at}
 use Rattle.service.specs.Talks.{HasEnded, IsReason, AreBelow}
 use Rattle.service.specs.Sockets.{Cause, EndsAs, Why}
-use Rattle.service.specs.Member.{MemberValue, TalksOn, MovesOn, deadline_at, let_go, new_member}
-use Rattle.service.specs.Member.{HoldsAlone, IsDeadline, marked_by}
+use Rattle.service.specs.Member.{MemberValue, TalksOn, MovesOn, deadline_at, new_member}
+use Rattle.service.specs.Member.{HoldsAlone, IsDeadline, IsLetGo, marked_by, pressed_limit}
 use Rattle.service.specs.declared.load.Load.{Load}
 use Rattle.service.specs.declared.sockets.Ready.{Ready}
 
@@ -87,16 +88,23 @@ LeavesPlaced places old new =
 abbrev pub AreSame : {S : Type 0} → List (ℕ × MemberValue S) → List (ℕ × MemberValue S) → Type 0
 AreSame old new = ((j : ℕ) → member_at new j ≡ member_at old j) × (length new ≡ length old)
 
--- so they are, but for which of them wait for others
+-- so they are, but that some wait for others no more
 abbrev pub AreSameButHeld :
-    {S : Type 0} → List (ℕ × MemberValue S) → List (ℕ × MemberValue S) → Type 0
-AreSameButHeld old new =
-    ((j : ℕ) → option_map let_go (member_at new j) ≡ option_map let_go (member_at old j))
+    {S : Type 0} → (ℕ → S → List ℕ → List ℕ → Type 0) → ℕ
+    → List (ℕ × MemberValue S) → List (ℕ × MemberValue S) → Type 0
+AreSameButHeld spoke now old new =
+    ((j : ℕ) → (member_at new j ≡ member_at old j)
+    ⊎ IsLetGo spoke now (member_at old j) (member_at new j))
     × (length new ≡ length old)
 
--- it waits for no others
-abbrev pub IsFree : {S : Type 0} → Option (MemberValue S) → Type 0
-IsFree member = IfSome member (λ m. m.held ≡ false)
+-- it waits for no others, and its silence counts from this time on
+abbrev pub IsFree : {S : Type 0} → ℕ → Option (MemberValue S) → Type 0
+IsFree now member = IfSome member (λ m. (m.held ≡ false) × (m.moved ≡ now))
+
+-- each that waits for others is listed
+abbrev pub AreListed : {S : Type 0} → List ℕ → List (ℕ × MemberValue S) → Type 0
+AreListed listed members =
+    (k : ℕ) → IfSome (member_at members k) (λ m. IsTrue m.held → Contains listed k)
 
 -- the same connections, for which these events are noted
 abbrev pub AreMarkedBy :
@@ -186,17 +194,34 @@ first_deadline idle [] = 18446744073709551615
 first_deadline idle (member ∷ members) =
     min (unwrap_or (deadline_at member.1 idle) 18446744073709551615) (first_deadline idle members)
 
--- none of its deadlines is over at this time, whether others wait for memory or not
-abbrev pub IsInTime : {S : Type 0} → MemberValue S → Option ℕ → ℕ → Type 0
-IsInTime m idle now =
-    (pressed : Bool) (deadline : ℕ) → IsDeadline m idle pressed (Some deadline) → now < deadline
+-- neither answers nor requests that aren't whole hold too much
+abbrev pub HoldLittle : Load → Type 0
+HoldLittle load = (load.answers < 268435456) × (load.requests < 268435456)
+
+-- None of its deadlines is over at this time: whether others wait for memory or not, or where they
+-- don't.
+abbrev pub IsInTime : {S : Type 0} → Bool → MemberValue S → Option ℕ → ℕ → Type 0
+IsInTime calm m idle now =
+    (pressed : Bool) (deadline : ℕ) → (calm ≡ true → pressed ≡ false)
+    → IsDeadline m idle pressed (Some deadline) → now < deadline
+
+-- if it holds much, its sooner deadline, which counts where others wait for memory, isn't over
+abbrev pub IsHeavyInTime : {S : Type 0} → Option ℕ → ℕ → MemberValue S → Type 0
+IsHeavyInTime idle now m =
+    (65536 < m.own) ⊎ (65536 < m.load.requests)
+    → IfSome (deadline_at m (Some (pressed_limit idle))) (λ deadline. now < deadline)
+
+-- so each of them is
+abbrev pub AreHeavyInTime : {S : Type 0} → Option ℕ → ℕ → List (ℕ × MemberValue S) → Type 0
+AreHeavyInTime idle now members = AllByRecursion (λ it. IsHeavyInTime idle now it.1) members
 
 -- those that are in time stay as they are
 abbrev pub SparesInTime :
-    {S : Type 0} → Option ℕ → ℕ → List (ℕ × MemberValue S) → List (ℕ × MemberValue S) → Type 0
-SparesInTime idle now old new =
+    {S : Type 0} → Bool → Option ℕ → ℕ → List (ℕ × MemberValue S) → List (ℕ × MemberValue S)
+    → Type 0
+SparesInTime calm idle now old new =
     (k : ℕ) → IfSome (member_at old k)
-    (λ m. IsInTime m idle now → member_at new k ≡ Some m)
+    (λ m. IsInTime calm m idle now → member_at new k ≡ Some m)
 
 -- The next wake comes after this time, if ever, and no later than the first of their deadlines.
 abbrev pub WakesInTime : {S : Type 0} → Option ℕ → List (ℕ × MemberValue S) → ℕ → ℕ → Type 0

@@ -36,11 +36,14 @@ impl<S: Peer + Drop> Together<S> {
         ensures fewer { IsSome (member_at self.old.members.entries number)
             → length self.new.members.entries + 1 ≡ length self.old.members.entries }
         ensures idle { self.new.idle ≡ self.old.idle }
+        ensures eased { IsTrue self.old.scales.eased → IsTrue self.new.scales.eased }
+        ensures list { self.new.held.items ≡ self.old.held.items }
     {
         let Some(member) = self.take(number) else {
             return;
         };
-        self.scales.weigh(number, &member.load(), &Load::none());
+        self.scales
+            .weigh(number, &member.load(), &Load::none(), self.share);
         self.waits = true;
         let (stream, peer, traffic) = member.into_parts();
         sockets.end(stream, why);

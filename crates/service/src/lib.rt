@@ -16,6 +16,7 @@ mod member;
 mod metered;
 mod part;
 mod queue;
+mod round;
 mod serving;
 mod silence;
 mod sockets;
@@ -24,7 +25,6 @@ mod telling;
 mod timer;
 mod together;
 mod turn;
-mod turns;
 mod watched;
 
 pub use error::NotAccepted;

@@ -93,19 +93,20 @@ impl Scales {
         }
     }
 
-    /// Notes what the connection with the number holds now, and held before.
-    pub(crate) fn weigh(&mut self, number: u64, before: &Load, after: &Load)
+    /// Notes what the connection with the number holds now, and held before, where each has this
+    /// share.
+    pub(crate) fn weigh(&mut self, number: u64, before: &Load, after: &Load, share: u64)
         ensures load { self.new.load ≡ load_after self.old.load before.now after.now }
         ensures eased { IsTrue self.new.eased ↔ (IsTrue self.old.eased
             ⊎ ((after.now.answers < before.now.answers)
             ⊎ (after.now.requests < before.now.requests))) }
-        // The senior stays so until nothing of its request is left.
-        ensures stays { (senior : ℕ) → self.old.senior ≡ Some senior
-            → self.new.senior ≡ (if (senior == number) && (after.now.requests == 0)
+        // The senior stays so until its request is whole, and it keeps less.
+        ensures stays { (senior : ℕ) → self.old.senior ≡ Some senior → self.new.senior
+            ≡ (if (senior == number) && nat_lt after.now.requests before.now.requests
             then None else Some senior) }
-        // One becomes it that has a request where all together hold too much.
+        // One becomes it that keeps more than its share where all together hold too much.
         ensures becomes { self.old.senior ≡ None → self.new.senior
-            ≡ (if nat_le 268435456 self.new.load.requests && nat_lt 0 after.now.requests
+            ≡ (if nat_le 268435456 self.new.load.requests && nat_lt share after.now.requests
             then Some number else None) }
     {
         self.load = self.load.without(before).with(after);
@@ -113,10 +114,10 @@ impl Scales {
             self.eased = true;
         }
         match self.senior {
-            Some(senior) => if senior == number && after.requests == 0 {
+            Some(senior) => if senior == number && after.requests < before.requests {
                 self.senior = None;
             },
-            None => if is_too_much(self.load.requests) && after.requests > 0 {
+            None => if is_too_much(self.load.requests) && after.requests > share {
                 self.senior = Some(number);
             },
         }

@@ -151,10 +151,12 @@ impl<S: Peer + Drop> Member<S> {
         was_queued
     }
 
-    /// It needn't wait for others any more.
-    pub(crate) fn release(&mut self)
-        ensures { self.new ≡ let_go self.old }
+    /// It needn't wait for others any more: as long as it did, it wasn't silent.
+    pub(crate) fn release(&mut self, now: u64)
+        ensures stays { Stays S.spoke self.old.stream self.new.stream }
+        ensures free { self.new ≡ let_go now self.new.stream self.old }
     {
+        self.stream.hold(now);
         self.is_held = false;
     }
 

@@ -1,14 +1,14 @@
 //! Who has something to do, and who waits for others.
-ghost use Rattle.std.specs.Prelude.{◌≡◌, ◌||◌, [], ◌∷◌, IfSome, length, min, option_map};
-ghost use Rattle.std.specs.List.{AllByRecursion, list_any};
+ghost use Rattle.std.specs.Prelude.{◌≡◌, ◌||◌, ℕ, [], ◌∷◌, IfSome, OnOk, length, min, option_map, true};
+ghost use Rattle.std.specs.List.{AllByRecursion, Contains, list_any};
 ghost use Rattle.std.specs.Option.{is_none, unwrap_or};
-ghost use Rattle.service.specs.Member.{deadline_at, let_go, roused};
+ghost use Rattle.service.specs.Member.{IsLetGo, deadline_at, roused};
 ghost use Rattle.service.specs.Together.{AreSame, AreSameButHeld, AreMarkedBy, IsFree};
 ghost use Rattle.service.specs.Together.{OthersAreSame, member_at};
 
 use crate::sockets::{Peer, Ready};
 use crate::together::Together;
-use std::alloc::Global;
+use std::alloc::{AllocError, Global};
 use std::mem;
 
 impl<S: Peer + Drop> Together<S> {
@@ -17,6 +17,7 @@ impl<S: Peer + Drop> Together<S> {
         ensures same { AreSame self.old.members.entries self.new.members.entries }
         ensures waits { self.new.waits ≡ self.old.waits }
         ensures held { self.new.held ≡ self.old.held }
+        ensures scales { self.new.scales ≡ self.old.scales }
     {
         if let Some(member) = self.members.get_mut(&number) {
             if !member.queue(true) && self.ready.push(number).is_err() {
@@ -67,24 +68,26 @@ impl<S: Peer + Drop> Together<S> {
         self.queue(number);
     }
 
-    /// Those that were held have something to do.
-    pub(crate) fn release(&mut self, alloc: Global)
-        ensures same { AreSameButHeld self.old.members.entries self.new.members.entries }
+    /// Those that were held have something to do, and aren't silent for too long before that.
+    pub(crate) fn release(&mut self, alloc: Global, now: u64)
+        ensures same { AreSameButHeld S.spoke now
+            self.old.members.entries self.new.members.entries }
         ensures free { AllByRecursion
-            (λ k. IsFree (member_at self.new.members.entries k)) self.old.held.items }
+            (λ k. IsFree now (member_at self.new.members.entries k)) self.old.held.items }
         ensures none { self.new.held.items ≡ [] }
     {
         let held = mem::replace(&mut self.held, Vec::new(alloc));
         for number in held.iter() {
-            self.let_go_on(*number);
+            self.let_go_on(*number, now);
             self.queue(*number);
         }
     }
 
     /// The member with the number needn't wait for others any more, and has a deadline again.
-    fn let_go_on(&mut self, number: u64)
-        ensures at { member_at self.new.members.entries number
-            ≡ option_map let_go (member_at self.old.members.entries number) }
+    #[tactic(auto, using(crate::proofs::Marking::let_go_none, crate::proofs::Marking::let_go_some))]
+    fn let_go_on(&mut self, number: u64, now: u64)
+        ensures at { IsLetGo S.spoke now (member_at self.old.members.entries number)
+            (member_at self.new.members.entries number) }
         ensures others { OthersAreSame number self.old.members.entries self.new.members.entries }
         ensures many { length self.new.members.entries ≡ length self.old.members.entries }
         ensures wake { IfSome (member_at self.new.members.entries number) (λ m. self.new.wake
@@ -95,9 +98,26 @@ impl<S: Peer + Drop> Together<S> {
             let Some(member) = self.members.get_mut(&number) else {
                 return;
             };
-            member.release();
+            member.release(now);
             member.deadline(self.idle, false)
         };
         self.wake = self.wake.min(deadline.unwrap_or(u64::MAX));
     }
+}
+
+/// Lists a number, if it wasn't held before, among those that wait for others.
+pub(crate) fn list(
+    held: &mut Vec<u64, Global>,
+    number: u64,
+    was_held: bool,
+) -> Result<(), AllocError>
+    ensures more { (j : ℕ) → Contains held.old.items j → Contains held.new.items j }
+    ensures listed { OnOk result
+        ((was_held ≡ true → Contains held.old.items number) → Contains held.new.items number) }
+{
+    if was_held {
+        return Ok(());
+    }
+    held.push(number)?;
+    Ok(())
 }

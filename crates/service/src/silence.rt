@@ -1,8 +1,9 @@
 //! Which connections were silent for too long.
 ghost use Rattle.std.specs.Prelude.{◌≡◌, ◌+◌, ◌<◌, ◌≤◌, ◌⊎◌, IfErr, IfOk, IfSome, IsSome, Some};
-ghost use Rattle.std.specs.Prelude.{false, length};
+ghost use Rattle.std.specs.Prelude.{Bool, IsTrue, OnOk, false, length, nat_le, true};
 ghost use Rattle.service.specs.Member.{IsDeadline};
-ghost use Rattle.service.specs.Together.{LeavesPlaced, LeavesTogether, MayEndAt, OthersAreSame};
+ghost use Rattle.service.specs.Together.{AreFull, AreHeavyInTime, HoldLittle, LeavesPlaced, LeavesTogether};
+ghost use Rattle.service.specs.Together.{MayEndAt, OthersAreSame};
 ghost use Rattle.service.specs.Together.{SparesInTime, WakesInTime};
 ghost use Rattle.service.specs.Together.{first_deadline, member_at};
 
@@ -14,8 +15,8 @@ use log::Log;
 use std::alloc::Global;
 
 impl<S: Peer + Drop> Together<S> {
-    /// Ends the connections that were silent for too long by this time, one after another. Before
-    /// the next wake there is none, but where others wait for memory.
+    /// Ends the connections that were silent for too long by this time, one after another, as long
+    /// as others wait for memory also those that hold much. Before the next wake there is none else.
     #[tactic(auto, using(crate::proofs::Keeping::keeps_nowhere, crate::proofs::Keeping::keeps_further, crate::proofs::Places::placed_nowhere, crate::proofs::Waking::spares_all))]
     pub(crate) fn sweep<R: Log, N: Sockets<Stream = S>>(
         &mut self,
@@ -30,14 +31,17 @@ impl<S: Peer + Drop> Together<S> {
             (sockets.new, self.new.members.entries) }
         ensures wake { (now < self.old.wake)
             ⊎ WakesInTime self.old.idle self.new.members.entries now self.new.wake }
-        ensures spares { SparesInTime self.old.idle now
+        ensures spares { (calm : Bool) → (calm ≡ true → HoldLittle self.old.scales.load)
+            → SparesInTime calm self.old.idle now
             self.old.members.entries self.new.members.entries }
+        ensures heavy { nat_le 268435456 self.new.scales.load.requests ≡ true
+            → AreHeavyInTime self.old.idle now self.new.members.entries }
     {
-        let pressed = is_too_much(self.scales.load.requests) || self.is_full();
-        if now < self.wake && !pressed {
+        if now < self.wake && !self.is_pressed() {
             return;
         }
         for _ in 0..self.members.len() {
+            let pressed = self.is_pressed();
             match self.next_wake(pressed, now) {
                 Ok(wake) => {
                     self.wake = wake;
@@ -51,12 +55,23 @@ impl<S: Peer + Drop> Together<S> {
         self.wake = u64::MAX;
     }
 
+    /// Whether others wait for memory, as requests that aren't whole or answers hold too much.
+    fn is_pressed(&self) -> bool
+        ensures requests { nat_le 268435456 self.now.scales.load.requests ≡ true → IsTrue result }
+        ensures answers { nat_le 268435456 self.now.scales.load.requests ≡ false
+            → AreFull self.now.members.entries self.now.scales.load result }
+    {
+        is_too_much(self.scales.load.requests) || self.is_full()
+    }
+
     /// When the next connection will have been silent for too long, or one that was by this time,
     /// and its deadline.
     fn next_wake(&self, pressed: bool, now: u64) -> Result<u64, (u64, u64)>
         ensures wake { IfOk result (WakesInTime self.now.idle self.now.members.entries now) }
         ensures calm { pressed ≡ false → IfOk result (λ wake.
             wake ≡ first_deadline self.now.idle self.now.members.entries) }
+        ensures heavy { IsTrue pressed
+            → OnOk result (AreHeavyInTime self.now.idle now self.now.members.entries) }
         ensures open { IfErr result (λ it. IsSome (member_at self.now.members.entries it.0)) }
         ensures due { IfErr result (λ it. it.1 ≤ now) }
         ensures late { IfErr result (λ it. IfSome (member_at self.now.members.entries it.0) (λ m.
@@ -95,6 +110,7 @@ impl<S: Peer + Drop> Together<S> {
         ensures fewer { length self.new.members.entries + 1 ≡ length self.old.members.entries }
         ensures others { OthersAreSame number self.old.members.entries self.new.members.entries }
         ensures idle { self.new.idle ≡ self.old.idle }
+        ensures little { HoldLittle self.old.scales.load → HoldLittle self.new.scales.load }
     {
         if let Some(why) = self.silence(server, number, deadline, now) {
             self.end(rt, sockets, server, number, why);

@@ -1,19 +1,21 @@
-use Rattle.std.proofs.Common.{◌≡◌, ℕ, ◌≤◌, [], ◌∷◌, inr, refl, sym, ap, subst, rules, arith}
+use Rattle.std.proofs.Common.{◌≡◌, ℕ, ◌<◌, ◌≤◌, [], ◌∷◌, inr, refl, sym, ap, subst, rules, arith}
 use Rattle.std.specs.Prelude.{IfSome, IsSome, Some, min}
 use Rattle.std.specs.Map.Iter.{deref_pair}
 use Rattle.std.proofs.lemmas.Cmp.{nat_cmp_total}
 use Rattle.std.proofs.lemmas.Map.Iter.{btree_map_turn}
 use Rattle.service.specs.Member.{IsDeadline, MemberValue}
-use Rattle.service.specs.Together.{first_deadline}
-use Rattle.service.proofs.Waking.{first_below, or_never, wakes_calm, wakes_first, wakes_later, wakes_sooner}
+use Rattle.service.specs.Together.{AreHeavyInTime, first_deadline}
+use Rattle.service.proofs.Waking.{first_below, heavy_later, or_never, wakes_calm, wakes_first, wakes_later, wakes_sooner}
 use Rattle.service.proofs.together.Together.next_wake.Goals as goal
 
 pub loop-number-init : goal.loop-number-init
 loop-number-init g c =
+    let idle = c.args.self.now.idle in
     let first = wakes_first c.args.self.now.idle c.args.self.now.members.entries c.into_iter-number-iterator.result (search rules) in record {
       fits = omega arith;
       later = inr refl;
       sooner = omega (arith, first);
+      heavy = λ p all. subst (λ ms. AreHeavyInTime idle c.args.now ms) (search rules) all;
       calm = λ calm. first;
     }
 
@@ -28,6 +30,7 @@ loop-number-preserved-in_default g c =
       fits = c.loop-number.invariant.fits;
       later = c.loop-number.invariant.later;
       sooner = let h = wakes_sooner idle c.args.pressed c.loop-number.wake first c.loop-number.number-iterator c.next.new.self entry c.deadline.result steps c.deadline.ensures.is c.loop-number.invariant.sooner in omega (arith, h, below, never);
+      heavy = λ p. heavy_later idle c.args.now c.loop-number.number-iterator c.next.new.self entry c.deadline.result _ steps (c.deadline.ensures.heavy p) (subst (λ o. IfSome o (λ d. c.args.now < d)) (sym c.in_default.is) tt) (c.loop-number.invariant.heavy p);
       calm = λ calm. let h = wakes_calm idle c.args.pressed c.loop-number.wake first c.loop-number.number-iterator c.next.new.self entry c.deadline.result steps c.deadline.ensures.is calm (c.loop-number.invariant.calm calm) in omega (arith, h, below, never);
     }
 
@@ -55,6 +58,7 @@ loop-number-preserved g c =
       fits = let fits = c.loop-number.invariant.fits in omega (arith, fits, least);
       later = wakes_later c.args.now c.loop-number.wake c.in-Some-deadline.deadline c.min-wake.result least c.loop-number.invariant.later c.if-deadline-now.false;
       sooner = let h = wakes_sooner idle c.args.pressed c.loop-number.wake first c.loop-number.number-iterator c.next.new.self entry c.deadline.result steps c.deadline.ensures.is c.loop-number.invariant.sooner in omega (arith, h, is, least);
+      heavy = λ p. heavy_later idle c.args.now c.loop-number.number-iterator c.next.new.self entry c.deadline.result _ steps (c.deadline.ensures.heavy p) (subst (λ o. IfSome o (λ d. c.args.now < d)) (sym c.in-Some-deadline.is) c.if-deadline-now.false) (c.loop-number.invariant.heavy p);
       calm = λ calm. let h = wakes_calm idle c.args.pressed c.loop-number.wake first c.loop-number.number-iterator c.next.new.self entry c.deadline.result steps c.deadline.ensures.is calm (c.loop-number.invariant.calm calm) in omega (arith, h, is, least);
     }
 
@@ -73,3 +77,8 @@ returns-clause-calm g c calm =
     let h : min c.loop-number.wake 18446744073709551615 ≡ first_deadline c.args.self.now.idle c.args.self.now.members.entries =
     subst (λ ms. min c.loop-number.wake (first_deadline c.args.self.now.idle ms) ≡ first_deadline c.args.self.now.idle c.args.self.now.members.entries) none (c.loop-number.invariant.calm calm) in
     omega (arith, fits, h)
+
+pub returns-clause-heavy : goal.returns-clause-heavy
+returns-clause-heavy g c p =
+    let none : c.loop-number.number-iterator ≡ [] = search rules in
+    c.loop-number.invariant.heavy p (subst (λ ms. AreHeavyInTime c.args.self.now.idle c.args.now ms) (sym none) tt)

@@ -5,7 +5,7 @@ use Rattle.service.proofs.together.Together.release.Given as goal
 
 abbrev pub invariant-loop-number : goal.invariant-loop-number
 invariant-loop-number g l = record {
-  same : AreSameButHeld l.fn.self.members.entries l.self.members.entries;
-  free : AreFreeBut l.fn.self.held.items (drop l.number-index l.fn.self.held.items) l.self.members.entries;
+  same : AreSameButHeld g.S.Peer.spoke l.fn.now l.fn.self.members.entries l.self.members.entries;
+  free : AreFreeBut l.fn.now l.fn.self.held.items (drop l.number-index l.fn.self.held.items) l.self.members.entries;
   none : l.self.held.items ≡ [];
 }

@@ -1,6 +1,6 @@
-use Rattle.std.specs.Prelude.{false}
+use Rattle.std.specs.Prelude.{Bool, false, true}
 use Rattle.std.proofs.Common.{◌≡◌, ℕ, ◌+◌, length}
-use Rattle.service.specs.Together.{GoesOnTogether, LeavesPlaced, SparesInTime}
+use Rattle.service.specs.Together.{GoesOnTogether, HoldLittle, LeavesPlaced, SparesInTime}
 use Rattle.service.proofs.together.Together.sweep.Given as goal
 
 abbrev pub invariant-loop : goal.invariant-loop
@@ -8,6 +8,7 @@ invariant-loop g l = record {
   keeps : (accepted : ℕ) → GoesOnTogether false g.S.Peer.spoke g.N.Sockets.ended g.N.Sockets.lost l.fn.self.members.entries accepted l.fn.server l.self.members.entries accepted l.server;
   places : LeavesPlaced g.N.Sockets.places (l.fn.sockets, l.fn.self.members.entries) (l.sockets, l.self.members.entries);
   idle : l.self.idle ≡ l.fn.self.idle;
-  spares : SparesInTime l.fn.self.idle l.fn.now l.fn.self.members.entries l.self.members.entries;
+  spares : (calm : Bool) → (calm ≡ true → HoldLittle l.fn.self.scales.load) → SparesInTime calm l.fn.self.idle l.fn.now l.fn.self.members.entries l.self.members.entries;
+  little : HoldLittle l.fn.self.scales.load → HoldLittle l.self.scales.load;
   fewer : l.counter + length l.self.members.entries ≡ length l.fn.self.members.entries;
 }

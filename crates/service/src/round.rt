@@ -1,12 +1,13 @@
-//! A turn of each that has something to do.
-ghost use Rattle.std.specs.Prelude.{◌≡◌, ◌==◌, ◌&&◌, ℕ, None, IfSome, min, nat_le, not, true};
+//! A round: a turn of each that has something to do.
+ghost use Rattle.std.specs.Prelude.{◌≡◌, ◌==◌, ◌&&◌, ℕ, [], None, IfSome, IsTrue, min, nat_le, not, true};
 ghost use Rattle.std.specs.Prelude.{if◌then◌else◌};
 ghost use Rattle.std.specs.Option.{option_map_or, unwrap_or};
 ghost use Rattle.service.specs.Member.{deadline_at, end_of, load_after};
-ghost use Rattle.service.specs.Together.{AreFull, AreSame, HoldAlone, LeavesPlaced};
+ghost use Rattle.service.specs.Together.{AreFull, AreListed, AreSame, HoldAlone, LeavesPlaced};
 ghost use Rattle.service.specs.Together.{LeavesTogether, MovesOnAt, member_at};
 
 use crate::load::{Leave, is_too_much};
+use crate::queue::list;
 use crate::sockets::{Peer, Sockets};
 use crate::together::Together;
 use crate::turn::Turn;
@@ -29,18 +30,24 @@ impl<S: Peer + Drop> Together<S> {
             (self.old.members.entries, server.old) (self.new.members.entries, server.new) }
         ensures places { LeavesPlaced N.places (sockets.old, self.old.members.entries)
             (sockets.new, self.new.members.entries) }
+        // Who waits for others is listed, and goes on once less is held.
+        ensures listed { AreListed self.old.held.items self.old.members.entries
+            → AreListed self.new.held.items self.new.members.entries }
+        ensures goes { IsTrue self.old.scales.eased → self.new.held.items ≡ [] }
     {
-        let now = self.timer.now(rt);
         let spare = mem::replace(&mut self.spare, Vec::new(rt.alloc()));
         let mut ready = mem::replace(&mut self.ready, spare);
         for number in ready.iter() {
+            // All turns together may take so long that a connection would seem to be silent.
+            let now = self.timer.now(rt);
             self.turn(rt, sockets, server, *number, now);
         }
         ready.clear();
         self.spare = ready;
         if self.scales.eased {
             self.scales.eased = false;
-            self.release(rt.alloc());
+            let now = self.timer.now(rt);
+            self.release(rt.alloc(), now);
         }
     }
 
@@ -58,6 +65,9 @@ impl<S: Peer + Drop> Together<S> {
             (self.old.members.entries, server.old) (self.new.members.entries, server.new) }
         ensures places { LeavesPlaced N.places (sockets.old, self.old.members.entries)
             (sockets.new, self.new.members.entries) }
+        ensures listed { AreListed self.old.held.items self.old.members.entries
+            → AreListed self.new.held.items self.new.members.entries }
+        ensures eased { IsTrue self.old.scales.eased → IsTrue self.new.scales.eased }
     {
         let Some((turn, was_held)) = self.advance(server, number, now) else {
             return;
@@ -66,7 +76,7 @@ impl<S: Peer + Drop> Together<S> {
             Turn::Again => self.queue(number),
             Turn::Waits => (),
             Turn::Held => {
-                if !was_held && self.held.push(number).is_err() {
+                if list(&mut self.held, number, was_held).is_err() {
                     self.end(rt, sockets, server, number, Err(ConnError::Memory));
                 }
             }
@@ -89,6 +99,12 @@ impl<S: Peer + Drop> Together<S> {
         ensures load { IfSome (member_at self.old.members.entries number) (λ before.
             IfSome (member_at self.new.members.entries number) (λ after.
             self.new.scales.load ≡ load_after self.old.scales.load before.load after.load)) }
+        ensures held { IfSome result (λ out. IfSome (member_at self.new.members.entries number)
+            (λ m. IsTrue m.held → out.0 ≡ Turn.Held)) }
+        ensures was { IfSome result (λ out. IfSome (member_at self.old.members.entries number)
+            (λ m. out.1 ≡ m.held)) }
+        ensures eased { IsTrue self.old.scales.eased → IsTrue self.new.scales.eased }
+        ensures list { self.new.held.items ≡ self.old.held.items }
         ensures server { result ≡ None → server.new ≡ server.old }
         ensures members { result ≡ None
             → AreSame self.old.members.entries self.new.members.entries }
@@ -106,7 +122,7 @@ impl<S: Peer + Drop> Together<S> {
             (turn, was_held, before, member.load(), deadline)
         };
         self.wake = self.wake.min(deadline.unwrap_or(u64::MAX));
-        self.scales.weigh(number, &before, &after);
+        self.scales.weigh(number, &before, &after, self.share);
         Some((turn, was_held))
     }
 
