@@ -4,8 +4,8 @@
 The streams of bytes and their exact answers, whole and byte by byte, also where room is short; heads that are refused, and
 which of them close the connection; the prefix that stands before the paths; many connections at once, of clients that are
 slow, deaf, silent or gone beside one that works, or wait until others hold less; a server that is stopped and goes on; the
-line on a terminal; an address that is in use, or was a moment before; and more connections than the server may have files. It prints a line for each row, and ends with status 1 where one failed.
-Nothing outside this machine is asked.
+line on a terminal; an address that is in use, or was a moment before; and more connections than the server may have files. It
+prints a line for each row, and ends with status 1 where one failed. Nothing outside this machine is asked.
 """
 
 import os
