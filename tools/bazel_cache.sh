@@ -48,7 +48,7 @@ expect_hits() {
 
 # A server at this port, with these words; its log is log-PORT.
 serve() {
-  "$program" serve --listen "127.0.0.1:$1" --connections 9223372036854775807 --limit 1073741824 --result-limit 67108864 \
+  "$program" serve --listen "127.0.0.1:$1" --limit 1073741824 --result-limit 67108864 \
     "${@:2}" >"$work/listening" 2>"$work/log-$1" &
   servers+=($!)
   until [ -s "$work/listening" ]; do

@@ -257,7 +257,7 @@ class Served:
     """The program's server under a fault. `port` is None where it ended, or was too late, before it listened."""
 
     def __init__(self, program, fault, more):
-        words = ["serve", "--listen", f"{harness.LOCAL}:0", "--connections", str(harness.MANY), "--limit", "200000"]
+        words = ["serve", "--listen", f"{harness.LOCAL}:0", "--limit", "200000"]
         self.errors = tempfile.TemporaryFile()
         how = {"stdin": subprocess.DEVNULL, "stdout": subprocess.PIPE, "stderr": self.errors, "env": fault.environment()}
         self.process = subprocess.Popen([program, *words, "--result-limit", "1000", *more], **how)

@@ -16,7 +16,6 @@ import time
 TOP = os.path.dirname(os.path.dirname(os.path.realpath(__file__)))
 PROGRAM = os.environ.get("BUILDCACHE", os.path.join(TOP, "crates", "buildcache", "out", "buildcache"))
 LOCAL = "127.0.0.1"
-MANY = 2**63 - 1
 
 
 def words_of(help_text, least=0, most=None, options=()):
@@ -144,8 +143,8 @@ class Server:
                  address=f"{LOCAL}:0"):
         self.is_counted = connections is not None
         words = [program] if isinstance(program, str) else list(program)
-        words += ["serve", "--listen", address, "--connections", str(MANY if connections is None else connections)]
-        words += ["--limit", str(limit), "--result-limit", str(result_limit), *more]
+        words += ["serve", "--listen", address, "--limit", str(limit), "--result-limit", str(result_limit), *more]
+        words += ["--connections", str(connections)] if self.is_counted else []
         how = {"stdin": subprocess.DEVNULL, "stdout": subprocess.PIPE, "stderr": errors, "text": True}
         self.process = subprocess.Popen(words, **how)
         said = self.process.stdout.readline()

@@ -3,9 +3,10 @@
 
 The streams of bytes and their exact answers, whole and byte by byte, also where room is short; heads that are refused, and
 which of them close the connection; the prefix that stands before the paths; many connections at once, of clients that are
-slow, deaf, silent or gone beside one that works, or wait until others hold less; a server that is stopped and goes on; the
-line on a terminal; an address that is in use, or was a moment before; and more connections than the server may have files. It
-prints a line for each row, and ends with status 1 where one failed. Nothing outside this machine is asked.
+slow, deaf, silent or gone beside one that works, or wait until others hold less; a server that is stopped and goes on, and one
+that no number of connections ends; the line on a terminal; an address that is in use, or was a moment before; and more
+connections than the server may have files. It prints a line for each row, and ends with status 1 where one failed. Nothing
+outside this machine is asked.
 """
 
 import os
@@ -27,7 +28,7 @@ DIGITS = "15e2b0d3c33891ebb0f1ef609ec419420c20e320ce94c65fbc8c3312448eb225"
 EMPTY = "e3b0c44298fc1c149afbf4c8996fb92427ae41e4649b934ca495991b7852b855"
 FEED = "01ba4719c80b6fe911b091a7c05124b64eeece964e09c058ef8f9805daca546b"
 KEY = "0" * 64
-LIMITS = ["--connections", "1", "--limit", "1", "--result-limit", "1"]
+LIMITS = ["--limit", "1", "--result-limit", "1"]
 
 
 def directory(name):
@@ -469,7 +470,7 @@ def try_line(rows, program):
 
 
 def try_counts(rows, program):
-    words = ["serve", "--listen", "127.0.0.1:0", "--connections", "0", *LIMITS[2:], "--at-once"]
+    words = ["serve", "--listen", "127.0.0.1:0", "--connections", "0", *LIMITS, "--at-once"]
     for count in ("0", "1025", "2000", "x", "-1", ""):
         told = harness.run(program, *words, count)
         rows.tell(f"--at-once {count!r} is refused with status 2", (told.returncode, told.stdout) == (2, b"") and is_error(told.stderr), told)
@@ -483,6 +484,20 @@ def try_many(rows, program):
         part(rows, program)
 
 
+def try_no_end(rows, program):
+    """Without `--connections` one connection after another is served, until the server is ended."""
+    for name, more in (("one after another", ()), ("with --at-once", ("--at-once", "2"))):
+        with Server(program, more=more) as it:
+            served = 0
+            for _ in range(5):
+                with connect(it.port) as stream:
+                    served += ask(stream, get(f"/cas/{EMPTY}"), found(b""))
+            rows.tell(f"without --connections 5 are served, {name}", served == 5, served)
+            rows.tell("and the server goes on", it.process.poll() is None, it.process.returncode)
+            it.process.terminate()
+            rows.tell("until it is ended", it.process.wait(20) == -signal.SIGTERM, it.process.returncode)
+
+
 def try_address(rows, program):
     """An address in use is refused. One whose server was ended, with a client there, is free at once, and nothing is held."""
     with Server(program) as it, connect(it.port) as client:
@@ -491,7 +506,7 @@ def try_address(rows, program):
         right = (told.returncode, told.stdout) == (3, b"") and is_error(told.stderr) and it.address.encode() in told.stderr
         rows.tell("an address in use: status 3, and it is named", answered and right, told)
         it.process.terminate()
-        rows.tell("SIGTERM ends a server", it.process.wait(20) == -signal.SIGTERM, it.process.returncode)
+        rows.tell("SIGTERM ends a server with a client", it.process.wait(20) == -signal.SIGTERM, it.process.returncode)
         with Server(program, address=it.address) as again, connect(again.port) as client:
             right = again.address == it.address and ask(client, get(f"/cas/{DIGITS}"), ABSENT)
             rows.tell("another one has its address at once, and nothing that it held", right)
@@ -515,6 +530,7 @@ def try_all(rows, program):
     try_streams(rows, program)
     try_heads(rows, program)
     try_many(rows, program)
+    try_no_end(rows, program)
     try_address(rows, program)
     try_few_files(rows, program)
 

@@ -20,8 +20,8 @@ MOST = 2**63 - 1
 ADDRESS = "127.0.0.1:1"
 # Each command's options with a text that is right, those that it can do without, and its own word.
 COMMANDS = {
-    "serve": ({"listen": "127.0.0.1:0", "connections": "0", "limit": "1", "result-limit": "1"},
-              {"prefix": "/p", "idle": "1", "at-once": "1"}, []),
+    "serve": ({"listen": "127.0.0.1:0", "limit": "1", "result-limit": "1"},
+              {"prefix": "/p", "idle": "1", "at-once": "1", "connections": "0"}, []),
     "verify": ({"sources": EMPTY.text(), "plan": "plan", "record": "record", "claim": EMPTY.text()},
                {"store": "store", "server": ADDRESS, "prefix": "/p", "timeout": "1"}, []),
     "put": ({"server": ADDRESS}, {"prefix": "/p", "timeout": "1"}, ["plan"]),
@@ -113,7 +113,7 @@ def try_numbers(words):
             words.refuse(f"--{option}={text!r}", 2, [*words_of(command, without=option), f"--{option}={text}"], f"--{option}")
     for option in ("limit", "result-limit"):
         words.refuse(f"--{option} beyond the greatest", 2, words_of("serve", **{option: str(MOST + 1)}), f"--{option}")
-        told = words.run(*words_of("serve", **{option: f"000{MOST}"}))
+        told = words.run(*words_of("serve", connections="0", **{option: f"000{MOST}"}))
         right = re.fullmatch(rb"listening 127\.0\.0\.1:\d+\n", told.stdout) and (told.returncode, told.stderr) == (0, b"")
         words.rows.tell(f"--{option} 000{MOST}: status 0 after no connection", right, told)
     for jobs in ("0", "65", "00065"):
@@ -212,7 +212,7 @@ def try_names(words):
     for prefix in ("/", "/a/", "a", "//", "/a//b", "/a b", "/%41", "/é", "/" + "a" * 256):
         words.refuse(f"the prefix {prefix[:9]!r} of {len(prefix)} letters", 2, words_of("serve", prefix=prefix), "--prefix")
     for prefix in ("", "/a", "/A-Z.a_z~0/9", "/" + "a" * 255, "/..", "/."):
-        told = words.run(*words_of("serve"), f"--prefix={prefix}")
+        told = words.run(*words_of("serve", connections="0"), f"--prefix={prefix}")
         words.rows.tell(f"the prefix {prefix[:9]!r} of {len(prefix)} letters: status 0", told.returncode == 0 and told.stderr == b"", told)
 
 

@@ -88,17 +88,17 @@ serve_knows = record {
   options = (
     knows (built_in_program serve_line) true (codes "listen") refl refl refl (λ t. refl) refl (λ t. refl),
     (
-      knows (built_in_program serve_line) true (codes "connections") refl refl refl (λ t. refl) refl (λ t. refl),
+      knows (built_in_program serve_line) true (codes "limit") refl refl refl (λ t. refl) refl (λ t. refl),
       (
-        knows (built_in_program serve_line) true (codes "limit") refl refl refl (λ t. refl) refl (λ t. refl),
+        knows (built_in_program serve_line) true (codes "result-limit") refl refl refl (λ t. refl) refl (λ t. refl),
         (
-          knows (built_in_program serve_line) true (codes "result-limit") refl refl refl (λ t. refl) refl (λ t. refl),
+          knows (built_in_program serve_line) false (codes "prefix") refl refl refl (λ t. refl) refl (λ t. refl),
           (
-            knows (built_in_program serve_line) false (codes "prefix") refl refl refl (λ t. refl) refl (λ t. refl),
+            knows (built_in_program serve_line) false (codes "idle") refl refl refl (λ t. refl) refl (λ t. refl),
             (
-              knows (built_in_program serve_line) false (codes "idle") refl refl refl (λ t. refl) refl (λ t. refl),
+              knows (built_in_program serve_line) false (codes "at-once") refl refl refl (λ t. refl) refl (λ t. refl),
               (
-                knows (built_in_program serve_line) false (codes "at-once") refl refl refl (λ t. refl) refl (λ t. refl),
+                knows (built_in_program serve_line) false (codes "connections") refl refl refl (λ t. refl) refl (λ t. refl),
                 tt,
               ),
             ),
@@ -218,7 +218,7 @@ build_knows = record {
               (
                 knows (built_in_program build_line) true (codes "work") refl refl refl (λ t. refl) refl (λ t. refl),
                 (
-                  knows (built_in_program build_line) true (codes "jobs") refl refl refl (λ t. refl) refl (λ t. refl),
+                  knows (built_in_program build_line) false (codes "jobs") refl refl refl (λ t. refl) refl (λ t. refl),
                   tt,
                 ),
               ),

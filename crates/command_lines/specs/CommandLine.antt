@@ -60,12 +60,10 @@ verify_line =
 -- `serve` and its options
 abbrev pub serve_line : App
 serve_line =
-    may_have (may_have (may_have
-    (must_have
-    (must_have
-    (must_have (must_have (new_app (codes "serve")) (codes "listen")) (codes "connections"))
-    (codes "limit")) (codes "result-limit"))
-    (codes "prefix")) (codes "idle")) (codes "at-once")
+    may_have (may_have (may_have (may_have
+    (must_have (must_have (must_have (new_app (codes "serve"))
+    (codes "listen")) (codes "limit")) (codes "result-limit"))
+    (codes "prefix")) (codes "idle")) (codes "at-once")) (codes "connections")
 
 -- `put` with a file or a folder, and `get` with a digest and perhaps a folder
 abbrev pub put_line : App
@@ -77,9 +75,10 @@ get_line = may_have (takes_word (client_line (codes "get")) (codes "digest")) (c
 -- `build` and its options
 abbrev pub build_line : App
 build_line =
-    has_flag (must_have (must_have (must_have (must_have (must_have (client_line (codes "build"))
-    (codes "sources")) (codes "plan")) (codes "record")) (codes "work")) (codes "jobs"))
-    (codes "verbose")
+    has_flag (may_have
+    (must_have (must_have (must_have (must_have (client_line (codes "build"))
+    (codes "sources")) (codes "plan")) (codes "record")) (codes "work"))
+    (codes "jobs")) (codes "verbose")
 
 -- the program: it has a version, and wants a command as its first word
 abbrev pub program_line : App

@@ -78,12 +78,12 @@ fn serve_command<'a>(alloc: Global) -> Result<Command<'a>, AllocError>
 {
     Command::new(alloc, "serve")
         .arg(required(alloc, "listen", "ADDR"))?
-        .arg(required(alloc, "connections", "N"))?
         .arg(required(alloc, "limit", "BYTES"))?
         .arg(required(alloc, "result-limit", "BYTES"))?
         .arg(optional(alloc, "prefix", "P"))?
         .arg(optional(alloc, "idle", "SECONDS"))?
-        .arg(optional(alloc, "at-once", "N"))
+        .arg(optional(alloc, "at-once", "N"))?
+        .arg(optional(alloc, "connections", "N"))
 }
 
 /// A command that asks a server.
@@ -118,7 +118,7 @@ fn build_command<'a>(alloc: Global) -> Result<Command<'a>, AllocError>
         .arg(required(alloc, "plan", "FILE"))?
         .arg(required(alloc, "record", "FILE"))?
         .arg(required(alloc, "work", "FOLDER"))?
-        .arg(required(alloc, "jobs", "J"))?
+        .arg(optional(alloc, "jobs", "J"))?
         .arg(flag(alloc, "verbose"))
 }
 

@@ -1,5 +1,5 @@
 -- What is told of a request that failed.
-use Rattle.std.proofs.Common.{◌≡◌, ◌∙◌, List, ℕ, Option, Some, None, Result, Ok, Err, IfErr, inl, inr, refl, subst, sym}
+use Rattle.std.proofs.Common.{[], ◌≡◌, ◌∙◌, List, ℕ, Option, Some, None, Result, Ok, Err, IfErr, inl, inr, refl, subst, sym}
 use Rattle.std.specs.Prelude.{IsErrOf}
 use Rattle.std.proofs.Math.Logic.{∥∥₁_map}
 use Rattle.blob_digest.specs.Digest.{DigestValue, digest_of}
@@ -7,14 +7,15 @@ use Rattle.blob_source.specs.declared.source.FetchError.{FetchError}
 use Rattle.blob_source.specs.declared.source.FetchError.TheVariants as refusals
 use Rattle.remote.specs.Line.{ConnectionValue, RefusesRequest}
 use Rattle.remote.specs.declared.fault.Fault.{Fault}
-use Rattle.commands.specs.Faults.{IsServerFault, OrMemory, TellsFailure, TellsRefusal, kept_failure}
-use Rattle.commands.specs.Places.{Access, Carries, Comes, FailsOver, KeepsRefused, MaySend, RefusesAt, puts_blobs, request_of}
+use Rattle.commands.specs.Faults.{IsServerFault, OrMemory, TellsFailure, kept_failure}
+use Rattle.commands.specs.Places.{Access, Carries, Comes, FailsOver, KeepsRefused, MaySend, RefusesAt, gets_alone, puts_blobs, request_of}
+use Rattle.commands.specs.Places.Comes.{fresh}
 use Rattle.commands.specs.PutRefused.{RefusesPut}
 use Rattle.commands.specs.declared.error.CommandError.{CommandError}
 use Rattle.commands.specs.declared.error.CommandError.TheVariants.{Memory}
 use Rattle.commands.specs.declared.failure.Failure.{Failure}
 use Rattle.commands.specs.declared.failure.Method.{Method}
-use Rattle.commands.specs.declared.failure.Method.TheVariants.{PutBlob}
+use Rattle.commands.specs.declared.failure.Method.TheVariants.{GetBlob, PutBlob}
 use Rattle.commands.proofs.Tellings.{answered, refused_otherwise, some_not_none}
 
 memory_unfailed : ◌≡◌ {A = FetchError} refusals.Memory refusals.Failed → ⊥
@@ -70,26 +71,28 @@ memory_told : (address : List ℕ) (failure : Option Failure) (e : CommandError)
 memory_told address (Some f) e told = told
 memory_told address None e told = told
 
--- of a connection that came to stand so
-pub refused_at : (access : Access) (start old new : ConnectionValue) (address : List ℕ) (method : Method) (d : DigestValue) (body : List ℕ)
-    (fault : Option Fault) (refusal : FetchError) (e : CommandError) → Comes access start old
-    → MaySend access (request_of method d.hash body) → RefusesRequest old new (request_of method d.hash body) refusal → new.fault ≡ fault
-    → TellsRefusal address method d fault refusal e → OrMemory (RefusesAt access start address method d body) e
-refused_at access start old new address method d body (Some fault) refusals.Failed e came sent refused is told =
-    inr (record { fault = fault; why = record { old = old; new = new; before = came; sent = sent; is = refused; kept = is }; told = told })
-refused_at access start old new address method d body (Some fault) refusals.Memory e came sent refused is told = inl told
-refused_at access start old new address method d body None refusal e came sent refused is told = inl told
+-- the request itself, by its fault
+module _ (T : Type 0) (Q : CommandError → Type 0) (old new : ConnectionValue) (address : List ℕ) (method : Method) (d : DigestValue) (body : List ℕ) (e : CommandError)
+    (by : (f : Fault) → RefusesRequest old new (request_of method d.hash body) refusals.Failed → new.fault ≡ Some f → IsServerFault address method d f e → Q e) where
+  refused_by : (before : Option Failure) (fault : Option Fault) (refusal : FetchError) → RefusesRequest old new (request_of method d.hash body) refusal → new.fault ≡ fault
+      → TellsFailure address (kept_failure {T = T} before method d (Err refusal) fault) refusal e → OrMemory Q e
+  refused_by before (Some fault) refusals.Failed refused is told = inr (by fault refused is told)
+  refused_by before None refusals.Failed refused is told = absurd (has_fault old new method d.hash body refused is)
+  refused_by before (Some fault) refusals.Memory refused is told = inl (memory_told address before e told)
+  refused_by before None refusals.Memory refused is told = inl (memory_told address before e told)
+
+-- a blob that is asked for first
+pub get_refused : (T : Type 0) (start new : ConnectionValue) (address : List ℕ) (d : DigestValue) (before : Option Failure) (fault : Option Fault) (refusal : FetchError)
+    (e : CommandError) → RefusesRequest start new (request_of GetBlob d.hash []) refusal → new.fault ≡ fault
+    → TellsFailure address (kept_failure {T = T} before GetBlob d (Err refusal) fault) refusal e → OrMemory (RefusesAt gets_alone start address GetBlob d []) e
+get_refused T start new address d before fault refusal e = refused_by T (RefusesAt gets_alone start address GetBlob d []) start new address GetBlob d [] e
+    (λ f refused is told. record { fault = f; why = record { old = start; new = new; before = fresh; sent = refl; is = refused; kept = is }; told = told }) before fault refusal
 
 -- a blob that is put
 pub blob_refused : (start old new : ConnectionValue) (address bytes : List ℕ) (before : Option Failure) (fault : Option Fault) (refusal : FetchError)
     (e : CommandError) → ∥ Comes puts_blobs start old ∥₁ → RefusesRequest old new (request_of PutBlob (digest_of bytes).hash bytes) refusal → new.fault ≡ fault
     → TellsFailure address (kept_failure {T = DigestValue} before PutBlob (digest_of bytes) (Err refusal) fault) refusal e → OrMemory (λ x. ∥ RefusesPut start address bytes x ∥₁) e
-blob_refused start old new address bytes before (Some fault) refusals.Failed e came refused is told = inr (∥∥₁_map came (λ comes. record {
-  fault = fault;
-  why = record { old = old; new = new; before = comes; sent = refl; is = refused; kept = is };
-  told = told;
-}))
-blob_refused start old new address bytes before None refusals.Failed e came refused is told =
-    absurd (has_fault old new PutBlob (digest_of bytes).hash bytes refused is)
-blob_refused start old new address bytes before (Some fault) refusals.Memory e came refused is told = inl (memory_told address before e told)
-blob_refused start old new address bytes before None refusals.Memory e came refused is told = inl (memory_told address before e told)
+blob_refused start old new address bytes before fault refusal e came =
+    refused_by DigestValue (λ x. ∥ RefusesPut start address bytes x ∥₁) old new address PutBlob (digest_of bytes) bytes e
+    (λ f refused is told. ∥∥₁_map came (λ comes. record { fault = f; why = record { old = old; new = new; before = comes; sent = refl; is = refused; kept = is }; told = told }))
+    before fault refusal

@@ -14,6 +14,7 @@ use Rattle.blob_source.specs.Source.{Blobs, GrowsAt, bytes_of}
 use Rattle.blob_source.specs.Sink.{IsPut, PutsAt}
 use Rattle.blob_source.specs.declared.source.FetchError.{FetchError}
 use Rattle.http_core.specs.declared.event.Area.{Area}
+use Rattle.http_core.specs.declared.event.Area.TheVariants.{Cas}
 use Rattle.remote.specs.Folder.{IsNothingAt, IsReadAt, LooksInFolder}
 use Rattle.blob_source.specs.declared.source.FetchError.TheVariants.{Failed, Memory}
 use Rattle.remote.specs.Line.{ConnectionValue, Gets, Puts, RefusesRequest, get, put}
@@ -22,6 +23,7 @@ use Rattle.remote.specs.Table.{HasAnswer, IsSameBut, KeepsNone, answers, bytes_k
 use Rattle.remote.specs.declared.files.FileError.{FileError}
 use Rattle.remote.specs.declared.table.Table.{Table}
 use Rattle.text_verifier.specs.declared.lack.Lack.{Lack}
+use Rattle.commands.specs.Got.{GetsFirst}
 use Rattle.commands.specs.Places.{Access, CameAllOver, CameOver, Comes, FailsInStore, LacksAll, LacksOver, MaySend, file_of, gets_alone, puts_blobs, puts_too}
 use Rattle.commands.specs.Places.Comes.{got, taken, refused}
 use Rattle.commands.specs.World.{Sight}
@@ -192,12 +194,12 @@ module _ {A : Type 0} (access : Access) (start : ConnectionValue) (area : Area) 
   lacks_now (Ok (Some v)) looks came told held = tt
   lacks_now (Ok None) looks came told held = ∥∥₁_map₂ came held (λ comes lacks. lacks_here None looks comes told lacks (sym told))
 
--- a look-up over a connection that was asked nothing brought bytes
-pub got_bytes : {A : Type 0} (area : Area) (d : DigestValue) (old new : ConnectionValue) (before after : Table A)
-    (result : Result (Option (Vec ℕ A)) FetchError) (bytes : Vec ℕ A) → LooksUp area d old new before after result → (HasAnswer before d → ⊥)
-    → result ≡ Ok (Some bytes) → (now : ConnectionValue) × Gets old now area d.hash (Some bytes.items)
-got_bytes area d old new before after result bytes looks not is =
-    (new, subst (λ r. IfOk r (λ answer. Gets old new area d.hash (bytes_of answer))) is (looks.answered not))
+-- a look-up over a connection that was asked nothing brought this answer
+pub got_first : {A : Type 0} (d : DigestValue) (start old new : ConnectionValue) (before after : Table A) (result : Result (Option (Vec ℕ A)) FetchError)
+    (answer : Option (Vec ℕ A)) → start ≡ old → LooksUp Cas d old new before after result → (HasAnswer before d → ⊥) → result ≡ Ok answer
+    → GetsFirst start d (bytes_of answer)
+got_first d start old new before after result answer at looks not is =
+    subst (λ s. GetsFirst s d (bytes_of answer)) (sym at) (new, subst (λ r. IfOk r (λ a. Gets old new Cas d.hash (bytes_of a))) is (looks.answered not))
 
 -- what was put is there
 pub blob_there : {T : Type 0} (bytes : List ℕ) (old new : Blobs) (result : Result T FetchError) → OnOk result (IsPut bytes old new)

@@ -1,4 +1,5 @@
 pub mod Children
+pub mod Client
 pub mod Ended
 pub mod ErrorText
 pub mod Faults

@@ -13,6 +13,10 @@ use Rattle.commands.specs.declared.connecting.ServerOptions.{ServerOptions}
 abbrev pub IsNumber : List ℕ → Type 0
 IsNumber text = IsNumeral 10 text × (digits_value 10 text < 2 ^ 64)
 
+-- the greatest of these
+abbrev pub greatest_number : ℕ
+greatest_number = 18446744073709551615
+
 -- the number that decimal digits spell
 abbrev pub decimal_number : List ℕ → ℕ
 decimal_number = digits_value 10

@@ -20,7 +20,8 @@ use Rattle.text_verifier.specs.Lacking.{lack_of}
 use Rattle.text_verifier.specs.Texts.{HasTexts, Question, IsDigestText}
 use Rattle.text_verifier.specs.declared.lack.Lack.{Lack}
 use Rattle.commands.specs.Got.{BeginsBlob, Writes}
-use Rattle.commands.specs.Options.{IsServerOf, OnNamedServer, decimal_number, number_or}
+use Rattle.commands.specs.Options.{IsServerOf, OnNamedServer, decimal_number, greatest_number}
+use Rattle.commands.specs.Options.{number_or}
 use Rattle.commands.specs.Places.{IsOfFolder, IsOfServer, IsConnected, LacksAtServer}
 use Rattle.commands.specs.Places.{Access, LacksInFolder, gets_alone}
 use Rattle.commands.specs.Put.{PutsPath}
@@ -192,15 +193,15 @@ BeginsDigest sees options old new = (new ≡ old)
 
 -- ---- serve
 
--- connections at this address, as the options say; without words of that, one at a time, and
--- silent for 60 seconds
+-- connections at this address, as the options say; without words of that, as many as can be
+-- counted, one at a time, and silent for 60 seconds
 abbrev pub serving_of : List Row → SocketAddr → Serving
 serving_of options address = record {
   address = address;
   cache = unused_cache (decimal_number (option_text options (codes "limit")))
       (decimal_number (option_text options (codes "result-limit")));
   prefix = option_text options (codes "prefix");
-  connections = decimal_number (option_text options (codes "connections"));
+  connections = number_or greatest_number options (codes "connections");
   at_once = number_or 1 options (codes "at-once");
   idle = number_or 60 options (codes "idle");
 }
@@ -238,6 +239,6 @@ pub record IsAsked (options : List Row) (asked : Asked) : Type 0 where
   pub result_limit : asked.result_limit
       ≡ decimal_number (option_text options (codes "result-limit"))
   pub prefix : asked.prefix ≡ option_text options (codes "prefix")
-  pub connections : asked.connections ≡ decimal_number (option_text options (codes "connections"))
+  pub connections : asked.connections ≡ number_or greatest_number options (codes "connections")
   pub at_once : asked.at_once ≡ number_or 1 options (codes "at-once")
   pub idle : asked.idle ≡ number_or 60 options (codes "idle")

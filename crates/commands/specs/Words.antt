@@ -6,7 +6,7 @@ use Rattle.command_lines.specs.CommandLine.{option_text}
 use Rattle.http_core.specs.Host.{is_host}
 use Rattle.http_core.specs.Prefix.{is_prefix}
 use Rattle.commands.specs.Faults.{IsUnlikeWanted, OrMemory}
-use Rattle.commands.specs.Options.{IsAddress, IsNumber, decimal_number}
+use Rattle.commands.specs.Options.{IsAddress, IsNumber, decimal_number, greatest_number}
 use Rattle.commands.specs.declared.error.CommandError.{CommandError}
 use Rattle.commands.specs.declared.error.CommandError.TheVariants.{Number, Words}
 
@@ -65,6 +65,11 @@ abbrev pub where_said : List Row → List ℕ → Check → Check
 where_said options option check =
     record { valid = IsSaid options option → check.valid; fault = check.fault }
 
+-- such a number, where the option is said
+abbrev pub may_have_number_up_to : List Row → List ℕ → ℕ → Check
+may_have_number_up_to options option greatest =
+    where_said options option (has_number_up_to options option greatest)
+
 -- ---- a server
 
 abbrev pub names_server : List Row → Check
@@ -118,20 +123,17 @@ place_words options =
 abbrev pub listens_at : List Row → Check
 listens_at options = is_wanted options (codes "listen") (codes "HOST:PORT") IsAddress
 
-abbrev pub is_idle : List Row → Check
-is_idle options =
-    where_said options (codes "idle") (has_number_up_to options (codes "idle") 9223372036854775807)
-
 abbrev pub is_at_once : List Row → List Check
 is_at_once options =
-    where_said options (codes "at-once") (has_number_up_to options (codes "at-once") 1024)
+    may_have_number_up_to options (codes "at-once") 1024
     ∷ where_said options (codes "at-once") (is_wanted options (codes "at-once")
     (codes "a number from 1 to 1024") (λ text. decimal_number text ≢ 0)) ∷ []
 
 abbrev pub serve_words : List Row → List Check
 serve_words options =
     listens_at options
-    ∷ has_number_up_to options (codes "connections") 18446744073709551615
+    ∷ may_have_number_up_to options (codes "connections") greatest_number
     ∷ has_number_up_to options (codes "limit") 9223372036854775807
     ∷ has_number_up_to options (codes "result-limit") 9223372036854775807
-    ∷ is_idle options ∷ (is_at_once options ++ has_prefix options ∷ [])
+    ∷ may_have_number_up_to options (codes "idle") 9223372036854775807
+    ∷ (is_at_once options ++ has_prefix options ∷ [])

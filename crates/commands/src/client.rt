@@ -3,7 +3,7 @@ ghost use Rattle.blob_digest.specs.Digest.{digest_of};
 ghost use Rattle.blob_source.specs.Called.{Calls};
 ghost use Rattle.blob_source.specs.Sink.{IsPut, PutsBlob};
 ghost use Rattle.blob_source.specs.Source.{AsksBlob, AsksResult, bytes_of};
-ghost use Rattle.commands.specs.Faults.{OrMemory, TellsFailure, TellsRefusal};
+ghost use Rattle.commands.specs.Faults.{OrMemory, TellsFailure, TellsRefusal, kept_failure};
 ghost use Rattle.commands.specs.Places.{AreLacked, FailsOver, FailsToConnect, IsClientOver};
 ghost use Rattle.commands.specs.Places.{IsConnected, IsFresh, KeepsRefused, LacksIt, LacksOver};
 ghost use Rattle.commands.specs.Places.{puts_blobs, puts_too};
@@ -11,7 +11,7 @@ ghost use Rattle.commands.specs.Put.{TakesBlob};
 ghost use Rattle.commands.specs.PutRefused.{RefusesPut};
 ghost use Rattle.commands.specs.Status.{exit_status};
 ghost use Rattle.http_core.specs.declared.event.Area.TheVariants.{Ac, Cas};
-ghost use Rattle.remote.specs.Remote.{blobs_of, connection_of, results_of, telling_of};
+ghost use Rattle.remote.specs.Remote.{LooksUp, blobs_of, connection_of, results_of, telling_of};
 
 use crate::connecting::ServerOptions;
 use crate::error::CommandError;
@@ -111,11 +111,14 @@ impl<S: Stream + Drop, K: Origin> Client<S, K, PutsBlobs> {
 }
 
 impl<S: Stream + Drop, K: Origin, U: Permit> Client<S, K, U> {
+    ghost use Rattle.commands.specs.Client.{failed_request, remote_of};
+
     /// A client over this connection.
     pub fn new(remote: Remote<S, Global>) -> Client<S, K, U>
         requires start { K.start ≡ connection_of S.flow remote }
         requires fresh { IsFresh remote }
-        ensures { result.remote ≡ remote }
+        ensures remote { remote_of result ≡ remote }
+        ensures unfailed { failed_request result ≡ None }
     {
         Client {
             remote,
@@ -167,10 +170,10 @@ impl<S: Stream + Drop, K: Origin, U: Permit> Client<S, K, U> {
             (λ e. ∥ FailsOver U.access K.start (string_bytes server.now.address) e ∥₁)) }
         ensures status { IfOk result (λ e. exit_status e ≡ 3) }
         ensures error { IfOk result
-            (TellsFailure (string_bytes server.now.address) self.now.failure refusal) }
+            (TellsFailure (string_bytes server.now.address) (failed_request self.now) refusal) }
         // Where a call failed, that memory is wanting isn't told in its place.
         ensures failed { IfOk result (λ e. refusal ≡ FetchError.Failed → e ≡ CommandError.Memory
-            → ∥ (telling_of self.now.remote).failures ≡ K.start.failures ∥₁) }
+            → ∥ (telling_of (remote_of self.now)).failures ≡ K.start.failures ∥₁) }
     {
         match &self.failure {
             Some(failure) => {
@@ -190,15 +193,21 @@ impl<S: Stream + Drop, K: Origin, U: Permit> Client<S, K, U> {
 }
 
 impl<S: Stream + Drop, K: Origin, U: Permit> BlobSource<Global> for Client<S, K, U> {
+    ghost use Rattle.commands.specs.Client.{failed_request, remote_of};
     ghost use Rattle.remote.specs.Remote.{telling_of};
 
-    ghost tells = { λ c. telling_of c.remote };
+    ghost tells = { λ c. telling_of (remote_of c) };
 
     fn fetch(&mut self, alloc: Global, digest: &Digest) -> Result<Option<Vec<u8>>, FetchError>
         ensures told { IfOk result
-            (λ answer. bytes_of answer ≡ (telling_of self.new.remote).blobs digest.now) }
-        ensures called { Calls (AsksBlob digest.now) (telling_of self.old.remote)
-            (telling_of self.new.remote) (IsErrOf result FetchError.Failed) }
+            (λ answer. bytes_of answer ≡ (telling_of (remote_of self.new)).blobs digest.now) }
+        ensures called { Calls (AsksBlob digest.now) (telling_of (remote_of self.old))
+            (telling_of (remote_of self.new)) (IsErrOf result FetchError.Failed) }
+        ensures asked { LooksUp Cas digest.now (connection_of S.flow (remote_of self.old))
+            (connection_of S.flow (remote_of self.new)) (blobs_of (remote_of self.old))
+            (blobs_of (remote_of self.new)) result }
+        ensures kept { failed_request self.new ≡ kept_failure (failed_request self.old)
+            Method.GetBlob digest.now result (connection_of S.flow (remote_of self.new)).fault }
         // Where there is none, the server has replied so.
         ensures lacked { IfOk result
             (λ answer. IfNone answer (∥ LacksOver U.access K.start Cas digest.now.hash ∥₁)) }
@@ -211,9 +220,9 @@ impl<S: Stream + Drop, K: Origin, U: Permit> BlobSource<Global> for Client<S, K,
 
     fn result(&mut self, alloc: Global, digest: &Digest) -> Result<Option<Vec<u8>>, FetchError>
         ensures told { IfOk result
-            (λ answer. bytes_of answer ≡ (telling_of self.new.remote).results digest.now) }
-        ensures called { Calls (AsksResult digest.now) (telling_of self.old.remote)
-            (telling_of self.new.remote) (IsErrOf result FetchError.Failed) }
+            (λ answer. bytes_of answer ≡ (telling_of (remote_of self.new)).results digest.now) }
+        ensures called { Calls (AsksResult digest.now) (telling_of (remote_of self.old))
+            (telling_of (remote_of self.new)) (IsErrOf result FetchError.Failed) }
         ensures lacked { IfOk result
             (λ answer. IfNone answer (∥ LacksOver U.access K.start Ac digest.now.hash ∥₁)) }
     {
@@ -225,12 +234,14 @@ impl<S: Stream + Drop, K: Origin, U: Permit> BlobSource<Global> for Client<S, K,
 }
 
 impl<S: Stream + Drop, K: Origin> BlobSink<Global> for Client<S, K, PutsToo> {
+    ghost use Rattle.commands.specs.Client.{remote_of};
+
     fn put_blob(&mut self, alloc: Global, bytes: &[u8]) -> Result<Digest, FetchError>
         ensures named { IfOk result (λ digest. digest ≡ digest_of bytes.now) }
         ensures held { OnOk result (IsPut bytes.now
-            (telling_of self.old.remote).blobs (telling_of self.new.remote).blobs) }
-        ensures called { Calls (PutsBlob bytes.now) (telling_of self.old.remote)
-            (telling_of self.new.remote) (IsErrOf result FetchError.Failed) }
+            (telling_of (remote_of self.old)).blobs (telling_of (remote_of self.new)).blobs) }
+        ensures called { Calls (PutsBlob bytes.now) (telling_of (remote_of self.old))
+            (telling_of (remote_of self.new)) (IsErrOf result FetchError.Failed) }
         ensures taken { OnOk result (∥ TakesBlob puts_too K.start bytes.now ∥₁) }
     {
         let put = self.remote.put_blob(alloc, bytes);

@@ -1,22 +1,20 @@
 ghost use Rattle.std.specs.Prelude.{◌≡◌, ◌≢◌, ◌↔◌, None, Some, IfErr, IfNone, IfOk, IfSome, IsTrue};
-ghost use Rattle.std.specs.Prelude.{OnErr, string_bytes};
+ghost use Rattle.std.specs.Prelude.{OnErr, option_map, string_bytes};
 ghost use Rattle.blob_digest.specs.Digest.{digest_of, empty_digest};
 ghost use Rattle.clap.specs.Words.{found_of, rows_of};
+ghost use Rattle.commands.specs.Client.{remote_of};
 ghost use Rattle.commands.specs.Faults.{OrMemory};
-ghost use Rattle.commands.specs.GetRefused.{FailsGetBlob, FailsGet};
-ghost use Rattle.commands.specs.Got.{BeginsBlob, IsBlobOver, NotesNoBlob, Writes};
+ghost use Rattle.commands.specs.GetRefused.{FailsGet, FailsGetBlob, FailsGot};
+ghost use Rattle.commands.specs.Got.{BeginsBlob, GetsFirst, IsBlobOver, NotesNoBlob, Writes};
 ghost use Rattle.commands.specs.Places.{IsFresh};
-ghost use Rattle.commands.specs.Printed.{GetsAsked, GetsPart};
+ghost use Rattle.commands.specs.Printed.{BeginsGot, GetsAsked, GetsPart, IsGot};
 ghost use Rattle.commands.specs.Refusal.{IsPrintFault};
-ghost use Rattle.http_core.specs.declared.event.Area.TheVariants.{Cas};
-ghost use Rattle.remote.specs.Line.{Gets};
 ghost use Rattle.remote.specs.Remote.{connection_of};
 
-use crate::client::{open, server_error};
+use crate::client::{Client, GetsAlone, Origin, open};
 use crate::connecting::{ServerOptions, read_server};
 use crate::ended::{Ended, Note};
 use crate::error::CommandError;
-use crate::failure::Method;
 use crate::options::read_digest;
 use crate::printing::print_all;
 use crate::trees::get_tree;
@@ -28,6 +26,7 @@ use command_lines::option_of;
 use remote::{Remote, Stream};
 use std::alloc::{AllocError, Global};
 use std::io::Write;
+use std::marker::Brand;
 
 /// Whether the bytes have the digest.
 fn has_digest(bytes: &[u8], digest: &Digest) -> bool
@@ -37,27 +36,28 @@ fn has_digest(bytes: &[u8], digest: &Digest) -> bool
 }
 
 /// The bytes of the blob of the digest, where the server at the other end of the connection has it.
-fn get_blob<S: Stream + Drop>(
+fn get_blob<S: Stream + Drop, K: Origin>(
     alloc: Global,
     server: &ServerOptions,
-    remote: &mut Remote<S, Global>,
+    client: &mut Client<S, K, GetsAlone>,
     digest: &Digest,
 ) -> Result<Option<Vec<u8>>, CommandError>
-    requires { IsFresh remote.old }
+    requires start { K.start ≡ connection_of S.flow (remote_of client.old) }
+    requires fresh { IsFresh (remote_of client.old) }
     ensures right { IfOk result (λ found. IfSome found (λ bytes.
-        IsBlobOver (connection_of S.flow remote.old) digest.now bytes.items)) }
-    ensures none { IfOk result (λ found. IfNone found (Gets (connection_of S.flow remote.old)
-        (connection_of S.flow remote.new) Cas digest.now.hash None)) }
+        IsBlobOver K.start digest.now bytes.items)) }
+    ensures none { IfOk result
+        (λ found. IfNone found (GetsFirst K.start digest.now None)) }
     // Nothing is asked for the empty one, which is there.
     ensures some { IfOk result (λ found. IfNone found (digest.now ≢ empty_digest)) }
     ensures sure { OnErr result (digest.now ≢ empty_digest) }
-    ensures fault { IfErr result (OrMemory (FailsGetBlob (connection_of S.flow remote.old)
+    ensures fault { IfErr result (OrMemory (FailsGetBlob K.start
         (string_bytes server.now.address) digest.now)) }
 {
     if *digest == Digest::empty() {
         return Ok(Some(Vec::new(alloc)));
     }
-    match remote.fetch(alloc, digest) {
+    match client.fetch(alloc, digest) {
         Ok(None) => Ok(None),
         Ok(Some(bytes)) => {
             if has_digest(&bytes, digest) {
@@ -69,10 +69,7 @@ fn get_blob<S: Stream + Drop>(
                 fault: "other bytes came",
             })
         }
-        Err(refusal) => {
-            let fault = remote.last_fault();
-            Err(server_error(alloc, server, Method::GetBlob, digest, fault, refusal)?)
-        }
+        Err(refusal) => Err(client.error(alloc, server, refusal)?),
     }
 }
 
@@ -89,29 +86,58 @@ fn no_blob(alloc: Global, server: &ServerOptions, digest: &Digest) -> Result<Not
 
 /// Prints the bytes of the blob of the digest, where the server at the other end of the connection
 /// has it.
-fn print_blob<S: Stream + Drop, O: Write>(
+fn print_blob<S: Stream + Drop, K: Origin, O: Write>(
     alloc: Global,
     server: &ServerOptions,
-    remote: Remote<S, Global>,
+    client: &mut Client<S, K, GetsAlone>,
     digest: &Digest,
     out: &mut O,
 ) -> Result<Ended, CommandError>
-    requires { IsFresh remote }
-    ensures printed { IfOk result (Writes (connection_of S.flow remote)
-        (string_bytes server.now.address) digest.now (O.contents out.old) (O.contents out.new)) }
-    ensures begun { OnErr result (BeginsBlob (connection_of S.flow remote) digest.now
+    requires start { K.start ≡ connection_of S.flow (remote_of client.old) }
+    requires fresh { IsFresh (remote_of client.old) }
+    ensures printed { IfOk result (Writes K.start (string_bytes server.now.address) digest.now
+        (O.contents out.old) (O.contents out.new)) }
+    ensures begun { OnErr result (BeginsBlob K.start digest.now
         (O.contents out.old) (O.contents out.new)) }
     ensures unprinted { IfErr result
         (λ fault. ¬ IsPrintFault fault → O.contents out.new ≡ O.contents out.old) }
-    ensures fault { IfErr result (OrMemory (FailsGetBlob (connection_of S.flow remote)
+    ensures fault { IfErr result (OrMemory (FailsGetBlob K.start
         (string_bytes server.now.address) digest.now)) }
 {
-    let mut remote = remote;
-    let Some(bytes) = get_blob(alloc, server, &mut remote, digest)? else {
+    let Some(bytes) = get_blob(alloc, server, client, digest)? else {
         return Ok(Ended::No(Some(no_blob(alloc, server, digest)?)));
     };
     print_all(out, &bytes)?;
     Ok(Ended::Done)
+}
+
+/// Writes the blob, or its tree into the folder, that comes over the marked connection. Nothing but
+/// GETs goes over it.
+fn get_over<W: World, K: Origin, O: Write>(
+    alloc: Global,
+    world: &W,
+    server: &ServerOptions,
+    remote: Remote<W::Link, Global>,
+    digest: &Digest,
+    folder: Option<&str>,
+    out: &mut O,
+) -> Result<Ended, CommandError>
+    requires start { K.start ≡ connection_of W.Link.flow remote }
+    requires fresh { IsFresh remote }
+    ensures got { IfOk result (IsGot W.sees (option_map (λ s. s.now) folder.entry) K.start
+        (string_bytes server.now.address) digest.now (O.contents out.old) (O.contents out.new)) }
+    ensures begun { OnErr result (BeginsGot W.sees (option_map (λ s. s.now) folder.entry) K.start
+        digest.now (O.contents out.old) (O.contents out.new)) }
+    ensures unprinted { IfErr result
+        (λ fault. ¬ IsPrintFault fault → O.contents out.new ≡ O.contents out.old) }
+    ensures fault { IfErr result (OrMemory (FailsGot W.sees (option_map (λ s. s.now) folder.entry)
+        K.start (string_bytes server.now.address) digest.now)) }
+{
+    let mut client: Client<W::Link, K, GetsAlone> = Client::new(remote);
+    match folder {
+        Some(folder) => get_tree(alloc, world, server, &mut client, digest, folder, out),
+        None => print_blob(alloc, server, &mut client, digest, out),
+    }
 }
 
 /// Writes the bytes of the blob whose digest the words spell, or its tree into the folder that they
@@ -136,8 +162,6 @@ pub fn run_get<W: World, O: Write>(
     let server = read_server(alloc, matches)?;
     let digest = read_digest(alloc, matches, "digest")?;
     let remote = open(alloc, world, &server)?;
-    match option_of(matches, "into") {
-        Some(folder) => get_tree(alloc, world, &server, remote, &digest, folder, out),
-        None => print_blob(alloc, &server, remote, &digest, out),
-    }
+    let folder = option_of(matches, "into");
+    get_over::<W, Brand, O>(alloc, world, &server, remote, &digest, folder, out)
 }

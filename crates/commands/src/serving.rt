@@ -10,8 +10,8 @@ ghost use Rattle.commands.specs.Faults.{OrMemory};
 ghost use Rattle.commands.specs.Refusal.{IsPrintFault};
 ghost use Rattle.commands.specs.ServeRefused.{FailsServe, FailsToListen, IsAcceptFault};
 ghost use Rattle.commands.specs.Told.{AppendsBeginning};
-ghost use Rattle.commands.specs.Words.{IsCheckedBy, has_number_up_to, is_at_once, is_idle};
-ghost use Rattle.commands.specs.Words.{listens_at, serve_words};
+ghost use Rattle.commands.specs.Words.{IsCheckedBy, has_number_up_to, is_at_once, listens_at};
+ghost use Rattle.commands.specs.Words.{may_have_number_up_to, serve_words};
 
 use crate::connecting::read_prefix;
 use crate::error::CommandError;
@@ -88,15 +88,22 @@ fn read_address<'a>(alloc: Global, matches: &ArgMatches<'a>) -> Result<&'a str, 
     }
 }
 
-/// The number of seconds of `--idle`.
-fn read_idle(alloc: Global, matches: &ArgMatches<'_>) -> Result<u64, CommandError>
-    ensures idle { IfOk result (λ idle.
-        idle ≡ number_or 60 (rows_of (found_of matches.now)) (codes "idle")) }
-    ensures checked { IsCheckedBy (is_idle (rows_of (found_of matches.now)) ∷ []) result }
+/// The number of an option, at most the greatest, or the usual one where nothing is said of it.
+fn read_number_or(
+    alloc: Global,
+    matches: &ArgMatches<'_>,
+    option: &'static str,
+    greatest: u64,
+    usual: u64,
+) -> Result<u64, CommandError>
+    ensures number { IfOk result (λ number.
+        number ≡ number_or usual (rows_of (found_of matches.now)) option.now) }
+    ensures checked { IsCheckedBy
+        (may_have_number_up_to (rows_of (found_of matches.now)) option.now greatest ∷ []) result }
 {
-    match option_of(matches, "idle") {
-        Some(_) => read_number(alloc, matches, "idle", GREATEST_LIMIT),
-        None => Ok(IDLE_SECONDS),
+    match option_of(matches, option) {
+        Some(_) => read_number(alloc, matches, option, greatest),
+        None => Ok(usual),
     }
 }
 
@@ -128,10 +135,10 @@ fn read_asked<'a>(alloc: Global, matches: &ArgMatches<'a>) -> Result<Asked<'a>, 
     ensures checked { IsCheckedBy (serve_words (rows_of (found_of matches.now))) result }
 {
     let address = read_address(alloc, matches)?;
-    let connections = read_number(alloc, matches, "connections", u64::MAX)?;
+    let connections = read_number_or(alloc, matches, "connections", u64::MAX, u64::MAX)?;
     let limit = read_number(alloc, matches, "limit", GREATEST_LIMIT)?;
     let result_limit = read_number(alloc, matches, "result-limit", GREATEST_LIMIT)?;
-    let idle = read_idle(alloc, matches)?;
+    let idle = read_number_or(alloc, matches, "idle", GREATEST_LIMIT, IDLE_SECONDS)?;
     let at_once = read_at_once(alloc, matches)?;
     let prefix = read_prefix(alloc, matches)?;
     Ok(Asked {
@@ -181,7 +188,8 @@ fn print_address<O: Write>(
     print_all(out, line.as_bytes())
 }
 
-/// Prints the address where it listens, and serves as many connections as the words say.
+/// Prints the address where it listens, and serves as many connections as the words say, or without
+/// end.
 pub fn run_serve<R: AllocGlobal + RandomSource, W: World, O: Write>(
     rt: &R,
     world: &W,

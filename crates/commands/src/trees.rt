@@ -2,11 +2,9 @@ ghost use Rattle.std.specs.Prelude.{◌≡◌, ◌⊎◌, IfErr, IfOk, OnErr, On
 ghost use Rattle.std.specs.Io.KnownBytes.{Appends};
 ghost use Rattle.commands.specs.Faults.{OrMemory};
 ghost use Rattle.commands.specs.GetRefused.{FailsGetTree, TellsCheckout};
-ghost use Rattle.commands.specs.Places.{IsFresh};
 ghost use Rattle.commands.specs.Refusal.{IsPrintFault};
 ghost use Rattle.commands.specs.Told.{AppendsBeginning};
 ghost use Rattle.commands.specs.Trees.{BeginsLack, IsTreeGot, PrintsLack, missing_line};
-ghost use Rattle.remote.specs.Remote.{connection_of};
 
 use crate::client::{Client, GetsAlone, Origin};
 use crate::connecting::ServerOptions;
@@ -16,10 +14,9 @@ use crate::printing::print_all;
 use crate::world::World;
 use blob_digest::Digest;
 use checkout::CheckoutError;
-use remote::{Remote, Stream};
+use remote::Stream;
 use std::alloc::{AllocError, Global};
 use std::io::Write;
-use std::marker::Brand;
 use text_verifier::Lack;
 use tree::FetchError;
 
@@ -88,59 +85,31 @@ fn print_lack<S: Stream + Drop, K: Origin, O: Write>(
     }
 }
 
-/// Writes a tree that comes over the marked connection.
-fn get_over<W: World, S: Stream + Drop, K: Origin, O: Write>(
-    alloc: Global,
-    world: &W,
-    server: &ServerOptions,
-    remote: Remote<S, Global>,
-    digest: &Digest,
-    folder: String,
-    out: &mut O,
-) -> Result<Ended, CommandError>
-    requires start { K.start ≡ connection_of S.flow remote }
-    requires fresh { IsFresh remote }
-    ensures got { IfOk result (IsTreeGot W.sees K.start digest.now (string_bytes folder)
-        (O.contents out.old) (O.contents out.new)) }
-    ensures begun { OnErr result (BeginsLack W.sees K.start digest.now (string_bytes folder)
-        (O.contents out.old) (O.contents out.new)) }
-    ensures fault { IfErr result (OrMemory (FailsGetTree W.sees K.start
-        (string_bytes server.now.address) digest.now (string_bytes folder))) }
-    ensures unprinted { IfErr result
-        (λ fault. ¬ IsPrintFault fault → O.contents out.new ≡ O.contents out.old) }
-{
-    let mut client: Client<S, K, GetsAlone> = Client::new(remote);
-    match world.check_out(alloc, folder.as_str(), digest, &mut client) {
-        Ok(()) => Ok(Ended::Done),
-        Err(error) => {
-            print_lack(alloc, server, &mut client, error, out)?;
-            Ok(Ended::No(None))
-        }
-    }
-}
-
 /// Writes the tree with the digest into a folder that isn't there or is empty, where the server has
 /// all of it. The line of a blob that it lacks is printed, and what was written before stays.
-pub(crate) fn get_tree<W: World, O: Write>(
+pub(crate) fn get_tree<W: World, K: Origin, O: Write>(
     alloc: Global,
     world: &W,
     server: &ServerOptions,
-    remote: Remote<W::Link, Global>,
+    client: &mut Client<W::Link, K, GetsAlone>,
     digest: &Digest,
     folder: &str,
     out: &mut O,
 ) -> Result<Ended, CommandError>
-    requires fresh { IsFresh remote }
-    ensures got { IfOk result (IsTreeGot W.sees (connection_of W.Link.flow remote) digest.now
-        folder.now (O.contents out.old) (O.contents out.new)) }
-    ensures begun { OnErr result (BeginsLack W.sees (connection_of W.Link.flow remote) digest.now
-        folder.now (O.contents out.old) (O.contents out.new)) }
-    ensures fault { IfErr result (OrMemory (FailsGetTree W.sees
-        (connection_of W.Link.flow remote) (string_bytes server.now.address) digest.now
-        folder.now)) }
+    ensures got { IfOk result (IsTreeGot W.sees K.start digest.now folder.now
+        (O.contents out.old) (O.contents out.new)) }
+    ensures begun { OnErr result (BeginsLack W.sees K.start digest.now folder.now
+        (O.contents out.old) (O.contents out.new)) }
+    ensures fault { IfErr result (OrMemory (FailsGetTree W.sees K.start
+        (string_bytes server.now.address) digest.now folder.now)) }
     ensures unprinted { IfErr result
         (λ fault. ¬ IsPrintFault fault → O.contents out.new ≡ O.contents out.old) }
 {
-    let folder = String::from_str(alloc, folder)?;
-    get_over::<W, W::Link, Brand, O>(alloc, world, server, remote, digest, folder, out)
+    match world.check_out(alloc, folder, digest, client) {
+        Ok(()) => Ok(Ended::Done),
+        Err(error) => {
+            print_lack(alloc, server, client, error, out)?;
+            Ok(Ended::No(None))
+        }
+    }
 }

@@ -9,5 +9,5 @@ returns c =
     let with_2 = c.in_ok-arg-2.ensures.shape c.required-2.ensures.local ∙ ap₂ with_rule with_1 c.required-2.ensures.rule in
     let with_3 = c.in_ok-arg-3.ensures.shape c.required-3.ensures.local ∙ ap₂ with_rule with_2 c.required-3.ensures.rule in
     let with_4 = c.in_ok-arg-4.ensures.shape c.required-4.ensures.local ∙ ap₂ with_rule with_3 c.required-4.ensures.rule in
-    let with_5 = c.in_ok-arg-5.ensures.shape c.required-5.ensures.local ∙ ap₂ with_rule with_4 c.required-5.ensures.rule in
+    let with_5 = c.in_ok-arg-5.ensures.shape c.optional.ensures.local ∙ ap₂ with_rule with_4 c.optional.ensures.rule in
     IfOk-weaker c.arg-6.result _ _ (λ r h. h.shape c.flag.ensures.local ∙ ap₂ with_rule with_5 c.flag.ensures.rule) c.arg-6.ensures

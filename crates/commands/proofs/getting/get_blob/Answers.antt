@@ -1,38 +1,48 @@
-use Rattle.std.proofs.Common.{rules, [], ◌≡◌, ◌≢◌, ◌∙◌, Some, Ok, Option, Result, ℕ, inr, refl, subst, sym, string_bytes}
+use Rattle.std.proofs.Common.{rules, [], ◌≡◌, ◌≢◌, ◌∙◌, Some, None, Ok, Option, Result, ℕ, inr, refl, subst, sym, string_bytes}
 use Rattle.std.specs.declared.alloc.Global.{Global}
 use Rattle.std.specs.declared.vec.Vec.{Vec}
 use Rattle.blob_digest.specs.Digest.{digest_of, empty_digest}
 use Rattle.blob_source.specs.declared.source.FetchError.{FetchError}
-use Rattle.http_core.specs.declared.event.Area.TheVariants.{Cas}
+use Rattle.remote.specs.Line.{RefusesRequest}
 use Rattle.remote.specs.Remote.{blobs_of, connection_of}
+use Rattle.commands.specs.Faults.{TellsFailure, kept_failure}
 use Rattle.commands.specs.GetRefused.{FailsGetBlob}
 use Rattle.commands.specs.GetRefused.FailsGetBlob.{in_bytes, in_reply}
-use Rattle.commands.specs.Places.{RefusesAt, gets_alone}
-use Rattle.commands.specs.Places.Comes.{fresh}
+use Rattle.commands.specs.Places.{RefusesAt, gets_alone, request_of}
 use Rattle.commands.specs.declared.failure.Method.TheVariants.{GetBlob}
-use Rattle.commands.proofs.Failures.{refused_at}
+use Rattle.commands.proofs.Failures.{get_refused}
 use Rattle.commands.proofs.Refused.{or_weaker}
-use Rattle.commands.proofs.Tellings.{got_bytes}
+use Rattle.commands.proofs.Tellings.{got_first}
 use Rattle.commands.proofs.getting.get_blob.Goals as goal
 
 pub returns-then-has_digest-clause-right : goal.returns-then-has_digest-clause-right
 returns-then-has_digest-clause-right g c =
     let flow = g.S.Stream.flow in
-    let old = c.args.remote.now in
-    let new = c.fetch.new.self in
+    let old = c.args.client.now.remote in
+    let new = c.fetch.new.self.remote in
     let digest = c.args.digest.now in
     let is : ◌≡◌ {A = Result (Option (Vec ℕ Global)) FetchError} c.fetch.result (Ok (Some c.in-Ok-Some.bytes)) = cc in
     record {
       right = subst (λ b. digest_of b ≡ digest) c.deref.ensures.value (c.has_digest.ensures.0 c.if-has_digest.true);
-      came = inr (got_bytes Cas digest (connection_of flow old) (connection_of flow new) (blobs_of old) (blobs_of new) c.fetch.result c.in-Ok-Some.bytes
-          c.fetch.ensures.asked (c.requires.blobs digest) is);
+      came = inr (got_first digest g.K.Origin.start (connection_of flow old) (connection_of flow new) (blobs_of old) (blobs_of new) c.fetch.result (Some c.in-Ok-Some.bytes)
+          c.requires.start c.fetch.ensures.asked (c.requires.fresh.blobs digest) is);
     }
+
+pub returns-in-Ok-None-clause-none : goal.returns-in-Ok-None-clause-none
+returns-in-Ok-None-clause-none g c =
+    let flow = g.S.Stream.flow in
+    let old = c.args.client.now.remote in
+    let new = c.fetch.new.self.remote in
+    let digest = c.args.digest.now in
+    let is : ◌≡◌ {A = Result (Option (Vec ℕ Global)) FetchError} c.fetch.result (Ok None) = cc in
+    got_first digest g.K.Origin.start (connection_of flow old) (connection_of flow new) (blobs_of old) (blobs_of new) c.fetch.result None
+    c.requires.start c.fetch.ensures.asked (c.requires.fresh.blobs digest) is
 
 pub returns-in_ok-write_text-in-Ok-Some-clause-fault : goal.returns-in_ok-write_text-in-Ok-Some-clause-fault
 returns-in_ok-write_text-in-Ok-Some-clause-fault g c =
     let flow = g.S.Stream.flow in
-    let old = c.args.remote.now in
-    let new = c.fetch.new.self in
+    let old = c.args.client.now.remote in
+    let new = c.fetch.new.self.remote in
     let digest = c.args.digest.now in
     let is : ◌≡◌ {A = Result (Option (Vec ℕ Global)) FetchError} c.fetch.result (Ok (Some c.in-Ok-Some.bytes)) = cc in
     let other : digest_of c.in-Ok-Some.bytes.items ≢ digest = λ same.
@@ -42,21 +52,25 @@ returns-in_ok-write_text-in-Ok-Some-clause-fault g c =
     let some : digest ≢ empty_digest = search rules in
     inr (in_bytes some (record {
       bytes = c.in-Ok-Some.bytes.items;
-      came = got_bytes Cas digest (connection_of flow old) (connection_of flow new) (blobs_of old) (blobs_of new) c.fetch.result c.in-Ok-Some.bytes
-          c.fetch.ensures.asked (c.requires.blobs digest) is;
+      came = got_first digest g.K.Origin.start (connection_of flow old) (connection_of flow new) (blobs_of old) (blobs_of new) c.fetch.result (Some c.in-Ok-Some.bytes)
+          c.requires.start c.fetch.ensures.asked (c.requires.fresh.blobs digest) is;
       other = other;
     }) (c.in_ok-from_str-in-Ok-Some.ensures.ok ∙ c.as_str.ensures.value, c.in_ok-write_text-in-Ok-Some.ensures, refl))
 
-pub returns-in_ok-server_error-in-Err-clause-fault : goal.returns-in_ok-server_error-in-Err-clause-fault
-returns-in_ok-server_error-in-Err-clause-fault g c =
+pub returns-in_ok-error-in-Err-clause-fault : goal.returns-in_ok-error-in-Err-clause-fault
+returns-in_ok-error-in-Err-clause-fault g c =
     let flow = g.S.Stream.flow in
-    let old = c.args.remote.now in
+    let old = c.args.client.now in
     let new = c.fetch.new.self in
-    let start = connection_of flow old in
+    let start = g.K.Origin.start in
+    let after = connection_of flow new.remote in
     let address = string_bytes c.args.server.now.address in
     let digest = c.args.digest.now in
-    let e = c.in_ok-server_error-in-Err.field-0 in
+    let refusal = c.in-Err.refusal in
+    let e = c.in_ok-error-in-Err.field-0 in
     let some : digest ≢ empty_digest = search rules in
+    let kept = subst (λ r. new.failure ≡ kept_failure old.failure GetBlob digest r after.fault) c.in-Err.is c.fetch.ensures.kept in
     or_weaker (RefusesAt gets_alone start address GetBlob digest []) (FailsGetBlob start address digest) e (in_reply some)
-    (refused_at gets_alone start start (connection_of flow new) address GetBlob digest [] c.last_fault-fault.result c.in-Err.refusal e fresh refl c.in-Err.ensures.asked.refused
-    (sym c.last_fault-fault.ensures) c.in_ok-server_error-in-Err.ensures.error)
+    (get_refused (Option (Vec ℕ Global)) start after address digest old.failure after.fault refusal e
+    (subst (λ s. RefusesRequest s after (request_of GetBlob digest.hash []) refusal) (sym c.requires.start) c.in-Err.ensures.asked.refused) refl
+    (subst (λ f. TellsFailure address f refusal e) kept c.in_ok-error-in-Err.ensures.error))
