@@ -1,36 +1,21 @@
 -- Why texts have no answer.
-use Rattle.std.specs.Prelude.{◌≡◌, ◌↔◌, ℕ, List, Result, Ok, Err}
+use Rattle.std.specs.Prelude.{◌≡◌, ℕ, List, Result, Ok, Err}
 use Rattle.blob_digest.specs.Digest.{DigestValue}
-use Rattle.blob_digest.specs.Text.{BeginsWithHash}
-use Rattle.blob_digest.specs.declared.error.DigestError.{DigestError}
-use Rattle.blob_digest.specs.declared.error.DigestError.TheVariants.{BadHex}
 use Rattle.plan.specs.Faults.{IsPlanFault}
 use Rattle.plan.specs.Record.{IsRecordFault}
 use Rattle.verifier.specs.declared.error.VerifyError.{VerifyError}
 use Rattle.verifier.specs.declared.error.VerifyError.TheVariants as verifying
 use Rattle.text_verifier.specs.declared.error.TextError.{TextError}
-use Rattle.text_verifier.specs.declared.error.TextError.TheVariants.{Sources, Claim, Plan, Record}
-use Rattle.text_verifier.specs.declared.error.TextError.TheVariants.{Fetch, Memory}
+use Rattle.text_verifier.specs.declared.error.TextError.TheVariants.{Plan, Record, Fetch, Memory}
 use Rattle.text_verifier.specs.Texts.{IsDigestText}
 
 abbrev pub of_verify : VerifyError → TextError
 of_verify verifying.Fetch = Fetch
 of_verify verifying.Memory = Memory
 
--- why a text spells no digest
-pub record IsNoDigest (text : List ℕ) (fault : DigestError) : Type 0 where
-  pub none : (digest : DigestValue) → ¬ IsDigestText text digest
-  pub hex : (fault ≡ BadHex) ↔ ¬ BeginsWithHash text
-
 -- the text spells some digest
 abbrev pub IsSpelled : List ℕ → Type 0
 IsSpelled text = (digest : DigestValue) × IsDigestText text digest
-
--- the text of the sources' digest is none; or else that of the claim's
-abbrev pub IsDigestRefusal : List ℕ → List ℕ → TextError → Type 0
-IsDigestRefusal sources claim (Sources fault) = IsNoDigest sources fault
-IsDigestRefusal sources claim (Claim fault) = IsSpelled sources × IsNoDigest claim fault
-IsDigestRefusal sources claim e = ⊥
 
 -- a line of the plan's text is at fault, or memory ran out
 abbrev pub IsPlanRefusal : List ℕ → TextError → Type 0

@@ -1,7 +1,6 @@
 ghost use Rattle.std.specs.Prelude.{◌≡◌};
 ghost use Rattle.text_verifier.specs.declared.error.TextError.TheVariants as errors;
 
-use blob_digest::DigestError;
 use plan::PlanError;
 use std::alloc::AllocError;
 use thiserror::Error;
@@ -11,12 +10,6 @@ use verifier::VerifyError;
 /// asked.
 #[derive(Clone, Copy, Debug, PartialEq, Eq, Error)]
 pub enum TextError {
-    /// The sources' text is no digest.
-    #[error("sources: {0}")]
-    Sources(DigestError),
-    /// The claimed root's text is no digest.
-    #[error("claim: {0}")]
-    Claim(DigestError),
     /// The plan's text is no plan.
     #[error("plan: {0}")]
     Plan(PlanError),

@@ -1,7 +1,7 @@
-//! The verifier over texts: two digests as they were typed, and the bytes of a plan and a record.
-//! Its answer is the verdict's line, or the first fault. The texts are read one after another, each
-//! into what the next one needs, so that whoever reads files between them keeps that order: a case
-//! is made of digests and a plan, and a source is asked about a case.
+//! The verifier over texts: the bytes of a plan and of a record. Its answer is the verdict's line, or
+//! the first fault. The texts are read one after another, each into what the next one needs, so that
+//! whoever reads files between them keeps that order: a case is made of digests and a plan, and a
+//! source is asked about a case.
 #![tactic(auto)]
 
 mod answering;
@@ -14,4 +14,4 @@ pub use answering::{Answer, answer_question};
 pub use case::Case;
 pub use error::TextError;
 pub use lack::Lack;
-pub use reading::{Digests, read_digests, read_plan};
+pub use reading::{Digests, read_plan};

@@ -1,12 +1,10 @@
-ghost use Rattle.std.specs.Prelude.{◌≡◌, ◌≤◌, IfOk, IfErr, Ok, Err};
-ghost use Rattle.blob_digest.specs.Digest.{DigestValue};
+ghost use Rattle.std.specs.Prelude.{◌≡◌, ◌≤◌, IfOk, IfErr, Err};
 ghost use Rattle.plan.specs.Faults.{IsPlanFault};
 ghost use Rattle.plan.specs.Record.{IsRecordFault, RecordValue, names_of};
 ghost use Rattle.plan.specs.Values.{PlanValue};
 ghost use Rattle.plan.specs.declared.error.PlanError.{PlanError};
-ghost use Rattle.text_verifier.specs.Refused.{AnswersUnlessMemory, IsDigestRefusal, IsPlanRefusal};
-ghost use Rattle.text_verifier.specs.Refused.{IsRecordRefusal};
-ghost use Rattle.text_verifier.specs.Texts.{HasPlan, HasRecord, IsDigestText};
+ghost use Rattle.text_verifier.specs.Refused.{AnswersUnlessMemory, IsPlanRefusal, IsRecordRefusal};
+ghost use Rattle.text_verifier.specs.Texts.{HasPlan, HasRecord};
 
 use crate::error::TextError;
 use blob_digest::Digest;
@@ -20,22 +18,6 @@ pub struct Digests {
     pub sources: Digest,
     /// That of the root that is claimed.
     pub claim: Digest,
-}
-
-/// The digests of these texts. That of the sources is read first.
-pub fn read_digests(sources: &[u8], claim: &[u8]) -> Result<Digests, TextError>
-    ensures sources { IfOk result (λ digests. IsDigestText sources.now digests.sources) }
-    ensures claim { IfOk result (λ digests. IsDigestText claim.now digests.claim) }
-    // The digests whose texts these are are answered.
-    ensures only { (s c : DigestValue) → IsDigestText sources.now s → IsDigestText claim.now c
-        → result ≡ Ok (record { sources = s; claim = c }) }
-    ensures fault { IfErr result (IsDigestRefusal sources.now claim.now) }
-{
-    match (Digest::read_text(sources), Digest::read_text(claim)) {
-        (Err(fault), _) => Err(TextError::Sources(fault)),
-        (Ok(_), Err(fault)) => Err(TextError::Claim(fault)),
-        (Ok(sources), Ok(claim)) => Ok(Digests { sources, claim }),
-    }
 }
 
 /// The plan of this text.
