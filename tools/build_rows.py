@@ -161,12 +161,12 @@ def rows_of_streams(builds):
 
 def rows_of_two_steps(builds):
     waits = 'n=0; : > "$1"; while [ ! -e "$2" ]; do n=$((n+1)); [ $n -le 3000000 ] || exit 1; done'
-    for jobs in (2, 1):
+    for jobs in (2, None):
         marks = [f"{builds.work}/mark-{jobs}-{it}" for it in "ab"]
         steps = [("one", [*SHELL, waits, "sh", *marks], [], ()), ("two", [*SHELL, waits, "sh", *reversed(marks)], [], ())]
         done, place = builds.build(builds.plan(steps, []), jobs=jobs)
-        name = f"two steps that wait for each other, {jobs} at once"
-        if jobs == 2:
+        name = f"two steps that wait for each other, {jobs or 'without --jobs one'} at once"
+        if jobs:
             builds.expect_built(name, done, place, EMPTY.text(), 2)
         else:
             builds.expect(name, done, place, "failed step one 103\n", 1)

@@ -60,15 +60,16 @@ class Builds:
     def one_step(self, words, reads=(), **command):
         return self.plan([("mk", words, ["out"], reads)], ["a out mk out"], **command)
 
-    def words(self, plan, sources=EMPTY.text(), jobs=1, spoil=lambda work: None, address=None, more=(), record="record"):
+    def words(self, plan, sources=EMPTY.text(), jobs=None, spoil=lambda work: None, address=None, more=(), record="record"):
         """The words that build a plan, and the folder of the plan and the record. The folder of the jobs is spoilt first."""
         self.count += 1
         place = f"{self.work}/{self.count}"
         os.makedirs(f"{place}/work")
         spoil(f"{place}/work")
         stores.write_file(f"{place}/plan", plan.encode())
+        at_once = ["--jobs", str(jobs)] if jobs else []
         return ["build", "--server", address or self.address, "--sources", sources, "--plan", f"{place}/plan",
-                "--record", f"{place}/{record}", "--work", f"{place}/work", "--jobs", str(jobs), *more], place
+                "--record", f"{place}/{record}", "--work", f"{place}/work", *at_once, *more], place
 
     def build(self, plan, *how, **named):
         """Builds a plan: the run, and the folder of the plan and the record."""

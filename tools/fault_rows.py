@@ -178,7 +178,7 @@ class Commands:
         work, noted = f"{place}/work-{number}", f"{place}/record-{number}"
         os.makedirs(work)
         words = ["build", "--server", self.server.address, "--sources", self.sources.text(), "--plan", f"{place}/plan"]
-        words += ["--record", noted, "--work", work, "--jobs", "1"]
+        words += ["--record", noted, "--work", work]
         done = harness.run(self.program, *words, seconds=SECONDS, env=fault and fault.environment())
         wrong = wrong_of(done, f"built {self.claim} steps 1\n".encode(), 0)
         left = read(noted) if os.path.exists(noted) else None

@@ -26,8 +26,8 @@ COMMANDS = {
                {"store": "store", "server": ADDRESS, "prefix": "/p", "timeout": "1"}, []),
     "put": ({"server": ADDRESS}, {"prefix": "/p", "timeout": "1"}, ["plan"]),
     "get": ({"server": ADDRESS}, {"prefix": "/p", "timeout": "1", "into": "tree"}, [EMPTY.text()]),
-    "build": ({"server": ADDRESS, "sources": EMPTY.text(), "plan": "plan", "record": "made", "work": "work", "jobs": "1"},
-              {"prefix": "/p", "timeout": "1"}, []),
+    "build": ({"server": ADDRESS, "sources": EMPTY.text(), "plan": "plan", "record": "made", "work": "work"},
+              {"prefix": "/p", "timeout": "1", "jobs": "1"}, []),
 }
 
 
@@ -119,6 +119,7 @@ def try_numbers(words):
     for jobs in ("0", "65", "00065"):
         words.refuse(f"--jobs {jobs}", 2, words_of("build", jobs=jobs), "--jobs")
     words.refuse("--jobs 0064, and no server", 3, words_of("build", jobs="0064"), ADDRESS)
+    words.refuse("no --jobs, and no server", 3, words_of("build"), ADDRESS)
 
 
 def try_order(words):

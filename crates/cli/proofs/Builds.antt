@@ -1,12 +1,15 @@
 -- What a build tells is that of some build of the plan, and why it tells nothing.
-use Rattle.std.proofs.Common.{◌≡◌, List, [], Result, Ok, Err, ℕ, inl, inr, subst, string_bytes}
-use Rattle.std.specs.Prelude.{codes}
-use Rattle.clap.specs.Words.{Row}
+use Rattle.std.proofs.Common.{◌≡◌, ◌<◌, List, [], Result, Ok, Err, Option, Some, None, ℕ, arith, inl, inr, refl, subst, string_bytes}
+use Rattle.std.specs.Prelude.{IsSome, codes, unwrap_or}
+use Rattle.std.specs.Option.{option_map_or}
+use Rattle.clap.specs.Words.{Row, first_of}
 use Rattle.command_lines.specs.CommandLine.{option_text}
 use Rattle.commands.specs.Faults.{OrMemory}
+use Rattle.commands.specs.Options.{decimal_number}
 use Rattle.commands.specs.Places.{FailsOver, FailsToConnect, IsConnected, IsToldOver, puts_too}
 use Rattle.commands.proofs.Placed.{of_options, opened_to}
 use Rattle.commands.specs.Printed.{IsOfOptions}
+use Rattle.commands.specs.Words.{AllValid, IsUpTo}
 use Rattle.commands.specs.World.{Sight}
 use Rattle.commands.specs.declared.error.CommandError.{CommandError}
 use Rattle.std.proofs.Math.Logic.{∥∥₁_map}
@@ -25,7 +28,7 @@ use Rattle.remote.specs.Line.{ConnectionValue}
 use Rattle.worker.specs.Outcomes.{Yields, YieldsNoMore}
 use Rattle.worker.specs.declared.error.Refusal.TheVariants.{Run}
 use Rattle.worker.specs.declared.runner.RunError.TheVariants.{Device}
-use Rattle.cli.specs.Built.{Below, HoldsRoot, IsReadOf, IsToldBy, IsToldOf, StartsBuild, TellsAsked, jobs_asked}
+use Rattle.cli.specs.Built.{Below, HoldsRoot, IsReadOf, IsToldBy, IsToldOf, StartsBuild, TellsAsked, build_words, jobs_asked}
 use Rattle.cli.specs.declared.building.Asked.{Asked}
 use Rattle.cli.specs.Refused.{FailsBuild, FailsTelling, ReachesServer, StopsAtProcess, TellsProcess}
 use Rattle.cli.specs.Running.{EndsFor}
@@ -63,6 +66,14 @@ module _ {P Q : Telling → Type 0} (f : (told : Telling) → P told → Q told)
   stops_by e h =
       let came : Result (Told Global) (BuildPlanError Global) = Err (Step (record { step = h.step; refusal = Run (Device h.program h.cause) })) in
       record { step = h.step; program = h.program; cause = h.cause; ended = by_source came h.ended; told = h.told }
+
+-- at least one job
+some_at_once : (said : Option (List ℕ)) → (IsSome said → IsUpTo 64 (unwrap_or said []) × (0 < decimal_number (unwrap_or said []))) → 0 < option_map_or decimal_number said 1
+some_at_once None valid = omega arith
+some_at_once (Some text) valid = (valid refl).1
+
+pub some_jobs : (options : List Row) → AllValid (build_words options) → 0 < jobs_asked options
+some_jobs options words = some_at_once (first_of (codes "jobs") options) words.0
 
 -- the server was at fault, or memory ran out
 pub over_fails : (start : ConnectionValue) (address : List ℕ) (yields : Yields) (most : ℕ) (plan : PlanValue) (sources : DigestValue) (e : CommandError)

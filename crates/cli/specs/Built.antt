@@ -13,12 +13,12 @@ use Rattle.builder.specs.declared.telling.Told.{Told}
 use Rattle.builder.specs.declared.telling.Told.TheVariants.{Built, Failed}
 use Rattle.clap.specs.Words.{Row}
 use Rattle.command_lines.specs.CommandLine.{option_text}
-use Rattle.commands.specs.Options.{IsServerOf, decimal_number}
+use Rattle.commands.specs.Options.{IsServerOf, decimal_number, number_or}
 use Rattle.commands.specs.Places.{puts_too}
 use Rattle.commands.specs.Printed.{IsOfOptions}
 use Rattle.commands.specs.Refusal.{HasPlanRead}
 use Rattle.commands.specs.Told.{AppendsBeginning}
-use Rattle.commands.specs.Words.{AllValid, Check, IsUpTo, is_wanted, server_words}
+use Rattle.commands.specs.Words.{AllValid, Check, IsUpTo, is_wanted, server_words, where_said}
 use Rattle.commands.specs.World.{Sight}
 use Rattle.commands.specs.declared.ended.Ended.{Ended}
 use Rattle.commands.specs.declared.ended.Ended.TheVariants.{Done, No}
@@ -72,15 +72,16 @@ IsNoted sees options (Failed line why) = Unit {0}
 
 -- ---- what the options ask for
 
+-- so many steps may run at once, one where nothing is said of it
 abbrev pub jobs_asked : List Row → ℕ
-jobs_asked options = decimal_number (option_text options (codes "jobs"))
+jobs_asked options = number_or 1 options (codes "jobs")
 
-abbrev pub names_jobs : List Row → Check
-names_jobs options = is_wanted options (codes "jobs") (codes "a number from 1 to 64")
-    (λ text. IsUpTo 64 text × (0 < decimal_number text))
+abbrev pub may_have_jobs : List Row → Check
+may_have_jobs options = where_said options (codes "jobs") (is_wanted options (codes "jobs")
+    (codes "a number from 1 to 64") (λ text. IsUpTo 64 text × (0 < decimal_number text)))
 
 abbrev pub build_words : List Row → List Check
-build_words options = names_jobs options ∷ server_words options
+build_words options = may_have_jobs options ∷ server_words options
 
 -- the words are valid, and ask for the plan whose text was read, over the sources whose digest they
 -- spell

@@ -4,7 +4,7 @@ ghost use Rattle.std.specs.Io.KnownBytes.{Appends};
 ghost use Rattle.builder.specs.Faults.{IsRunnerFailure, fault_of};
 ghost use Rattle.clap.specs.Words.{found_of, rows_of};
 ghost use Rattle.cli.specs.Built.{BeginsBuild, HoldsRoot, IsNoted, IsReadOf, IsToldOf, PrintsBuild};
-ghost use Rattle.cli.specs.Built.{TellsAsked, ended_of, jobs_asked, told_line, names_jobs};
+ghost use Rattle.cli.specs.Built.{TellsAsked, ended_of, jobs_asked, may_have_jobs, told_line};
 ghost use Rattle.cli.specs.Refused.{FailsBuild, FailsFolder, FailsTelling, FailsToWrite};
 ghost use Rattle.cli.specs.Refused.{TellsProcess, process_cause};
 ghost use Rattle.cli.specs.Running.{EndsFor};
@@ -22,7 +22,7 @@ use crate::workplace::Workplace;
 use blob_digest::Digest;
 use builder::{BuildPlanError, Fault, Place, Told, fault_of, place_text, tell_build};
 use clap::ArgMatches;
-use command_lines::{is_set, text_of};
+use command_lines::{is_set, option_of, text_of};
 use commands::{
     Client, CommandError, Ended, Note, Origin, ProcessCause, ProcessFault, PutsToo, ServerOptions,
     World, number_in, open, plan_in_file, print_all, read_digest, read_server, unlike,
@@ -51,12 +51,14 @@ struct Asked {
     work: String,
 }
 
-/// The number of jobs that the words give.
+/// The number of jobs that the words give, or one.
 fn read_jobs(alloc: Global, matches: &ArgMatches<'_>) -> Result<usize, CommandError>
     ensures found { IfOk result (λ jobs. jobs ≡ jobs_asked (rows_of (found_of matches.now))) }
-    ensures checked { IsCheckedBy (names_jobs (rows_of (found_of matches.now)) ∷ []) result }
+    ensures checked { IsCheckedBy (may_have_jobs (rows_of (found_of matches.now)) ∷ []) result }
 {
-    let text = text_of(matches, "jobs");
+    let Some(text) = option_of(matches, "jobs") else {
+        return Ok(1);
+    };
     match number_in(text) {
         Some(jobs) if 0 < jobs && jobs <= GREATEST_JOBS => Ok(jobs as usize),
         _ => Err(unlike(alloc, "jobs", "a number from 1 to 64", text)?),

@@ -27,17 +27,16 @@ Status:
 const SERVE: &str = "\
 Serve a cache over HTTP
 
-Usage: buildcache serve [OPTIONS] --listen <ADDR> --connections <N> --limit <BYTES> \
---result-limit <BYTES>
+Usage: buildcache serve [OPTIONS] --listen <ADDR> --limit <BYTES> --result-limit <BYTES>
 
 Options:
       --listen <ADDR>         Where to listen, HOST:PORT; port 0 is any that is free
-      --connections <N>       How many connections to serve before it ends
       --limit <BYTES>         How many bytes the blobs may have together; one has at most 16777216
       --result-limit <BYTES>  The same of the results, and 64 for each
       --prefix <P>            What stands before /cas and /ac
       --idle <SECONDS>        How long a client may be silent (60; 0: for ever)
       --at-once <N>           How many connections to serve at a time (1; at most 1024)
+      --connections <N>       How many connections to serve before it ends (without it: no end)
   -h, --help                  Print help
 ";
 
@@ -100,7 +99,7 @@ const BUILD: &str = "\
 Build a plan: run its steps, or take their results from the server, and write the record
 
 Usage: buildcache build [OPTIONS] --server <ADDR> --sources <DIGEST> --plan <FILE> \
---record <FILE> --work <FOLDER> --jobs <J>
+--record <FILE> --work <FOLDER>
 
 Options:
       --server <ADDR>      The server, HOST:PORT
@@ -110,7 +109,7 @@ Options:
       --plan <FILE>        The plan
       --record <FILE>      Where the record of the build is written
       --work <FOLDER>      An empty folder, in which each step runs in a folder of its own
-      --jobs <J>           How many steps run at once (1 to 64)
+      --jobs <J>           How many steps run at once (1; at most 64)
       --verbose            Show what the steps write to their standard error, as on a terminal
   -h, --help               Print help
 ";

@@ -18,13 +18,18 @@ pub trait Workplace: World {
     type Steps: Runner<Global> + Drop;
 
     ghost use Rattle.cli.specs.Built.{Below};
+    ghost use Rattle.processes.specs.declared.disk.ChildErrors.{ChildErrors};
 
     /// What may come of a step below a folder.
     ghost below: { Below };
 
+    /// What becomes of the errors of the steps' processes.
+    ghost errors_in: { Self.Steps → ChildErrors };
+
     /// What runs steps below a folder.
     fn steps(&self, work: String, errors: ChildErrors) -> Self::Steps
-        ensures { YieldsNoMore (Self.Steps.yields result) (below (string_bytes work)) };
+        ensures yields { YieldsNoMore (Self.Steps.yields result) (below (string_bytes work)) }
+        ensures errors { errors_in result ≡ errors };
 }
 
 impl<'r, R> Workplace for System<'r, R>
@@ -36,12 +41,13 @@ where
 
     ghost below = { may_yield (⟦<Disk<'r, R> as Workshop>⟧.works) };
 
+    ghost errors_in = { λ steps. errors_of (workshop_of steps) };
+
     fn steps(&self, work: String, errors: ChildErrors) -> ProcessRunner<Disk<'r, R>, Global>
         ensures work { work_of result ≡ string_bytes work }
         ensures below { YieldsNoMore
             (may_yield (⟦<Disk<'r, R> as Workshop>⟧.works) (work_of result))
             (may_yield (⟦<Disk<'r, R> as Workshop>⟧.works) (string_bytes work)) }
-        ensures errors { errors_of (workshop_of result) ≡ errors }
     {
         ProcessRunner::new(Disk::new(self.0, errors), work)
     }

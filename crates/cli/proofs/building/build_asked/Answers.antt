@@ -1,12 +1,17 @@
-use Rattle.std.proofs.Common.{◌∙◌, [], refl, subst}
+use Rattle.std.proofs.Common.{◌<◌, ◌∙◌, [], refl, subst, sym}
 use Rattle.clap.specs.Words.{found_of, rows_of}
 use Rattle.remote.specs.Remote.{connection_of}
 use Rattle.commands.proofs.Exits.{err_weaker, exit_by}
 use Rattle.std.proofs.lemmas.Result.{IfOk-weaker}
-use Rattle.cli.proofs.Builds.{connect_fails, reaches, telling_fails, tells_of}
+use Rattle.cli.proofs.Builds.{connect_fails, reaches, some_jobs, telling_fails, tells_of}
 use Rattle.cli.specs.Refused.{FailsBuild, FailsFolder}
 use Rattle.cli.specs.Refused.FailsBuild.{in_folder, in_place}
 use Rattle.cli.proofs.building.build_asked.Goals as goal
+
+pub build_in_folder-told-requires-clause-some : goal.build_in_folder-told-requires-clause-some
+build_in_folder-told-requires-clause-some g c =
+    let options = rows_of (found_of c.args.matches.now) in
+    subst (λ n. 0 < n) (sym c.requires.read.jobs) (some_jobs options c.requires.read.asks.words)
 
 pub returns-in_err-remote-clause-refused : goal.returns-in_err-remote-clause-refused
 returns-in_err-remote-clause-refused g c =

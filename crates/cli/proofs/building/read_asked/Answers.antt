@@ -5,7 +5,7 @@ use Rattle.commands.proofs.Checking.{fails_in}
 use Rattle.commands.proofs.Exits.{exit_by}
 use Rattle.commands.proofs.Refused.{or_memory}
 use Rattle.commands.specs.Words.{FailsFirst, server_words}
-use Rattle.cli.specs.Built.{build_words, names_jobs}
+use Rattle.cli.specs.Built.{build_words, may_have_jobs}
 use Rattle.cli.specs.Refused.{FailsBuild}
 use Rattle.cli.specs.Refused.FailsBuild.{in_digest, in_memory, in_plan, in_words}
 use Rattle.cli.proofs.building.read_asked.Goals as goal
@@ -16,7 +16,7 @@ returns-in_err-jobs-clause-refused g c =
     let options = rows_of (found_of c.args.matches.now) in
     exit_by (FailsBuild sees g.W.Workplace.below options) _ c.from_residual.ensures.1
     (or_memory (FailsFirst (build_words options)) (FailsBuild sees g.W.Workplace.below options) _ in_memory in_words
-    (fails_in [] (names_jobs options ∷ []) (server_words options) _ tt c.in_err-jobs.ensures.checked))
+    (fails_in [] (may_have_jobs options ∷ []) (server_words options) _ tt c.in_err-jobs.ensures.checked))
 
 pub returns-in_err-server-clause-refused : goal.returns-in_err-server-clause-refused
 returns-in_err-server-clause-refused g c =
@@ -24,7 +24,7 @@ returns-in_err-server-clause-refused g c =
     let options = rows_of (found_of c.args.matches.now) in
     exit_by (FailsBuild sees g.W.Workplace.below options) _ c.from_residual-in_err-server.ensures.1
     (or_memory (FailsFirst (build_words options)) (FailsBuild sees g.W.Workplace.below options) _ in_memory in_words
-    (fails_in (names_jobs options ∷ []) (server_words options) [] _ (c.in_ok-jobs.ensures.checked.0, tt) c.in_err-server.ensures.checked))
+    (fails_in (may_have_jobs options ∷ []) (server_words options) [] _ (c.in_ok-jobs.ensures.checked.0, tt) c.in_err-server.ensures.checked))
 
 pub returns-in_err-sources-clause-refused : goal.returns-in_err-sources-clause-refused
 returns-in_err-sources-clause-refused g c =
