@@ -48,6 +48,7 @@ where
         ensures below { YieldsNoMore
             (may_yield (⟦<Disk<'r, R> as Workshop>⟧.works) (work_of result))
             (may_yield (⟦<Disk<'r, R> as Workshop>⟧.works) (string_bytes work)) }
+        ensures errors { errors_of (workshop_of result) ≡ errors }
     {
         ProcessRunner::new(Disk::new(self.0, errors), work)
     }
