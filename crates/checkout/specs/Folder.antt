@@ -1,5 +1,5 @@
 -- A folder that was empty, and what was written into it since.
-use Rattle.std.specs.Prelude.{ℕ, List, [], ◌∷◌, ◌++◌, Bool}
+use Rattle.std.specs.Prelude.{ℕ, List, [], ◌++◌, Bool}
 use Rattle.std.specs.declared.io.Error.{Error}
 
 -- what was written at a path: a folder, a file with its bytes and whether it is a program, or a

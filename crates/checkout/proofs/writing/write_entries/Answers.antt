@@ -1,5 +1,5 @@
 -- The entries so far, and the next one.
-use Rattle.std.proofs.Common.{rules, arith, ◌≡◌, ◌+◌, ◌≤◌, [], ◌∷◌, length, ap, subst, refl, ◌∙◌, inl}
+use Rattle.std.proofs.Common.{rules, arith, ◌≡◌, ◌∷◌, length, ap, subst, refl, ◌∙◌, inl}
 use Rattle.std.specs.Prelude.{string_bytes}
 use Rattle.std.proofs.lemmas.Result.{err_from_is_err_and}
 use Rattle.blob_source.proofs.Asking.{ok_no_error}
