@@ -22,11 +22,10 @@ import time
 from typing import NamedTuple
 
 import harness
-import server_rows
 import stores
 from messages import EMPTY, Digest, File, action_message, command_message, directory_message, result_message, tree_message
 from harness import get, put
-from server_rows import ABSENT, BAD, DONE, FEED, found
+from server_streams import ABSENT, BAD, DIGITS, DONE, FEED, NINE, RESULT, TREE, TREE_HASH, found
 
 TOOLS = os.path.dirname(os.path.realpath(__file__))
 KINDS = {
@@ -108,10 +107,10 @@ class Commands:
     def lay_out(self):
         """A folder to be put, a large blob, and a build of one step that reads its sources: its blobs in a store folder and in
         the server."""
-        nine = File(Digest.of(server_rows.NINE), is_executable=False)
+        nine = File(Digest.of(NINE), is_executable=False)
         command = command_message(["/bin/true"], ["out"])
         sources, given = {"a": nine, "b": {"a": nine}}, {"in": {"a": nine}}
-        blobs = [server_rows.NINE, command, action_message(Digest.of(command)), tree_message({"a": nine})]
+        blobs = [NINE, command, action_message(Digest.of(command)), tree_message({"a": nine})]
         blobs += [directory_message(it) for it in (sources, sources["b"], given, given["in"], {"made": {"a": nine}})]
         action = action_message(Digest.of(command), Digest.of(directory_message(given)))
         self.sources, self.claim = Digest.of(blobs[4]), Digest.of(blobs[-1]).text()
@@ -125,7 +124,7 @@ class Commands:
         stores.write_file(f"{self.folder}/record", self.record)
         os.makedirs(f"{self.folder}/tree/b")
         for name in ("a", "b/a"):
-            stores.write_file(f"{self.folder}/tree/{name}", server_rows.NINE)
+            stores.write_file(f"{self.folder}/tree/{name}", NINE)
 
     def run(self, fault, *words):
         return harness.run(self.program, *words, seconds=SECONDS, env=fault.environment())
@@ -143,7 +142,7 @@ class Commands:
         into = f"{self.folder}/tree-{os.path.basename(fault.told)}-{fault.number}"
         words = ["get", "--server", self.server.address, "--into", into, self.sources.text()]
         wrong = wrong_of(done := self.run(fault, *words), b"", 0)
-        whole, left = {"a": server_rows.NINE, "b": None, "b/a": server_rows.NINE}, {}
+        whole, left = {"a": NINE, "b": None, "b/a": NINE}, {}
         for name, entry in harness.standing_at(into).items():
             left[name] = entry and entry[0]
         shutil.rmtree(into, ignore_errors=True)
@@ -188,12 +187,12 @@ class Commands:
 
     def all(self):
         server, store = ["--server", self.server.address], ["--store", f"{self.folder}/store"]
-        nine, large = Digest.of(server_rows.NINE).text(), Digest.of(LARGE).text()
+        nine, large = Digest.of(NINE).text(), Digest.of(LARGE).text()
         yes, no = f"yes {self.claim} steps 1\n", f"no root cause root-differs {self.claim}\n"
         return {
             "put of a file": self.asked(f"{nine}\n".encode(), 0, "put", *server, f"{self.folder}/tree/a"),
             "put of a folder": self.asked(f"{self.sources.text()}\n".encode(), 0, "put", *server, f"{self.folder}/tree"),
-            "get": self.asked(server_rows.NINE, 0, "get", *server, nine),
+            "get": self.asked(NINE, 0, "get", *server, nine),
             "get of many bytes": self.asked(LARGE, 0, "get", *server, large),
             "get of a blob that isn't there": self.asked(b"", 1, "get", *server, f"{FEED}/1"),
             "get of a tree": self.tree,
@@ -227,13 +226,13 @@ KEY = "1" * 64
 LARGE_PATH = f"/cas/{Digest.of(LARGE).hash}"
 EXCHANGES = [
     (
-        put(f"/cas/{server_rows.DIGITS}", server_rows.NINE) + get(f"/cas/{server_rows.DIGITS}")
-        + put(f"/cas/{server_rows.TREE_HASH}", server_rows.TREE) + put(f"/ac/{KEY}", server_rows.RESULT) + get(f"/ac/{KEY}"),
-        DONE + found(server_rows.NINE) + DONE + DONE + found(server_rows.RESULT),
+        put(f"/cas/{DIGITS}", NINE) + get(f"/cas/{DIGITS}")
+        + put(f"/cas/{TREE_HASH}", TREE) + put(f"/ac/{KEY}", RESULT) + get(f"/ac/{KEY}"),
+        DONE + found(NINE) + DONE + DONE + found(RESULT),
     ),
-    (put(f"/cas/{FEED}", server_rows.NINE) + get(f"/cas/{FEED}") + put(f"/ac/{KEY}", b"\xff"), BAD + ABSENT + BAD),
+    (put(f"/cas/{FEED}", NINE) + get(f"/cas/{FEED}") + put(f"/ac/{KEY}", b"\xff"), BAD + ABSENT + BAD),
     (put(LARGE_PATH, LARGE) + get(LARGE_PATH), DONE + found(LARGE)),
-    (put(f"/pin/{KEY}", b"") + put(f"/unpin/{KEY}", b"") + get(f"/ac/{KEY}"), DONE + DONE + found(server_rows.RESULT)),
+    (put(f"/pin/{KEY}", b"") + put(f"/unpin/{KEY}", b"") + get(f"/ac/{KEY}"), DONE + DONE + found(RESULT)),
 ]
 
 
