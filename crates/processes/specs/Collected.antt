@@ -162,7 +162,7 @@ WasCollected works ended folder q =
     × IsOutputAt works ended (place_in folder (path_text q)) o blobs)
 
 -- This is so at one of the paths below a folder, and at each before it nothing stood, or an output.
-pub record IsFirst {R C E : Type 0} (works : Works R C E) (ended : E) (folder : List ℕ)
+pub record IsFirstPath {R C E : Type 0} (works : Works R C E) (ended : E) (folder : List ℕ)
     (paths : List (List (List ℕ))) (Is : List ℕ → Type 0) (path : List (List ℕ)) : Type 0 where
   pub before : List (List (List ℕ))
   pub after : List (List (List ℕ))
@@ -173,7 +173,7 @@ pub record IsFirst {R C E : Type 0} (works : Works R C E) (ended : E) (folder : 
 abbrev pub IsFirstBad : {R C E : Type 0} → Works R C E → E → List ℕ → List (List (List ℕ))
     → List (List ℕ) → Type 0
 IsFirstBad works ended folder paths path =
-    IsFirst works ended folder paths (HasNoOutput works ended) path
+    IsFirstPath works ended folder paths (HasNoOutput works ended) path
 
 -- ---- why nothing is collected
 
@@ -196,8 +196,8 @@ pub record MakesNoTree {R C E : Type 0} (works : Works R C E) (ended : E) (place
   pub folder : IsFolderAt works ended blobs place (stands_at tree)
   pub none : (m : TreeValue) → IsTree m → directories_of m ≡ first_visits tree → ⊥
 
--- The error by which a walk below a place ends: a call that looks there was refused by it, or a name
--- was listed twice.
+-- The error by which a walk below a place ends: a call that looks there was refused by it, or a
+-- name was listed twice.
 abbrev pub IsUnwalked : {R C E : Type 0} → Works R C E → E → Error → List ℕ → Type 0
 IsUnwalked works ended error place =
     ((path : List Name) × works.unread ended (place_at place path) error)
@@ -213,7 +213,7 @@ IsUnreadAt works ended error place = IsUnwalked works ended error place
 abbrev pub IsUnread : {R C E : Type 0} → Works R C E → E → List ℕ → List (List (List ℕ)) → Error
     → Type 0
 IsUnread works ended folder paths error =
-    ((path : List (List ℕ)) × IsFirst works ended folder paths (IsUnreadAt works ended error) path)
+    ((path : List (List ℕ)) × IsFirstPath works ended folder paths (IsUnreadAt works ended error) path)
     ⊎ ((error_kind error ≡ InvalidData) × (AreApart paths → ⊥))
 
 -- ---- one path more

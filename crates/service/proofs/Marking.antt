@@ -7,7 +7,7 @@ use Rattle.std.specs.Prelude.{IfSome, IsTrue, option_map}
 use Rattle.std.specs.List.{AllByRecursion, Contains}
 use Rattle.service.specs.Member.{IsLetGo, MemberValue, let_go, marked_by}
 use Rattle.service.specs.Sockets.{Stays}
-use Rattle.service.specs.Together.{member_at, AreListed, AreSame, AreSameButHeld, IsFree, OthersAreSame}
+use Rattle.service.specs.Together.{member_at, HeldAreListed, AreSame, AreSameButHeld, IsFree, OthersAreSame}
 use Rattle.service.specs.declared.sockets.Ready.{Ready}
 use Rattle.service.specs.declared.turn.Turn.{Turn}
 use Rattle.service.specs.declared.turn.Turn.TheVariants.{Held}
@@ -103,12 +103,12 @@ module _ {S : Type 0} where
   abbrev pub IsListed : List ℕ → List (ℕ × MemberValue S) → ℕ → Type 0
   IsListed listed members k = IfSome (member_at members k) (λ m. IsTrue m.held → Contains listed k)
 
-  pub listed_same : (listed listed' : List ℕ) (l m : List (ℕ × MemberValue S)) → listed' ≡ listed → AreSame l m → AreListed listed l → AreListed listed' m
+  pub listed_same : (listed listed' : List ℕ) (l m : List (ℕ × MemberValue S)) → listed' ≡ listed → AreSame l m → HeldAreListed listed l → HeldAreListed listed' m
   listed_same listed listed' l m e same are k =
       subst (λ o. IfSome o (λ n. IsTrue n.held → Contains listed' k)) (sym (same.0 k)) (subst (λ ks. IfSome (member_at l k) (λ n. IsTrue n.held → Contains ks k)) (sym e) (are k))
 
   -- the others are as they were, and this one is listed
-  pub listed_but : (listed listed' : List ℕ) (k : ℕ) (l m : List (ℕ × MemberValue S)) → OthersAreSame k l m → ((j : ℕ) → Contains listed j → Contains listed' j) → IsListed listed' m k → AreListed listed l → AreListed listed' m
+  pub listed_but : (listed listed' : List ℕ) (k : ℕ) (l m : List (ℕ × MemberValue S)) → OthersAreSame k l m → ((j : ℕ) → Contains listed j → Contains listed' j) → IsListed listed' m k → HeldAreListed listed l → HeldAreListed listed' m
   listed_but listed listed' k l m others more own are j = by (eqb_tells j k)
     where
       other : (o : Option (MemberValue S)) → IfSome o (λ n. IsTrue n.held → Contains listed j) → IfSome o (λ n. IsTrue n.held → Contains listed' j)
@@ -132,12 +132,12 @@ module _ {S : Type 0} where
       by (Some n) h = λ is. absurd (not (h is))
 
   -- after its turn it waits for no others
-  pub turn_listed : (listed listed' : List ℕ) (k : ℕ) (l m : List (ℕ × MemberValue S)) (t u : Turn) → OthersAreSame k l m → listed' ≡ listed → IfSome (member_at m k) (λ n. IsTrue n.held → t ≡ Held) → t ≡ u → (u ≡ Held → ⊥) → AreListed listed l → AreListed listed' m
+  pub turn_listed : (listed listed' : List ℕ) (k : ℕ) (l m : List (ℕ × MemberValue S)) (t u : Turn) → OthersAreSame k l m → listed' ≡ listed → IfSome (member_at m k) (λ n. IsTrue n.held → t ≡ Held) → t ≡ u → (u ≡ Held → ⊥) → HeldAreListed listed l → HeldAreListed listed' m
   turn_listed listed listed' k l m t u others same told is not =
       listed_but listed listed' k l m others (λ j there. subst (λ ks. Contains ks j) (sym same) there) (free_listed listed' k m t told (λ held. not (sym is ∙ held)))
 
   -- none of them is held any more
-  pub none_listed : (spoke : ℕ → S → List ℕ → List ℕ → Type 0) (time : ℕ) (listed : List ℕ) (l m : List (ℕ × MemberValue S)) → AreSameButHeld spoke time l m → AllByRecursion (λ k. IsFree time (member_at m k)) listed → AreListed listed l → AreListed [] m
+  pub none_listed : (spoke : ℕ → S → List ℕ → List ℕ → Type 0) (time : ℕ) (listed : List ℕ) (l m : List (ℕ × MemberValue S)) → AreSameButHeld spoke time l m → AllByRecursion (λ k. IsFree time (member_at m k)) listed → HeldAreListed listed l → HeldAreListed [] m
   none_listed spoke time listed l m same free are k = at (member_at m k) refl (same.0 k)
     where
       Goal : Option (MemberValue S) → Type 0

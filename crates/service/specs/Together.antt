@@ -1,6 +1,6 @@
 -- Open connections, each under its number, and a server.
-use Rattle.std.specs.Prelude.{◌≡◌, ℕ, ◌+◌, ◌<◌, ◌≤◌, ◌⊎◌, ◌&&◌, nat_le, min, Bool, true, false, List, []}
-use Rattle.std.specs.Prelude.{◌∷◌, ◌++◌, length, Option, Some, None, option_map, IfSome, IsTrue}
+use Rattle.std.specs.Prelude.{◌≡◌, ℕ, ◌+◌, ◌<◌, ◌≤◌, ◌⊎◌, ◌&&◌, nat_le, min, Bool, true, false, List}
+use Rattle.std.specs.Prelude.{[], ◌∷◌, ◌++◌, length, Option, Some, None, option_map, IfSome, IsTrue}
 use Rattle.std.specs.List.{AllByRecursion, Contains}
 use Rattle.std.specs.Option.{unwrap_or}
 use Rattle.std.specs.Ordering.{nat_cmp}
@@ -102,8 +102,8 @@ abbrev pub IsFree : {S : Type 0} → ℕ → Option (MemberValue S) → Type 0
 IsFree now member = IfSome member (λ m. (m.held ≡ false) × (m.moved ≡ now))
 
 -- each that waits for others is listed
-abbrev pub AreListed : {S : Type 0} → List ℕ → List (ℕ × MemberValue S) → Type 0
-AreListed listed members =
+abbrev pub HeldAreListed : {S : Type 0} → List ℕ → List (ℕ × MemberValue S) → Type 0
+HeldAreListed listed members =
     (k : ℕ) → IfSome (member_at members k) (λ m. IsTrue m.held → Contains listed k)
 
 -- the same connections, for which these events are noted

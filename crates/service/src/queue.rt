@@ -1,5 +1,6 @@
 //! Who has something to do, and who waits for others.
-ghost use Rattle.std.specs.Prelude.{◌≡◌, ◌||◌, ℕ, [], ◌∷◌, IfSome, OnOk, length, min, option_map, true};
+ghost use Rattle.std.specs.Prelude.{◌≡◌, ◌||◌, ℕ, [], ◌∷◌, IfSome, OnOk, length, min, option_map};
+ghost use Rattle.std.specs.Prelude.{true};
 ghost use Rattle.std.specs.List.{AllByRecursion, Contains, list_any};
 ghost use Rattle.std.specs.Option.{is_none, unwrap_or};
 ghost use Rattle.service.specs.Member.{IsLetGo, deadline_at, roused};

@@ -1,9 +1,9 @@
 //! A round: a turn of each that has something to do.
-ghost use Rattle.std.specs.Prelude.{◌≡◌, ◌==◌, ◌&&◌, ℕ, [], None, IfSome, IsTrue, min, nat_le, not, true};
-ghost use Rattle.std.specs.Prelude.{if◌then◌else◌};
+ghost use Rattle.std.specs.Prelude.{◌≡◌, ◌==◌, ◌&&◌, ℕ, [], None, IfSome, IsTrue, min, nat_le, not};
+ghost use Rattle.std.specs.Prelude.{if◌then◌else◌, true};
 ghost use Rattle.std.specs.Option.{option_map_or, unwrap_or};
 ghost use Rattle.service.specs.Member.{deadline_at, end_of, load_after};
-ghost use Rattle.service.specs.Together.{AreFull, AreListed, AreSame, HoldAlone, LeavesPlaced};
+ghost use Rattle.service.specs.Together.{AreFull, HeldAreListed, AreSame, HoldAlone, LeavesPlaced};
 ghost use Rattle.service.specs.Together.{LeavesTogether, MovesOnAt, member_at};
 
 use crate::load::{Leave, is_too_much};
@@ -31,8 +31,8 @@ impl<S: Peer + Drop> Together<S> {
         ensures places { LeavesPlaced N.places (sockets.old, self.old.members.entries)
             (sockets.new, self.new.members.entries) }
         // Who waits for others is listed, and goes on once less is held.
-        ensures listed { AreListed self.old.held.items self.old.members.entries
-            → AreListed self.new.held.items self.new.members.entries }
+        ensures listed { HeldAreListed self.old.held.items self.old.members.entries
+            → HeldAreListed self.new.held.items self.new.members.entries }
         ensures goes { IsTrue self.old.scales.eased → self.new.held.items ≡ [] }
     {
         let spare = mem::replace(&mut self.spare, Vec::new(rt.alloc()));
@@ -65,8 +65,8 @@ impl<S: Peer + Drop> Together<S> {
             (self.old.members.entries, server.old) (self.new.members.entries, server.new) }
         ensures places { LeavesPlaced N.places (sockets.old, self.old.members.entries)
             (sockets.new, self.new.members.entries) }
-        ensures listed { AreListed self.old.held.items self.old.members.entries
-            → AreListed self.new.held.items self.new.members.entries }
+        ensures listed { HeldAreListed self.old.held.items self.old.members.entries
+            → HeldAreListed self.new.held.items self.new.members.entries }
         ensures eased { IsTrue self.old.scales.eased → IsTrue self.new.scales.eased }
     {
         let Some((turn, was_held)) = self.advance(server, number, now) else {

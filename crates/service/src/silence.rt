@@ -2,8 +2,8 @@
 ghost use Rattle.std.specs.Prelude.{◌≡◌, ◌+◌, ◌<◌, ◌≤◌, ◌⊎◌, IfErr, IfOk, IfSome, IsSome, Some};
 ghost use Rattle.std.specs.Prelude.{Bool, IsTrue, OnOk, false, length, nat_le, true};
 ghost use Rattle.service.specs.Member.{IsDeadline};
-ghost use Rattle.service.specs.Together.{AreFull, AreHeavyInTime, HoldLittle, LeavesPlaced, LeavesTogether};
-ghost use Rattle.service.specs.Together.{MayEndAt, OthersAreSame};
+ghost use Rattle.service.specs.Together.{AreFull, AreHeavyInTime, HoldLittle, LeavesPlaced};
+ghost use Rattle.service.specs.Together.{LeavesTogether, MayEndAt, OthersAreSame};
 ghost use Rattle.service.specs.Together.{SparesInTime, WakesInTime};
 ghost use Rattle.service.specs.Together.{first_deadline, member_at};
 
@@ -15,8 +15,8 @@ use log::Log;
 use std::alloc::Global;
 
 impl<S: Peer + Drop> Together<S> {
-    /// Ends the connections that were silent for too long by this time, one after another, as long
-    /// as others wait for memory also those that hold much. Before the next wake there is none else.
+    /// Ends the connections that were silent for too long by this time, one after another. As long
+    /// as others wait for memory, those that hold much may be silent for less.
     #[tactic(auto, using(crate::proofs::Keeping::keeps_nowhere, crate::proofs::Keeping::keeps_further, crate::proofs::Places::placed_nowhere, crate::proofs::Waking::spares_all))]
     pub(crate) fn sweep<R: Log, N: Sockets<Stream = S>>(
         &mut self,

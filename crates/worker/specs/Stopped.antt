@@ -12,8 +12,8 @@ use Rattle.worker.specs.declared.error.Refusal.TheVariants as refusals
 use Rattle.worker.specs.declared.runner.RunError.TheVariants as children
 use Rattle.worker.specs.declared.error.BuildError.{BuildError}
 use Rattle.worker.specs.declared.watching.Progress.{Progress}
-use Rattle.worker.specs.Calls.{running, Call, started, ran, lost, came_of, Leads, IsLed, IsStartable}
-use Rattle.worker.specs.Calls.{IsLeastStartable, HasNoneStartable, AreTurns, LeavesNone}
+use Rattle.worker.specs.Calls.{running, Call, started, ran, lost, came_of, Leads, IsLed}
+use Rattle.worker.specs.Calls.{IsStartable, IsLeastStartable, HasNoneStartable, AreTurns, LeavesNone}
 use Rattle.worker.specs.Layout.{IsLayoutOf}
 use Rattle.worker.specs.Outcomes.{Yields, MayComeTo, IsYielded, CanBeTakenFor}
 use Rattle.worker.specs.Refusals.{IsLayoutFault}
@@ -34,10 +34,10 @@ abbrev pub HasBegun : EngineValue → ℕ → Type 0
 HasBegun e i = HasJobOf e i (λ id j. Unit {0}) ⊎ IsSome (finished_in i e)
 
 -- A step is refused: the engine doesn't start it, though it could be, or doesn't take what its job
--- came to; or the input of its job isn't laid out; or it is, and its command doesn't name its program
--- from the root; or its job's child may come to nothing, as what stands at this path is no output, or
--- as the process of this program fails by this cause. That the store failed, or that memory ran out,
--- is told of a step that has begun.
+-- came to; or the input of its job isn't laid out; or it is, and its command doesn't name its
+-- program from the root; or its job's child may come to nothing, as what stands at this path is no
+-- output, or as the process of this program fails by this cause. That the store failed, or that
+-- memory ran out, is told of a step that has begun.
 abbrev pub StopsStep : {A : Type 0} → Yields → Telling → EngineValue → ℕ → Refusal A → Type 0
 StopsStep yields t e i (refusals.Engine why) = (IsStartable e i × IsStartFault t.blobs e i why)
     ⊎ HasJobOf e i (λ id j.
@@ -93,8 +93,8 @@ IsRefusedTurn most before whole at i r (ran id d v ∷ []) =
     first_step (jobs_after [] whole) ≡ Some i
 IsRefusedTurn most before whole at i r begun = ⊥
 
--- After whole turns the turn of a step of the plan was begun, and the step is refused; and then jobs
--- alone were lost.
+-- After whole turns the turn of a step of the plan was begun, and the step is refused; and then
+-- jobs alone were lost.
 pub record IsRefusedBuild (A : Type 0) (yields : Yields) (before t : Telling) (most : ℕ)
     (whole calls : List Call) (old new : EngineValue) (i : ℕ) (r : Refusal A) : Type 0 where
   pub at : EngineValue

@@ -99,9 +99,9 @@ turns_in (started i id ∷ cs) = suc (turns_in cs)
 turns_in (ran id d v ∷ cs) = suc (turns_in cs)
 turns_in (c ∷ cs) = turns_in cs
 
--- The numbers are those of an engine to which the first of all calls led, in so many whole turns, by
--- what the store told then; and what it tells at the end differs from that by what the later ones
--- put.
+-- The numbers are those of an engine to which the first of all calls led, in so many whole turns,
+-- by what the store told then; and what it tells at the end differs from that by what the later
+-- ones put.
 pub record IsProgress (A : Type 0) (yields : Yields) (t : Telling) (most : ℕ)
     (first : EngineValue) (all : List Call) (turns : ℕ) (p : Progress) : Type 0 where
   pub told : Telling

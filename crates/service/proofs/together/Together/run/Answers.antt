@@ -1,7 +1,7 @@
 use Rattle.std.specs.Prelude.{false}
 use Rattle.service.proofs.Keeping.{keeps_but_held, keeps_further}
 use Rattle.std.proofs.Common.{subst, sym}
-use Rattle.service.specs.Together.{AreListed}
+use Rattle.service.specs.Together.{HeldAreListed}
 use Rattle.service.proofs.Marking.{none_listed}
 use Rattle.service.proofs.Places.{placed_further, placed_but_held}
 use Rattle.service.proofs.together.Together.run.Goals as goal
@@ -30,6 +30,6 @@ returns-then-self-clause-places g c all accepted =
 
 pub returns-then-self-clause-listed : goal.returns-then-self-clause-listed
 returns-then-self-clause-listed g c are =
-    subst (λ ks. AreListed ks c.release.new.self.members.entries) (sym c.release.ensures.none)
+    subst (λ ks. HeldAreListed ks c.release.new.self.members.entries) (sym c.release.ensures.none)
     (none_listed g.S.Peer.spoke _ c.loop-number.self.held.items c.loop-number.self.members.entries c.release.new.self.members.entries
     c.release.ensures.same c.release.ensures.free (c.loop-number.invariant.listed are))
