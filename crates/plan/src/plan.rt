@@ -61,10 +61,8 @@ fn read_version(text: &[u8]) -> Option<(Version, &[u8])>
     if let Some(rest) = strip(text, Version::One.header()) {
         return Some((Version::One, rest));
     }
-    match strip(text, Version::Two.header()) {
-        Some(rest) => Some((Version::Two, rest)),
-        None => None,
-    }
+    let rest = strip(text, Version::Two.header())?;
+    Some((Version::Two, rest))
 }
 
 /// Takes the target of one more line: in version 1, unless it overlaps another.

@@ -14,7 +14,7 @@ use Rattle.tree.specs.Tree.{Name, name_cmp, path_cmp, Tree, empty, leaf, folder,
 use Rattle.tree.specs.Form.{NodeValue, directory_of, with_child, root}
 use Rattle.tree.specs.FlatTree.{Ascend, FlatValue, under, listed}
 use Rattle.tree.specs.Lookup.{LooksFrom, found}
-use Rattle.tree.specs.Unfolded.{AreFound, AsksDirectories, FindsStanding, IsUnfolded, TellsBelow, directories_at, directories_in}
+use Rattle.tree.specs.Unfolded.{AreFound, AsksDirectories, FindsStanding, TellsBelow, directories_at, directories_in}
 use Rattle.tree.specs.Unfolding.{leaves, prefixed}
 use Rattle.tree.proofs.ByPath.{ascend_listed, ascend_under}
 use Rattle.tree.proofs.Children.{child-below, child-with_child, same_name}
@@ -145,10 +145,6 @@ directories_prefixed above (e ∷ es) = ap (λ r. directories_at e.1 + r) (direc
 found_listed : (B : Blobs) (d : DigestValue) (m : DirectoryValue) (t : Tree NodeValue) → TellsDirectory B d m → IsOrdered t → TellsBelow B t → ((k : Name) (z : NodeValue) → child {A = Unit {0}} k (directory_of t) ≡ Some z → child {A = Unit {0}} k m ≡ Some z)
     → AreFound B d (([], a_directory) ∷ listed t)
 found_listed B d m t told ordered tells on = record { ascend = (root_listed t, ascend_listed t ordered); stand = ((d, refl), listed_stand B d m t told ordered tells on) }
-
-pub found_unfolded : {B : Blobs} {d : DigestValue} {es : FlatValue} → IsUnfolded B d es → AreFound B d (([], a_directory) ∷ es)
-found_unfolded {B} {d} h =
-    subst (λ es. AreFound B d (([], a_directory) ∷ es)) (sym h.list.listing) (found_listed B d (directory_of h.tree) h.tree h.told.top h.list.ordered h.told.below (λ k z there. there))
 
 -- the root alone
 pub asks_root : (B : Blobs) (d : DigestValue) (old new : Telling) → new.calls ≤ old.calls + 1 → AsksDirectories B d old new
