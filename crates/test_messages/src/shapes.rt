@@ -3,6 +3,7 @@ ghost use Rattle.wire.specs.Record.{IsFieldNumber};
 
 use crate::answers::{Answer, Broken, number_in, said, word, yes_or_no};
 use canonical::*;
+use messages::{repeated, single};
 use std::alloc::{AllocError, Allocator, Global};
 use wire::{Field, MAX_NUMBER};
 
@@ -48,46 +49,14 @@ fn shape(global: Global, first: u64, second: u64) -> Answer {
 /// A field of each kind, and two that are repeated.
 fn every_kind() -> Shape<'static> {
     Shape::new(&[
-        Entry {
-            number: 1,
-            kind: Kind::String,
-            repeated: false,
-        },
-        Entry {
-            number: 2,
-            kind: Kind::Int32,
-            repeated: false,
-        },
-        Entry {
-            number: 3,
-            kind: Kind::Bool,
-            repeated: false,
-        },
-        Entry {
-            number: 4,
-            kind: Kind::Message,
-            repeated: false,
-        },
-        Entry {
-            number: 5,
-            kind: Kind::Bytes,
-            repeated: false,
-        },
-        Entry {
-            number: 6,
-            kind: Kind::String,
-            repeated: true,
-        },
-        Entry {
-            number: 7,
-            kind: Kind::Int64,
-            repeated: false,
-        },
-        Entry {
-            number: 536_870_911,
-            kind: Kind::Message,
-            repeated: true,
-        },
+        single!(1, String),
+        single!(2, Int32),
+        single!(3, Bool),
+        single!(4, Message),
+        single!(5, Bytes),
+        repeated!(6, String),
+        single!(7, Int64),
+        repeated!(536_870_911, Message),
     ])
 }
 
