@@ -20,6 +20,8 @@ pub mod RecordedSteps
 pub mod HeldOrigins
 pub mod LinesTold
 pub mod FreshRuns
+pub mod KeptRuns
+pub mod StepStarts
 pub mod Finishing
 pub mod Explained
 pub mod Checking
