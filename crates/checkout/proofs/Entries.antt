@@ -1,7 +1,7 @@
 -- What is written, entry by entry.
 use Rattle.std.proofs.Common.{◌≡◌, ℕ, ap, List, [], ◌∷◌, ◌++◌, refl, sym, ◌∙◌, subst, append_assoc, append-nil, arith, length}
 use Rattle.std.proofs.lemmas.List.{map-append}
-use Rattle.std.specs.Prelude.{Result, Ok, Err, OnErr, OnOk, IfOk}
+use Rattle.std.specs.Prelude.{◌≤◌, ◌+◌, Result, Ok, Err, OnErr, OnOk, IfOk}
 use Rattle.blob_digest.specs.Digest.{DigestValue}
 use Rattle.messages.specs.Path.{path_text}
 use Rattle.messages.specs.declared.node.Node.TheVariants.{File, Link, Dir}
@@ -115,7 +115,7 @@ module _ {F W : Type 0} (works : FolderWorks F) (tried : W → Tried) (first : W
         calls = subst (Tries tried first after)
             (ap (λ q. places_of folder done ++ q ∷ []) at ∙ sym (map-append (λ (e : List Name × Standing NodeValue). place_below folder (path_text e.0)) done ((p, s) ∷ [])))
             (tries_then tried first before after (places_of folder done) (place ∷ []) so_far.calls call);
-        asked = contents_then told m n done p s so_far.asked few only;
+        asked = contents_then m n done p s so_far.asked few only;
       }
 
   -- the next one isn't written
@@ -133,7 +133,7 @@ module _ {F W : Type 0} (works : FolderWorks F) (tried : W → Tried) (first : W
         written = so_far.made.written;
         of_done = all_still grows folder so_far.done so_far.made.written so_far.made.of_entries;
         before = (mid, so_far.made.gains);
-        asked = contents_then told m n so_far.done p (entry_value x) so_far.asked few only;
+        asked = contents_then m n so_far.done p (entry_value x) so_far.asked few only;
         fails = subst (λ q. FailsOneEntry refuses (λ more. Tries tried first after (places_of folder so_far.done ++ more)) n.blobs q (entry_value x) e) at
             (one_tried (λ more. tries_then tried first before after (places_of folder so_far.done) more so_far.calls) fails);
       }

@@ -14,7 +14,6 @@ use Rattle.tree.specs.Memo.{Asked, AsksNoOther}
 use Rattle.tree.specs.Form.{NodeValue}
 use Rattle.tree.specs.FlatTree.{FlatValue}
 use Rattle.tree.proofs.Memos.{same_or_other}
-use Rattle.tree.proofs.UnfoldSteps.{unfolded_still}
 use Rattle.tree.proofs.Ways.{unfold_still}
 use Rattle.checkout.specs.declared.error.CheckoutError.{CheckoutError}
 use Rattle.checkout.specs.declared.error.CheckoutError.TheVariants as errors
@@ -74,16 +73,16 @@ contents_among some left whole h =
     }
 
 -- for a tree, and then for entries of it
-pub tree_then : {d : DigestValue} {old new : Telling} {tree entries : FlatValue} (mid : Telling) → Grows mid.blobs new.blobs → mid.calls ≤ old.calls + 1 + directories_in tree → AsksNoOther (UnfoldLooksAt mid.blobs d) old.blobs mid.blobs
+pub tree_then : {d : DigestValue} {new : Telling} {entries : FlatValue} (old mid : Telling) (tree : FlatValue) → Grows mid.blobs new.blobs → mid.calls ≤ old.calls + 1 + directories_in tree → AsksNoOther (UnfoldLooksAt mid.blobs d) old.blobs mid.blobs
     → AsksContents mid new entries → AsksUpTo d old new (of_entries tree entries)
-tree_then {d = d} mid grows few only next = (omega (arith, few, next.few), others_then (λ a h. inl (unfold_still d a grows h)) (λ a h. inr h) only next.only)
+tree_then {d = d} old mid tree grows few only next = (omega (arith, few, next.few), others_then (λ a h. inl (unfold_still d a grows h)) (λ a h. inr h) only next.only)
 
 -- so for a tree and all of its files
-pub asks_files : {d : DigestValue} {old new : Telling} {tree : FlatValue} → IsUnfolded new.blobs d tree → AsksUpTo d old new (of_entries tree tree) → AsksEachOnce d old new
-asks_files {tree = tree} told h = in_entries tree told h.0
+pub asks_files : {d : DigestValue} {tree : FlatValue} (old new : Telling) → IsUnfolded new.blobs d tree → AsksUpTo d old new (of_entries tree tree) → AsksEachOnce d old new
+asks_files {tree = tree} old new told h = in_entries tree told h.0
 
-pub tree_looked : {d : DigestValue} {old new : Telling} {tree : FlatValue} → IsUnfolded new.blobs d tree → AsksUpTo d old new (of_entries tree tree) → AsksNoOther (CheckoutLooksAt new.blobs d) old.blobs new.blobs
-tree_looked {d} {old} {new} {tree} told h = others_more by h.1
+pub tree_looked : {d : DigestValue} {tree : FlatValue} (old new : Telling) → IsUnfolded new.blobs d tree → AsksUpTo d old new (of_entries tree tree) → AsksNoOther (CheckoutLooksAt new.blobs d) old.blobs new.blobs
+tree_looked {d} {tree} old new told h = others_more by h.1
   where
     by : (a : Asked) → UnfoldLooksAt new.blobs d a ⊎ EntriesLookAt tree a → CheckoutLooksAt new.blobs d a
     by a (inl k) = inl k

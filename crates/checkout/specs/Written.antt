@@ -112,6 +112,10 @@ AsksUpTo d old new (of_entries tree entries) =
     (new.calls ≤ old.calls + 1 + directories_in tree + contents_in entries)
     × AsksNoOther (λ a. UnfoldLooksAt new.blobs d a ⊎ EntriesLookAt entries a) old.blobs new.blobs
 
+-- nothing is said of what was asked for
+abbrev pub asked_somehow : Reach → Type 0
+asked_somehow reach = Unit {0}
+
 -- ---- entry by entry
 
 -- one entry was written

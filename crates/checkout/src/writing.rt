@@ -211,7 +211,7 @@ pub fn check_out<A: Allocator + Copy, S: BlobSource<A>, W: FolderWriter>(
         (S.tells source.new).blobs root.now path.now) }
     ensures called { Called (S.tells source.old) (S.tells source.new)
         (IsErrOf result CheckoutError.Fetch) }
-    // Nothing is asked for but the tree's Directories and its files' contents.
+    // No blob is asked for but the tree's Directories and its files' contents.
     ensures only { AsksNoOther (CheckoutLooksAt (S.tells source.new).blobs root.now)
         (S.tells source.old).blobs (S.tells source.new).blobs }
 {

@@ -57,7 +57,7 @@ returns-in_err-folder-clause-refused g c =
     let p = err_from_is_err_and c.from_residual-in_err-folder.result c.from_residual-in_err-folder.ensures.1 in
     let mid = g.S.BlobSource.tells c.read_tree.new.source in
     rw (p.1, p.2) (in_folder c.in_ok-tree.tree c.in_ok-tree.ensures.told c.take.ensures.tries
-    (tree_then mid (λ d b h. h) c.in_ok-tree.ensures.few c.read_tree.ensures.only (contents_none mid))
+    (tree_then (g.S.BlobSource.tells c.args.source.now) mid c.in_ok-tree.tree (λ d b h. h) c.in_ok-tree.ensures.few c.read_tree.ensures.only (contents_none mid))
     (place_fails g.W.FolderWriter.works.refuses c.args.path.now c.take.result c.in_err-folder.field-0.0
     (subst (λ q. FailsPlace (λ _ fault. c.take.result ≡ Err fault) q c.in_err-folder.field-0.0) c.in_ok-place.ensures.ok c.in_err-folder.ensures.refused) c.take.ensures.refused))
 
@@ -86,7 +86,7 @@ returns-in_err-write_entries-clause-refused g c =
     c.in_ok-entries.ensures.value c.in_err-write_entries.ensures.refused in
     rw (p.1, p.2) (in_entries c.in_ok-tree.tree (unfolded_still c.write_entries.ensures.called.asked.blobs c.in_ok-tree.ensures.told)
     (fails_had (λ ws h. (h.0, h.1 (empty_folder path) taken)) (λ ps h. tries_then tried c.args.writer.now c.take.new.self c.write_entries.new.writer (path ∷ []) ps c.take.ensures.tries h)
-    (λ some. tree_then mid c.write_entries.ensures.called.asked.blobs c.in_ok-tree.ensures.few c.read_tree.ensures.only) fails))
+    (λ some. tree_then (g.S.BlobSource.tells c.args.source.now) mid c.in_ok-tree.tree c.write_entries.ensures.called.asked.blobs c.in_ok-tree.ensures.few c.read_tree.ensures.only) fails))
 
 pub returns-in_err-write_entries-clause-called : goal.returns-in_err-write_entries-clause-called
 returns-in_err-write_entries-clause-called g c =
@@ -100,15 +100,15 @@ pub returns-in_err-write_entries-clause-only : goal.returns-in_err-write_entries
 returns-in_err-write_entries-clause-only g c =
     let mid = g.S.BlobSource.tells c.read_tree.new.source in
     let new = g.S.BlobSource.tells c.write_entries.new.source in
-    tree_looked (unfolded_still c.write_entries.ensures.called.asked.blobs c.in_ok-tree.ensures.told)
-    (tree_then mid c.write_entries.ensures.called.asked.blobs c.in_ok-tree.ensures.few c.read_tree.ensures.only (subst (AsksContents mid new) c.in_ok-entries.ensures.value (asked_among c.in_err-write_entries.ensures.refused)))
+    tree_looked (g.S.BlobSource.tells c.args.source.now) new (unfolded_still c.write_entries.ensures.called.asked.blobs c.in_ok-tree.ensures.told)
+    (tree_then (g.S.BlobSource.tells c.args.source.now) mid c.in_ok-tree.tree c.write_entries.ensures.called.asked.blobs c.in_ok-tree.ensures.few c.read_tree.ensures.only (subst (AsksContents mid new) c.in_ok-entries.ensures.value (asked_among c.in_err-write_entries.ensures.refused)))
 
 pub returns-in_err-write_entries-clause-few : goal.returns-in_err-write_entries-clause-few
 returns-in_err-write_entries-clause-few g c =
     let mid = g.S.BlobSource.tells c.read_tree.new.source in
     let new = g.S.BlobSource.tells c.write_entries.new.source in
-    asks_files (unfolded_still c.write_entries.ensures.called.asked.blobs c.in_ok-tree.ensures.told)
-    (tree_then mid c.write_entries.ensures.called.asked.blobs c.in_ok-tree.ensures.few c.read_tree.ensures.only (subst (AsksContents mid new) c.in_ok-entries.ensures.value (asked_among c.in_err-write_entries.ensures.refused)))
+    asks_files (g.S.BlobSource.tells c.args.source.now) new (unfolded_still c.write_entries.ensures.called.asked.blobs c.in_ok-tree.ensures.told)
+    (tree_then (g.S.BlobSource.tells c.args.source.now) mid c.in_ok-tree.tree c.write_entries.ensures.called.asked.blobs c.in_ok-tree.ensures.few c.read_tree.ensures.only (subst (AsksContents mid new) c.in_ok-entries.ensures.value (asked_among c.in_err-write_entries.ensures.refused)))
 
 -- ---- all is written
 
@@ -140,15 +140,15 @@ pub returns-clause-only : goal.returns-clause-only
 returns-clause-only g c =
     let mid = g.S.BlobSource.tells c.read_tree.new.source in
     let new = g.S.BlobSource.tells c.write_entries.new.source in
-    tree_looked (unfolded_still c.write_entries.ensures.called.asked.blobs c.in_ok-tree.ensures.told)
-    (tree_then mid c.write_entries.ensures.called.asked.blobs c.in_ok-tree.ensures.few c.read_tree.ensures.only (subst (AsksContents mid new) c.in_ok-entries.ensures.value (c.in_ok-write_entries.ensures.asked)))
+    tree_looked (g.S.BlobSource.tells c.args.source.now) new (unfolded_still c.write_entries.ensures.called.asked.blobs c.in_ok-tree.ensures.told)
+    (tree_then (g.S.BlobSource.tells c.args.source.now) mid c.in_ok-tree.tree c.write_entries.ensures.called.asked.blobs c.in_ok-tree.ensures.few c.read_tree.ensures.only (subst (AsksContents mid new) c.in_ok-entries.ensures.value (c.in_ok-write_entries.ensures.asked)))
 
 pub returns-clause-few : goal.returns-clause-few
 returns-clause-few g c =
     let mid = g.S.BlobSource.tells c.read_tree.new.source in
     let new = g.S.BlobSource.tells c.write_entries.new.source in
-    asks_files (unfolded_still c.write_entries.ensures.called.asked.blobs c.in_ok-tree.ensures.told)
-    (tree_then mid c.write_entries.ensures.called.asked.blobs c.in_ok-tree.ensures.few c.read_tree.ensures.only (subst (AsksContents mid new) c.in_ok-entries.ensures.value (c.in_ok-write_entries.ensures.asked)))
+    asks_files (g.S.BlobSource.tells c.args.source.now) new (unfolded_still c.write_entries.ensures.called.asked.blobs c.in_ok-tree.ensures.told)
+    (tree_then (g.S.BlobSource.tells c.args.source.now) mid c.in_ok-tree.tree c.write_entries.ensures.called.asked.blobs c.in_ok-tree.ensures.few c.read_tree.ensures.only (subst (AsksContents mid new) c.in_ok-entries.ensures.value (c.in_ok-write_entries.ensures.asked)))
 
 pub returns-clause-called : goal.returns-clause-called
 returns-clause-called g c = called_ok c.in_ok-tree.ensures.called (called_no ok_no_error ok_no_error c.in_ok-write_entries.ensures.called)

@@ -4,7 +4,7 @@ use Rattle.std.specs.Prelude.{string_bytes}
 use Rattle.std.proofs.lemmas.Result.{err_from_is_err_and}
 use Rattle.blob_source.proofs.Asking.{ok_no_error}
 use Rattle.blob_source.proofs.Calling.{called_none, called_no, called_on, called_exit}
-use Rattle.tree.specs.FlatTree.{entry_value, path_values}
+use Rattle.tree.specs.FlatTree.{path_values}
 use Rattle.checkout.specs.Written.{place_below}
 use Rattle.checkout.specs.declared.error.CheckoutError.TheVariants.{Memory}
 use Rattle.checkout.specs.Folder.{Tries}
