@@ -40,8 +40,9 @@ use Rattle.tree.proofs.SameRoot.{same_root}
 use Rattle.tree.proofs.TreeDigests.{IsDigest-digest_of, only_empty}
 use Rattle.verifier.specs.Together.{LooksUpOrigin, StandsAtOrigin, Resolves, LinesFault, not_read, IsFaultOfLook, FirstFault, put_together}
 use Rattle.verifier.specs.AsRecorded.{AreAsRecorded, IsAccepted}
+use Rattle.verifier.specs.Holding.{HoldsResult}
 use Rattle.verifier.specs.Build.{Meaning, ActionMeaning, action_digest, Outcome, output_at, StepFits, MeaningFits, Event, start, finish, lose, State, opening, outcome_of, job_of, origin_at, origins, merge_of, step_action, action_of, started, finished, lost, happens, IsTable, Obeys, IsRun, HasFinishedAll}
-use Rattle.verifier.specs.Headline.{IsDirectoryInTree, IsBlobOfEntry, IsBlobOfAction, IsBlobOfOutcome, IsBlobOfEvent, IsBlobOfEvents, IsBlobOfChosen, HasFinished, IsNotStuck, IsAsChosen}
+use Rattle.verifier.specs.Headline.{PlanRun, IsConcerned, RunsFrom, IsDirectoryInTree, IsBlobOfEntry, IsBlobOfAction, IsBlobOfOutcome, IsBlobOfEvent, IsBlobOfEvents, IsBlobOfChosen, HasFinished, IsNotStuck, IsAsChosen}
 use Rattle.verifier.specs.Recorded.{Agrees, IsRecordedAs, RecordsAt}
 use Rattle.verifier.proofs.HeldOrigins.{source_held, outcome_held}
 use Rattle.verifier.proofs.LinesTold.{valid_tree, tree_blobs, IsRead, LinesTell, no_lines, one_more, told_graft, no_graft_told}
@@ -67,6 +68,10 @@ found_one {A} P j (y ∷ es) x h e = at (y.0 == j) refl e (found_one P j es x h.
 pub kept_rest : {A : Type 0} (P : ℕ × A → Type 0) (j : ℕ) (es : List (ℕ × A)) → AllByRecursion P es → AllByRecursion P (remove_entry (λ k. k == j) es)
 kept_rest P j [] h = tt
 kept_rest P j (y ∷ es) h = elim (y.0 == j) as (λ q. AllByRecursion P (cond q es (y ∷ remove_entry (λ k. k == j) es))) [ true ↦ h.1 | false ↦ (h.0, kept_rest P j es h.1) ]
+
+-- the result that is held under a digest is one
+pub one_result : (C : Blobs) (d : DigestValue) (r q : ActionResultValue) → HoldsResult C d r → HoldsResult C d q → r ≡ q
+one_result C d r q h k = reads_once r q h.0 h.2 (subst (Reads q) (one_answer (C d) k.0 h.0 k.1 h.1) k.2)
 
 -- ---- blobs of what stands below
 
@@ -178,10 +183,7 @@ module _ {S : List ℕ → Type 0} {B C : Blobs} {src : DigestValue} {plan : Pla
 
   -- the result that was recorded is one
   same_result : (i : ℕ) (s : StepValue) (c : Chosen i s) → c.kept.step.result ≡ c.recorded_as.result
-  same_result i s c =
-      let h = c.kept.step.held in
-      let k = c.recorded_as.held in
-      reads_once c.kept.step.result c.recorded_as.result h.0 h.2 (subst (Reads c.recorded_as.result) (one_answer (C c.kept.digest) k.0 h.0 k.1 h.1) k.2)
+  same_result i s c = one_result C c.kept.digest c.kept.step.result c.recorded_as.result c.kept.step.held c.recorded_as.held
 
   -- the chosen outcome has exit code 0
   pub succeeds : (i : ℕ) (s : StepValue) (c : Chosen i s) → c.pair.1.exit_code ≡ pos 0

@@ -10,7 +10,7 @@ use Rattle.messages.specs.declared.node.Node.TheVariants.{Dir}
 use Rattle.messages.specs.Tree.{TreeValue, IsTree, tree_bytes}
 use Rattle.action_messages.specs.Action.{ActionValue, IsAction, with_input, action_bytes}
 use Rattle.action_messages.specs.ActionResult.{ActionResultValue}
-use Rattle.action_messages.specs.Command.{CommandValue, command_bytes}
+use Rattle.action_messages.specs.Command.{CommandValue, IsCommand, command_bytes}
 use Rattle.action_messages.specs.Frame.{FrameValue, frame_bytes}
 use Rattle.actions.specs.Outcome.{OutputValue, OutcomeValue, IsOutcome}
 use Rattle.actions.specs.OutcomeLookup.{LooksIn, LiesWithin}
@@ -116,6 +116,15 @@ module _ {S : List ℕ → Type 0} {B C : Blobs} {src : DigestValue} {plan : Pla
       let valid = (given.runs.table.actions A pair.1 c.in_table).0 in
       action_bytes_injective action (with_input A.frame (root (form A.input))) told.valid (record { frame = valid.frame; input = IsDigest-digest_of (top (form A.input)) })
       (told_bytes S given.apart B d (action_bytes action) (action_bytes (with_input A.frame (root (form A.input)))) (values given) told.blob (chosen_blobs i d pair c _ (inl (inl refl))) c.digest)
+
+  -- and its Command is the chosen one
+  pub chosen_command : (i : ℕ) (d : DigestValue) (pair : ActionMeaning × Outcome) → IsChosenFor i d pair → (action : ActionValue) → IsTold IsAction action_bytes B d action
+      → (command : CommandValue) → IsTold IsCommand command_bytes B action.frame.command command → command ≡ pair.0.command
+  chosen_command i d pair c action told command held =
+      let valid = (given.runs.table.actions pair.0 pair.1 c.in_table).0 in
+      let named = sym valid.named ∙ ap (λ (x : ActionValue). x.frame.command) (sym (told_chosen i d pair c action told)) in
+      command_bytes_injective command pair.0.command held.valid valid.command
+      (told_bytes S given.apart B action.frame.command (command_bytes command) (command_bytes pair.0.command) (values given) held.blob (chosen_blobs i d pair c _ (inr (inl refl))) named)
 
   -- where it is the step's own, a step that starts takes the chosen action
   pub takes_chosen : (s : State) → Keeps given s → (i : ℕ) (a : ActionMeaning) (p : IsActionOf s i a) (d : DigestValue) → IsOwnAction B src given.recorded.outcomes p.step d → (pair : ActionMeaning × Outcome) → IsChosenFor i d pair

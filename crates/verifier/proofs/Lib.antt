@@ -7,6 +7,7 @@ pub mod TwoStepsBlobs
 pub mod TwoStepsEvents
 pub mod TwoStages
 pub mod TwoNoes
+pub mod TwoEnds
 pub mod SourceStep
 pub mod Lines
 pub mod Targets
@@ -33,5 +34,6 @@ pub mod StepLaws
 pub mod CheckingSteps
 pub mod NoAtStep
 pub mod Unbuilt
+pub mod BadEnds
 pub mod Totals
 pub mod VerdictTotal

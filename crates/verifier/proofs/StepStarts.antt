@@ -51,7 +51,7 @@ use Rattle.verifier.proofs.Targets.{ArePaths, paths_of, step_paths, output_order
 use Rattle.verifier.specs.Unbuilt.{IsNeverStarted}
 use Rattle.verifier.specs.Headline.{IsConcerned, RunsFrom, PlanRun}
 use Rattle.verifier.proofs.FreshRuns.{one_answer, found_one, kept_rest, IsGiven, IsLinesFault, told_bytes, values, Keeps, grafts, graft_finished, put_nothing}
-use Rattle.verifier.proofs.KeptRuns.{IsActionOf, action_made, action_is, keeps_event, runs_keep}
+use Rattle.verifier.proofs.KeptRuns.{IsActionOf, IsOwnAction, IsChosenFor, action_made, action_is, takes_chosen, keeps_event, runs_keep}
 
 -- the action that is told under a digest has another frame than the step, or another input than what the step's lines put together
 abbrev pub HasOtherAction : Blobs → DigestValue → List OutcomeValue → StepValue → DigestValue → Type 0
@@ -186,3 +186,16 @@ module _ {S : List ℕ → Type 0} {B C : Blobs} {src : DigestValue} {plan : Pla
     -- so no job runs it
     pub never_run : (d : DigestValue) → HasOtherAction B src given.recorded.outcomes step d → (w : ℕ) (job : ℕ × ActionMeaning) → job_of w run.now ≡ Some job → job.0 ≡ i → action_digest job.1 ≢ d
     never_run d other = job_with i (λ a. action_digest a ≢ d) (other_action d other)
+
+    -- a step whose recorded action is its own runs the chosen one, and comes to its outcome
+    pub runs_chosen : (d : DigestValue) → IsOwnAction B src given.recorded.outcomes step d → (pair : ActionMeaning × Outcome) → IsChosenFor given i d pair
+        → ((w : ℕ) (job : ℕ × ActionMeaning) → job_of w run.now ≡ Some job → job.0 ≡ i → job.1 ≡ pair.0) × ((o : Outcome) → outcome_of i run.now ≡ Some o → o ≡ pair.1)
+    runs_chosen d own pair c = (job_with i (λ a. a ≡ pair.0) only, comes)
+      where
+        only : (s : State) → Keeps given s → (a : ActionMeaning) → action_of plan run.meaning t s i ≡ Some a → ((b : List ℕ) → IsBlobOfAction a b → S b) → a ≡ pair.0
+        only s keeps a is =
+            let p = action_is given s i a is in
+            takes_chosen given s keeps i a p d (subst (λ (s : StepValue). IsOwnAction B src given.recorded.outcomes s d) (one_answer (slice_get plan.steps i) step p.step at p.at) own) pair c
+
+        comes : (o : Outcome) → outcome_of i run.now ≡ Some o → o ≡ pair.1
+        comes o is = let e = end_with i (λ a. a ≡ pair.0) only o is in given.runs.table.same pair.0 o pair.1 (subst (λ a. Contains run.table (a, o)) e.1 e.2) c.in_table

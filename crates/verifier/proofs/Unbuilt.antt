@@ -1,6 +1,6 @@
 -- Where lines of a plan put nothing together by what was recorded, they do so in no run, and where a recorded action isn't the plan's, no run has it.
-use Rattle.std.proofs.Common.{◌≡◌, ℕ, zero, suc, List, [], ◌∷◌, ◌++◌, Some, length, ap, ◌∙◌, subst, inl, inr}
-use Rattle.std.specs.Prelude.{◌≢◌, ◌⊎◌, slice_get, take}
+use Rattle.std.proofs.Common.{◌≡◌, ℕ, zero, suc, List, [], ◌∷◌, ◌++◌, Some, length, ap, arith, ◌∙◌, subst, inl, inr}
+use Rattle.std.specs.Prelude.{◌≢◌, ◌⊎◌, ◌≤◌, slice_get, take}
 use Rattle.blob_digest.specs.Digest.{DigestValue, digest_of}
 use Rattle.actions.specs.Outcome.{OutcomeValue}
 use Rattle.action_messages.specs.Action.{ActionValue, IsAction, action_bytes}
@@ -100,30 +100,36 @@ module _ (A : Type 0) where
 
 -- ---- the first steps of a plan
 
-first_of : {X : Type 0} (n i : ℕ) (xs : List X) (x : X) → slice_get (take n xs) i ≡ Some x → slice_get xs i ≡ Some x
+pub first_of : {X : Type 0} (n i : ℕ) (xs : List X) (x : X) → slice_get (take n xs) i ≡ Some x → slice_get xs i ≡ Some x
 first_of zero i xs x e = absurd cc
 first_of (suc n) i [] x e = absurd cc
 first_of (suc n) zero (y ∷ xs) x e = e
 first_of (suc n) (suc i) (y ∷ xs) x e = first_of n i xs x e
 
+pub last_of : {X : Type 0} (i : ℕ) (xs : List X) (x : X) → slice_get xs i ≡ Some x → slice_get (take (suc i) xs) i ≡ Some x
+last_of i [] x e = absurd cc
+last_of zero (y ∷ xs) x e = e
+last_of (suc i) (y ∷ xs) x e = last_of i xs x e
+
 -- what is behind their digests says nothing of them
-first_recorded : (B C : Blobs) (src : DigestValue) (before : List OutcomeValue) (n : ℕ) (ss : List StepValue) (ds : List DigestValue) (os : List OutcomeValue)
-    → AreAsRecorded B C src before (take n ss) ds os → AreAsRecorded B C src before (take n ss) (take n ds) os
-first_recorded B C src before zero ss ds os h = h
-first_recorded B C src before (suc n) [] ds os h = h
-first_recorded B C src before (suc n) (s ∷ ss) [] os h = elim h [ ]
-first_recorded B C src before (suc n) (s ∷ ss) (d ∷ ds) os h = (h.0, h.1, first_recorded B C src (before ++ h.0 ∷ []) n ss ds os h.2)
+pub first_recorded : (B C : Blobs) (src : DigestValue) (before : List OutcomeValue) (n m : ℕ) → n ≤ m → (ss : List StepValue) (ds : List DigestValue) (os : List OutcomeValue)
+    → AreAsRecorded B C src before (take n ss) ds os → AreAsRecorded B C src before (take n ss) (take m ds) os
+first_recorded B C src before zero m le ss ds os h = h
+first_recorded B C src before (suc n) zero le ss ds os h = absurd (omega (arith, le))
+first_recorded B C src before (suc n) (suc m) le [] ds os h = h
+first_recorded B C src before (suc n) (suc m) le (s ∷ ss) [] os h = elim h [ ]
+first_recorded B C src before (suc n) (suc m) le (s ∷ ss) (d ∷ ds) os h = (h.0, h.1, first_recorded B C src (before ++ h.0 ∷ []) n m (omega (arith, le)) ss ds os h.2)
 
 -- ---- runs
 
 module _ (A : Type 0) (tells : Telling) (sources : DigestValue) (plan : PlanValue) (recorded : List DigestValue) (claim : DigestValue) (valid : IsPlan plan) (c : Cause A) where
   -- the steps before the first that fails
-  abbrev steps_before : (name : List ℕ) (k : IsFirstFailing A tells sources [] plan.steps recorded name c) → FirstAsRecorded tells.blobs tells.results sources plan (take k.index recorded)
-  steps_before name k = record {
+  abbrev pub steps_before : (name : List ℕ) (k : IsFirstFailing A tells sources [] plan.steps recorded name c) (n : ℕ) → k.index ≤ n → FirstAsRecorded tells.blobs tells.results sources plan (take n recorded)
+  steps_before name k n le = record {
     first = take k.index plan.steps;
     outcomes = k.outcomes;
     planned = λ i s at. first_of k.index i plan.steps s at;
-    steps = first_recorded tells.blobs tells.results sources [] k.index plan.steps recorded k.outcomes k.before;
+    steps = first_recorded tells.blobs tells.results sources [] k.index n le plan.steps recorded k.outcomes k.before;
   }
 
   pub no_run_starts : IsOfLines c → (name : List ℕ) → IsVerdict tells sources plan recorded claim (No (Step name) c) → NoRunStarts tells.blobs tells.results sources plan recorded name
@@ -135,7 +141,7 @@ module _ (A : Type 0) (tells : Telling) (sources : DigestValue) (plan : PlanValu
         step = k.step;
         step_at = k.step_at;
         named = k.named;
-        of_run = λ t r ordered is runs. runs_without (as_given valid (steps_before name k) t r ordered is runs) k.index k.step k.step_at lacks;
+        of_run = λ t r ordered is runs. runs_without (as_given valid (steps_before name k k.index (omega arith)) t r ordered is runs) k.index k.step k.step_at lacks;
       }
 
   pub no_run_has_action : IsOfAction c → (name : List ℕ) → IsVerdict tells sources plan recorded claim (No (Step name) c) → NoRunHasAction tells.blobs tells.results sources plan recorded name
@@ -149,7 +155,7 @@ module _ (A : Type 0) (tells : Telling) (sources : DigestValue) (plan : PlanValu
         step_at = k.step_at;
         digest_at = k.digest_at;
         named = k.named;
-        of_run = λ t r ordered is runs. never_run (as_given valid (steps_before name k) t r ordered is runs) k.index k.step k.step_at k.digest other;
+        of_run = λ t r ordered is runs. never_run (as_given valid (steps_before name k k.index (omega arith)) t r ordered is runs) k.index k.step k.step_at k.digest other;
       }
 
   pub no_run_has_root : IsOfLines c → IsVerdict tells sources plan recorded claim (No Root c) → NoRunHasRoot tells.blobs tells.results sources plan recorded
