@@ -1,6 +1,6 @@
 -- Where a recorded action ended badly, it does so in every run.
-use Rattle.std.proofs.Common.{◌≡◌, ℕ, zero, suc, List, [], ◌∷◌, Some, ap, sym, ◌∙◌, refl, arith, subst, inl, inr}
-use Rattle.std.specs.Prelude.{◌≢◌, ◌⊎◌, ℤ, pos, slice_get, take, Contains}
+use Rattle.std.proofs.Common.{◌≡◌, ℕ, suc, List, [], ◌∷◌, ap, sym, ◌∙◌, refl, arith, subst, inl, inr}
+use Rattle.std.specs.Prelude.{◌≢◌, ◌⊎◌, ℤ, pos, take, Contains}
 use Rattle.std.specs.List.{AllByRecursion}
 use Rattle.blob_digest.specs.Digest.{DigestValue}
 use Rattle.messages.specs.Tree.{TreeValue, IsTree, tree_bytes}
@@ -14,7 +14,6 @@ use Rattle.action_messages.specs.Outputs.{RecordedValue, recorded_path, AreOutpu
 use Rattle.plan.specs.Plan.{IsPlan}
 use Rattle.plan.specs.Values.{StepValue, PlanValue}
 use Rattle.tree.specs.Difference.{Differing, unexplained, absent, differs, unread}
-use Rattle.tree.specs.Form.{NodeValue}
 use Rattle.tree.specs.Stage.{◌and_then◌}
 use Rattle.tree.specs.Tree.{Name}
 use Rattle.blob_source.specs.Source.{Blobs, Telling}
@@ -163,8 +162,8 @@ module _ (A : Type 0) (tells : Telling) (sources : DigestValue) (plan : PlanValu
       let e = ends_for A tells sources k.outcomes k.step k.digest (ExitCode code) tt k.fails in
       let ended = code_is A tells.blobs e.0.command e.0.result code e.1 in
       every_run_ends A tells sources plan recorded claim valid (ExitCode code) (FailsWith code) name k e.0 (λ pair command noted.
-        let same = one_result tells.results k.digest e.0.result noted.result e.0.held noted.held in
-        (noted.exit_code ∙ ap (λ (r : ActionResultValue). r.exit_code) (sym same) ∙ ended.0, ended.1))
+      let same = one_result tells.results k.digest e.0.result noted.result e.0.held noted.held in
+      (noted.exit_code ∙ ap (λ (r : ActionResultValue). r.exit_code) (sym same) ∙ ended.0, ended.1))
 
   pub runs_make : (path : List Name) → IsVerdict {A = A} tells sources plan recorded claim (No (Step name) (OutputUnlisted path)) → EveryRunEndsStep tells.blobs tells.results sources plan recorded name (MakesUnlisted path)
   runs_make path v =
@@ -172,8 +171,8 @@ module _ (A : Type 0) (tells : Telling) (sources : DigestValue) (plan : PlanValu
       let e = ends_for A tells sources k.outcomes k.step k.digest (OutputUnlisted path) tt k.fails in
       let u = unlisted_is A tells.blobs e.0.command e.0.result path e.1 in
       every_run_ends A tells sources plan recorded claim valid (OutputUnlisted path) (MakesUnlisted path) name k e.0 (λ pair command noted.
-        let same = one_result tells.results k.digest e.0.result noted.result e.0.held noted.held in
-        let trees = subst (λ (r : ActionResultValue). AllByRecursion (λ (d : OutputDirectoryValue). (t : TreeValue) × IsTold IsTree tree_bytes tells.blobs d.tree t) r.directories) (sym same) noted.trees in
-        let node = has_node tells.blobs e.0.result u.0 u.2 u.1 u.3 trees in
-        let there = subst (λ (r : ActionResultValue). RecordsAt tells.blobs r path node.0) same (subst (λ p. RecordsAt tells.blobs e.0.result p node.0) (sym u.4) node.1) in
-        ((node.0, (noted.outputs path node.0).1 there), λ listed. u.5 (subst (λ (m : CommandValue). Contains m.output_paths path) (sym command) listed)))
+      let same = one_result tells.results k.digest e.0.result noted.result e.0.held noted.held in
+      let trees = subst (λ (r : ActionResultValue). AllByRecursion (λ (d : OutputDirectoryValue). (t : TreeValue) × IsTold IsTree tree_bytes tells.blobs d.tree t) r.directories) (sym same) noted.trees in
+      let node = has_node tells.blobs e.0.result u.0 u.2 u.1 u.3 trees in
+      let there = subst (λ (r : ActionResultValue). RecordsAt tells.blobs r path node.0) same (subst (λ p. RecordsAt tells.blobs e.0.result p node.0) (sym u.4) node.1) in
+      ((node.0, (noted.outputs path node.0).1 there), λ listed. u.5 (subst (λ (m : CommandValue). Contains m.output_paths path) (sym command) listed)))

@@ -6,16 +6,14 @@ use Rattle.std.specs.Map.{lookup, remove_entry}
 use Rattle.std.proofs.lemmas.Bool.Decides.{Decides-eqb}
 use Rattle.std.proofs.lemmas.List.{length-append}
 use Rattle.std.proofs.lemmas.Option.{slice_get_within, slice_get_cases}
-use Rattle.blob_digest.specs.Digest.{DigestValue, NoClash}
+use Rattle.blob_digest.specs.Digest.{DigestValue}
 use Rattle.action_messages.proofs.Apart.{weaker}
-use Rattle.plan.specs.Plan.{IsPlan, AreSteps}
+use Rattle.plan.specs.Plan.{AreSteps}
 use Rattle.plan.specs.Values.{OriginValue, source, output, LineValue, StepValue, PlanValue, IsOrigin, IsLine}
-use Rattle.tree.specs.Tree.{Tree, Leaf, IsOrdered}
-use Rattle.tree.specs.Form.{form, root}
+use Rattle.tree.specs.Tree.{Tree, Leaf}
 use Rattle.blob_source.specs.Source.{Blobs}
-use Rattle.verifier.specs.Build.{Meaning, ActionMeaning, Outcome, MeaningFits, Event, start, finish, State, job_of, action_of, started, finished, happens, IsTable, Obeys, IsRun, HasFinishedAll}
+use Rattle.verifier.specs.Build.{Meaning, ActionMeaning, Outcome, Event, start, finish, State, job_of, action_of, started, finished, happens, Obeys, IsRun, HasFinishedAll}
 use Rattle.verifier.specs.Headline.{PlanRun, IsBlobOfEvent, IsBlobOfEvents, IsBlobAhead, HasFinished}
-use Rattle.verifier.specs.Recorded.{Agrees}
 use Rattle.verifier.proofs.FreshRuns.{one_answer, IsGiven, Keeps}
 use Rattle.verifier.proofs.KeptRuns.{keeps_event, runs_keep, may_start, nothing_is_stuck}
 

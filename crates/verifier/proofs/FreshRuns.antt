@@ -1,6 +1,6 @@
 -- What a run of a plan whose first steps are as recorded finds: at each origin what was looked up, and so of lines what they put together.
 use Rattle.std.proofs.Common.{◌≡◌, ℕ, zero, suc, Bool, true, false, cond, List, [], ◌∷◌, Option, Some, None, length, refl, ap, sym, ◌∙◌, subst, arith, inl, inr}
-use Rattle.std.specs.Prelude.{◌==◌, ◌≢◌, ◌⊎◌, pos, option_map, option_and_then, slice_get, Contains}
+use Rattle.std.specs.Prelude.{◌==◌, ◌≢◌, pos, option_map, option_and_then, slice_get, Contains}
 use Rattle.std.specs.List.{AllByRecursion}
 use Rattle.std.specs.Map.{lookup, remove_entry}
 use Rattle.std.proofs.lemmas.Bool.Decides.{Decides-eqb}
@@ -8,15 +8,11 @@ use Rattle.blob_digest.specs.Digest.{DigestValue, digest_of, NoClash}
 use Rattle.messages.specs.Directory.{directory_bytes}
 use Rattle.messages.specs.declared.node.Node.TheVariants.{Dir}
 use Rattle.messages.specs.Tree.{TreeValue, IsTree, tree_bytes}
-use Rattle.action_messages.specs.Action.{ActionValue, IsAction, with_input, action_bytes}
 use Rattle.action_messages.specs.ActionResult.{ActionResultValue}
-use Rattle.action_messages.specs.Command.{CommandValue, command_bytes}
-use Rattle.action_messages.specs.Frame.{FrameValue, frame_bytes}
 use Rattle.actions.specs.Outcome.{OutputValue, OutcomeValue, IsOutcome}
 use Rattle.actions.specs.OutcomeLookup.{LooksIn, LiesWithin}
 use Rattle.action_messages.specs.Outputs.{RecordedValue, file, directory, link}
 use Rattle.actions.specs.Recorded.{StandForAll}
-use Rattle.actions.proofs.EncodedOnce.{frame_bytes_injective, action_bytes_injective, command_bytes_injective}
 use Rattle.action_messages.specs.Reads.{Reads}
 use Rattle.action_messages.proofs.ReadOnce.{reads_once}
 use Rattle.actions.proofs.RecordedAt.{recorded_at}
@@ -25,7 +21,7 @@ use Rattle.actions.proofs.Rooms.{holds_at}
 use Rattle.plan.specs.Plan.{IsPlan}
 use Rattle.plan.specs.Values.{OriginValue, source, output, LineValue, StepValue, PlanValue}
 use Rattle.tree.specs.Tree.{Name, Tree, Leaf, Entry, single, whole, entry_of, below_entry, IsOrdered}
-use Rattle.tree.specs.Form.{NodeValue, entry_node, form, top, root, IsBlobOf}
+use Rattle.tree.specs.Form.{NodeValue, entry_node, form, root, IsBlobOf}
 use Rattle.tree.specs.Merge.{merge}
 use Rattle.tree.specs.MergeAgrees.{IsBlobIn, IsBlobOfOne}
 use Rattle.tree.specs.Merging.{NodeWithin, MergeLines, conflict, unreadable, IsHeldIn, merged}
@@ -36,19 +32,18 @@ use Rattle.tree.specs.Lookup.{Looked, fault, nothing, found, LooksFrom, IsValue,
 use Rattle.tree.proofs.LookupLemmas.{looks_from, told_reads, entry_blobs}
 use Rattle.tree.proofs.LookupLemmas as lookups
 use Rattle.tree.proofs.OrderLemmas.{IsOrderedAt, ordered_at}
-use Rattle.tree.proofs.SameRoot.{same_root}
-use Rattle.tree.proofs.TreeDigests.{IsDigest-digest_of, only_empty}
+use Rattle.tree.proofs.TreeDigests.{only_empty}
 use Rattle.verifier.specs.Together.{LooksUpOrigin, StandsAtOrigin, Resolves, LinesFault, not_read, IsFaultOfLook, FirstFault, put_together}
-use Rattle.verifier.specs.AsRecorded.{AreAsRecorded, IsAccepted}
+use Rattle.verifier.specs.AsRecorded.{AreAsRecorded}
 use Rattle.verifier.specs.Holding.{HoldsResult}
-use Rattle.verifier.specs.Build.{Meaning, ActionMeaning, action_digest, Outcome, output_at, StepFits, MeaningFits, Event, start, finish, lose, State, opening, outcome_of, job_of, origin_at, origins, merge_of, step_action, action_of, started, finished, lost, happens, IsTable, Obeys, IsRun, HasFinishedAll}
-use Rattle.verifier.specs.Headline.{PlanRun, IsConcerned, RunsFrom, IsDirectoryInTree, IsBlobOfEntry, IsBlobOfAction, IsBlobOfOutcome, IsBlobOfEvent, IsBlobOfEvents, IsBlobOfChosen, HasFinished, IsNotStuck, IsAsChosen}
-use Rattle.verifier.specs.Recorded.{Agrees, IsRecordedAs, RecordsAt}
+use Rattle.verifier.specs.Build.{ActionMeaning, action_digest, Outcome, output_at, State, outcome_of, origin_at, origins, merge_of}
+use Rattle.verifier.specs.Headline.{PlanRun, IsConcerned, RunsFrom, IsBlobOfEntry, IsBlobOfOutcome, IsBlobOfChosen, HasFinished}
+use Rattle.verifier.specs.Recorded.{IsRecordedAs, RecordsAt}
 use Rattle.verifier.proofs.HeldOrigins.{source_held, outcome_held}
 use Rattle.verifier.proofs.LinesTold.{valid_tree, tree_blobs, IsRead, LinesTell, no_lines, one_more, told_graft, no_graft_told}
 use Rattle.verifier.proofs.OutputLookups.{HoldsTree, HoldsOutput, output_found, outputs_tell}
 use Rattle.verifier.proofs.RecordedSteps.{get_other, as_many, IsRecordedStep, step_at}
-use Rattle.verifier.proofs.Targets.{ArePaths, paths_of, step_paths, output_ordered}
+use Rattle.verifier.proofs.Targets.{ArePaths, output_ordered}
 
 -- ---- lists and options
 

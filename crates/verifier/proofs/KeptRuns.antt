@@ -1,54 +1,30 @@
 -- What runs of a plan whose first steps are as recorded keep, and what they come to where all steps are.
-use Rattle.std.proofs.Common.{◌≡◌, ℕ, zero, suc, Bool, true, false, cond, List, [], ◌∷◌, Option, Some, None, length, refl, ap, sym, ◌∙◌, subst, arith, inl, inr}
-use Rattle.std.specs.Prelude.{◌==◌, ◌≢◌, ◌⊎◌, pos, option_map, option_and_then, slice_get, Contains}
-use Rattle.std.specs.List.{AllByRecursion}
-use Rattle.std.specs.Map.{lookup, remove_entry}
-use Rattle.std.proofs.lemmas.Bool.Decides.{Decides-eqb}
-use Rattle.blob_digest.specs.Digest.{DigestValue, digest_of, NoClash}
-use Rattle.messages.specs.Directory.{directory_bytes}
-use Rattle.messages.specs.declared.node.Node.TheVariants.{Dir}
-use Rattle.messages.specs.Tree.{TreeValue, IsTree, tree_bytes}
+use Rattle.std.proofs.Common.{◌≡◌, ℕ, List, [], ◌∷◌, Option, Some, None, length, refl, ap, sym, ◌∙◌, subst, inl, inr}
+use Rattle.std.specs.Prelude.{◌==◌, option_map, option_and_then, slice_get, Contains}
+use Rattle.std.specs.Map.{remove_entry}
+use Rattle.blob_digest.specs.Digest.{DigestValue, digest_of}
 use Rattle.action_messages.specs.Action.{ActionValue, IsAction, with_input, action_bytes}
-use Rattle.action_messages.specs.ActionResult.{ActionResultValue}
 use Rattle.action_messages.specs.Command.{CommandValue, IsCommand, command_bytes}
 use Rattle.action_messages.specs.Frame.{FrameValue, frame_bytes}
-use Rattle.actions.specs.Outcome.{OutputValue, OutcomeValue, IsOutcome}
-use Rattle.actions.specs.OutcomeLookup.{LooksIn, LiesWithin}
-use Rattle.action_messages.specs.Outputs.{RecordedValue, file, directory, link}
-use Rattle.actions.specs.Recorded.{StandForAll}
+use Rattle.actions.specs.Outcome.{OutcomeValue}
 use Rattle.actions.proofs.EncodedOnce.{frame_bytes_injective, action_bytes_injective, command_bytes_injective}
-use Rattle.action_messages.specs.Reads.{Reads}
-use Rattle.action_messages.proofs.ReadOnce.{reads_once}
-use Rattle.actions.proofs.RecordedAt.{recorded_at}
-use Rattle.actions.proofs.TreeBytes.{tree_bytes_some}
 use Rattle.actions.proofs.Rooms.{holds_at}
-use Rattle.plan.specs.Plan.{IsPlan}
 use Rattle.plan.specs.Values.{OriginValue, source, output, LineValue, StepValue, PlanValue}
-use Rattle.tree.specs.Tree.{Name, Tree, Leaf, Entry, single, whole, entry_of, below_entry, IsOrdered}
-use Rattle.tree.specs.Form.{NodeValue, entry_node, form, top, root, IsBlobOf}
-use Rattle.tree.specs.Merge.{merge}
-use Rattle.tree.specs.MergeAgrees.{IsBlobIn, IsBlobOfOne}
-use Rattle.tree.specs.Merging.{NodeWithin, MergeLines, conflict, unreadable, IsHeldIn, merged}
+use Rattle.tree.specs.Tree.{Tree, Leaf, IsOrdered}
+use Rattle.tree.specs.Form.{NodeValue, form, top, root}
+use Rattle.tree.specs.Merging.{MergeLines}
 use Rattle.tree.specs.Stage.{◌and_then◌}
-use Rattle.blob_source.specs.Source.{Blobs, IsUnder, IsBlobUnder}
-use Rattle.blob_source.specs.Told.{Fault, IsTold, TellsDirectory, FailsDirectory}
-use Rattle.tree.specs.Lookup.{Looked, fault, nothing, found, LooksFrom, IsValue, AgreesWith}
-use Rattle.tree.proofs.LookupLemmas.{looks_from, told_reads, entry_blobs}
-use Rattle.tree.proofs.LookupLemmas as lookups
-use Rattle.tree.proofs.OrderLemmas.{IsOrderedAt, ordered_at}
+use Rattle.blob_source.specs.Source.{Blobs}
+use Rattle.blob_source.specs.Told.{IsTold}
+use Rattle.tree.specs.Lookup.{found}
 use Rattle.tree.proofs.SameRoot.{same_root}
-use Rattle.tree.proofs.TreeDigests.{IsDigest-digest_of, only_empty}
-use Rattle.verifier.specs.Together.{LooksUpOrigin, StandsAtOrigin, Resolves, LinesFault, not_read, IsFaultOfLook, FirstFault, put_together}
-use Rattle.verifier.specs.AsRecorded.{AreAsRecorded, IsAccepted}
-use Rattle.verifier.specs.Build.{Meaning, ActionMeaning, action_digest, Outcome, output_at, StepFits, MeaningFits, Event, start, finish, lose, State, opening, outcome_of, job_of, origin_at, origins, merge_of, step_action, action_of, started, finished, lost, happens, IsTable, Obeys, IsRun, HasFinishedAll}
-use Rattle.verifier.specs.Headline.{IsDirectoryInTree, IsBlobOfEntry, IsBlobOfAction, IsBlobOfOutcome, IsBlobOfEvent, IsBlobOfEvents, IsBlobOfChosen, HasFinished, IsNotStuck, IsAsChosen}
-use Rattle.verifier.specs.Recorded.{Agrees, IsRecordedAs, RecordsAt}
-use Rattle.verifier.proofs.HeldOrigins.{source_held, outcome_held}
-use Rattle.verifier.proofs.LinesTold.{valid_tree, tree_blobs, IsRead, LinesTell, no_lines, one_more, told_graft, no_graft_told}
-use Rattle.verifier.proofs.OutputLookups.{HoldsTree, HoldsOutput, output_found, outputs_tell}
-use Rattle.verifier.proofs.RecordedSteps.{get_other, as_many, IsRecordedStep, step_at}
-use Rattle.verifier.proofs.Targets.{ArePaths, paths_of, step_paths, output_ordered}
-use Rattle.verifier.specs.Headline.{IsConcerned, RunsFrom, PlanRun}
+use Rattle.tree.proofs.TreeDigests.{IsDigest-digest_of}
+use Rattle.verifier.specs.Together.{LooksUpOrigin, Resolves, put_together}
+use Rattle.verifier.specs.AsRecorded.{IsAccepted}
+use Rattle.verifier.specs.Build.{ActionMeaning, action_digest, Outcome, StepFits, Event, start, finish, lose, State, opening, job_of, merge_of, step_action, action_of, started, finished, lost, happens, Obeys, IsRun, HasFinishedAll}
+use Rattle.verifier.specs.Headline.{IsBlobOfAction, IsBlobOfEvent, IsBlobOfEvents, HasFinished, IsNotStuck, IsAsChosen}
+use Rattle.verifier.proofs.Targets.{paths_of, step_paths}
+use Rattle.verifier.specs.Headline.{PlanRun}
 use Rattle.verifier.proofs.FreshRuns.{one_answer, found_one, kept_rest, IsGiven, HaveFinished, told_bytes, values, picked, Chosen, chosen_at, pair_in_table, succeeds, IsPublished, IsJob, Keeps, origin_step, grafts, graft_finished}
 
 -- the action that is told under a digest has the step's frame, and its input is what the step's lines put together

@@ -12,7 +12,7 @@ use Rattle.action_messages.specs.Outputs.{file}
 use Rattle.action_messages.proofs.Written.{canon_reads}
 use Rattle.tree.specs.Merge.{merge}
 use Rattle.tree.specs.Stage.{◌and_then◌}
-use Rattle.tree.specs.Tree.{Name, Leaf, Entry, empty}
+use Rattle.tree.specs.Tree.{Name, empty}
 use Rattle.tree.specs.Form.{NodeValue}
 use Rattle.verifier.specs.declared.verdict.Cause.{Cause}
 use Rattle.verifier.specs.declared.verdict.Cause.TheVariants.{ExitCode, OutputUnlisted}

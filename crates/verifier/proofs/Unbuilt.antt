@@ -1,28 +1,23 @@
 -- Where lines of a plan put nothing together by what was recorded, they do so in no run, and where a recorded action isn't the plan's, no run has it.
 use Rattle.std.proofs.Common.{◌≡◌, ℕ, zero, suc, List, [], ◌∷◌, ◌++◌, Some, length, ap, arith, ◌∙◌, subst, inl, inr}
 use Rattle.std.specs.Prelude.{◌≢◌, ◌⊎◌, ◌≤◌, slice_get, take}
-use Rattle.blob_digest.specs.Digest.{DigestValue, digest_of}
+use Rattle.blob_digest.specs.Digest.{DigestValue}
 use Rattle.actions.specs.Outcome.{OutcomeValue}
-use Rattle.action_messages.specs.Action.{ActionValue, IsAction, action_bytes}
 use Rattle.action_messages.specs.Command.{CommandValue}
-use Rattle.action_messages.specs.Frame.{frame_bytes}
 use Rattle.action_messages.specs.Outputs.{RecordedValue}
 use Rattle.plan.specs.Plan.{IsPlan}
 use Rattle.plan.specs.Values.{LineValue, StepValue, PlanValue}
 use Rattle.tree.specs.Difference.{Differing, unexplained, absent, differs, unread}
-use Rattle.tree.specs.Form.{NodeValue, root}
 use Rattle.tree.specs.Stage.{◌and_then◌}
-use Rattle.tree.specs.Tree.{Tree}
 use Rattle.blob_source.specs.Source.{Blobs, Telling}
-use Rattle.blob_source.specs.Told.{Fault, missing, wrong, malformed, IsTold}
+use Rattle.blob_source.specs.Told.{Fault, missing, wrong, malformed}
 use Rattle.verifier.specs.declared.verdict.Cause.{Cause}
 use Rattle.verifier.specs.declared.verdict.Place.TheVariants.{Step, Root}
 use Rattle.verifier.specs.declared.verdict.Verdict.TheVariants.{No}
 use Rattle.verifier.specs.AsRecorded.{AreAsRecorded}
 use Rattle.verifier.specs.Faults.{cause_of_fault, cause_of_lines}
-use Rattle.verifier.specs.Headline.{IsConcerned}
 use Rattle.verifier.specs.StepChecks.{difference_cause, OutputFault, together, step_check}
-use Rattle.verifier.specs.Together.{LinesFault, no_origin, in_conflict, not_read, put_together}
+use Rattle.verifier.specs.Together.{LinesFault, no_origin, in_conflict, not_read}
 use Rattle.verifier.specs.Unbuilt.{IsOfLines, NoRunStarts, NoRunHasRoot, IsOfAction, NoRunHasAction}
 use Rattle.verifier.specs.Verdict.{root_check, IsVerdict}
 use Rattle.verifier.proofs.FreshRuns.{FirstAsRecorded, IsLinesFault, put_nothing}
