@@ -1,8 +1,8 @@
 -- What was told of a tree, and what wasn't made.
-use Rattle.std.proofs.Common.{◌≡◌, ◌≢◌, ℕ, ap, ◌+◌, ◌≤◌, List, [], ◌∷◌, ◌++◌, refl, subst, sym, arith, inl, inr}
+use Rattle.std.proofs.Common.{◌≡◌, ◌≢◌, ℕ, ap, ◌∙◌, ◌+◌, ◌≤◌, List, [], ◌∷◌, ◌++◌, refl, subst, sym, arith, inl, inr}
 use Rattle.std.specs.Prelude.{◌⊎◌, Bool, if◌then◌else◌, Result, Ok, Err, IfErr, Contains}
-use Rattle.std.proofs.lemmas.List.Elements.{Contains-append_right}
-use Rattle.std.proofs.lemmas.List.Sums.{sum_by-cons}
+use Rattle.std.proofs.lemmas.List.Elements.{Contains-append_left, Contains-append_right}
+use Rattle.std.proofs.lemmas.List.Sums.{sum_by-append, sum_by-cons}
 use Rattle.std.specs.declared.io.Error.{Error}
 use Rattle.blob_digest.specs.Digest.{DigestValue, empty_digest}
 use Rattle.messages.specs.declared.node.Node.TheVariants.{File}
@@ -14,16 +14,16 @@ use Rattle.tree.specs.Memo.{Asked, AsksNoOther}
 use Rattle.tree.specs.Form.{NodeValue}
 use Rattle.tree.specs.FlatTree.{FlatValue}
 use Rattle.tree.proofs.Memos.{same_or_other}
-use Rattle.tree.proofs.UnfoldSteps.{unfolded_still}
 use Rattle.tree.proofs.Ways.{unfold_still}
 use Rattle.checkout.specs.declared.error.CheckoutError.{CheckoutError}
 use Rattle.checkout.specs.declared.error.CheckoutError.TheVariants as errors
 use Rattle.tree.specs.Unfolded.{IsUnfolded, directories_in}
-use Rattle.tree.proofs.Leaving.{others_then}
+use Rattle.tree.proofs.Leaving.{others_more, others_then}
 use Rattle.checkout.specs.Folder.{Tried}
 use Rattle.checkout.specs.Refused.{Refuses, FailsOneEntry, FailsPlace}
 use Rattle.checkout.specs.Refused.FailsOneEntry.{refused}
-use Rattle.checkout.specs.Written.{AsksEachOnce, EntryLooksAt, EntriesLookAt, CheckoutLooksAt, contents_at, contents_in}
+use Rattle.checkout.specs.Written.{AsksContents, AsksEachOnce, AsksUpTo, EntryLooksAt, EntriesLookAt, CheckoutLooksAt, contents_at, contents_in}
+use Rattle.checkout.specs.Written.Reach.{of_entries}
 use Rattle.checkout.specs.Written.AsksEachOnce.{in_entries}
 
 -- ---- what isn't asked for
@@ -35,16 +35,6 @@ asks_nothing = record { same = λ d not. refl }
 pub entry_looks : (done left : FlatValue) (p : List Name) (s : Standing NodeValue) (all : FlatValue) (a : Asked) → all ≡ done ++ (p, s) ∷ left → EntryLooksAt s a → EntriesLookAt all a
 entry_looks done left p s all a split h =
     ((p, s), subst (λ es. Contains es (p, s)) (sym split) (Contains-append_right done ((p, s) ∷ left) (p, s) (0, omega arith, refl)), h)
-
--- the tree's Directories, while the source tells more
-pub directories_looked : {B C : Blobs} (d : DigestValue) (a : Asked) → Grows B C → UnfoldLooksAt B d a → CheckoutLooksAt C d a
-directories_looked d a grows h = inl (unfold_still d a grows h)
-
--- and then the contents of its files
-pub tree_looked : {old mid new : Blobs} (d : DigestValue) (tree : FlatValue) {es : FlatValue} → Grows mid new → IsUnfolded mid d tree → es ≡ tree
-    → AsksNoOther (UnfoldLooksAt mid d) old mid → AsksNoOther (EntriesLookAt es) mid new → AsksNoOther (CheckoutLooksAt new d) old new
-tree_looked d tree grows told is first next =
-    others_then (λ a. directories_looked d a grows) (λ a h. inr (tree, unfolded_still grows told, subst (λ es. EntriesLookAt es a) is h)) first next
 
 -- ---- how often the source is asked
 
@@ -60,10 +50,43 @@ content_few {old} {new} d x asks unasked = by (same_or_other d empty_digest)
 pub contents_more : (e : List Name × Standing NodeValue) (es : FlatValue) → contents_in (e ∷ es) ≡ contents_at e.1 + contents_in es
 contents_more e es = sum_by-cons (λ (e : List Name × Standing NodeValue). contents_at e.1) e es
 
--- for a tree and its files
-pub asks_files : {d : DigestValue} {old new : Telling} {tree es : FlatValue} (mid : Telling) → Grows mid.blobs new.blobs → IsUnfolded mid.blobs d tree → es ≡ tree
-    → mid.calls ≤ old.calls + 1 + directories_in tree → new.calls ≤ mid.calls + contents_in es → AsksEachOnce d old new
-asks_files {tree = tree} mid grows told same first next = let contents = ap contents_in same in in_entries tree (unfolded_still grows told) (omega (arith, first, next, contents))
+pub contents_none : (t : Telling) → AsksContents t t []
+contents_none t = record { few = omega arith; only = asks_nothing }
+
+pub contents_then : {told : Telling} (m n : Telling) (done : FlatValue) (p : List Name) (s : Standing NodeValue) → AsksContents told m done → n.calls ≤ m.calls + contents_at s → AsksNoOther (EntryLooksAt s) m.blobs n.blobs
+    → AsksContents told n (done ++ (p, s) ∷ [])
+contents_then m n done p s h few only =
+    let sum = sum_by-append (λ (e : List Name × Standing NodeValue). contents_at e.1) done ((p, s) ∷ []) in
+    let one = contents_more (p, s) [] in
+    record {
+      few = omega (arith, h.few, few, sum, one);
+      only = others_then (λ a k. (k.0, Contains-append_left done ((p, s) ∷ []) k.0 k.1, k.2)) (λ a k. entry_looks done [] p s (done ++ (p, s) ∷ []) a refl k) h.only only;
+    }
+
+-- for some of the entries, and so at most for all
+pub contents_among : {old new : Telling} {all : FlatValue} (some left : FlatValue) → all ≡ some ++ left → AsksContents old new some → AsksContents old new all
+contents_among some left whole h =
+    let sum = ap contents_in whole ∙ sum_by-append (λ (e : List Name × Standing NodeValue). contents_at e.1) some left in
+    record {
+      few = omega (arith, h.few, sum);
+      only = others_more (λ a k. (k.0, subst (λ es. Contains es k.0) (sym whole) (Contains-append_left some left k.0 k.1), k.2)) h.only;
+    }
+
+-- for a tree, and then for entries of it
+pub tree_then : {d : DigestValue} {new : Telling} {entries : FlatValue} (old mid : Telling) (tree : FlatValue) → Grows mid.blobs new.blobs → mid.calls ≤ old.calls + 1 + directories_in tree → AsksNoOther (UnfoldLooksAt mid.blobs d) old.blobs mid.blobs
+    → AsksContents mid new entries → AsksUpTo d old new (of_entries tree entries)
+tree_then {d = d} old mid tree grows few only next = (omega (arith, few, next.few), others_then (λ a h. inl (unfold_still d a grows h)) (λ a h. inr h) only next.only)
+
+-- so for a tree and all of its files
+pub asks_files : {d : DigestValue} {tree : FlatValue} (old new : Telling) → IsUnfolded new.blobs d tree → AsksUpTo d old new (of_entries tree tree) → AsksEachOnce d old new
+asks_files {tree = tree} old new told h = in_entries tree told h.0
+
+pub tree_looked : {d : DigestValue} {tree : FlatValue} (old new : Telling) → IsUnfolded new.blobs d tree → AsksUpTo d old new (of_entries tree tree) → AsksNoOther (CheckoutLooksAt new.blobs d) old.blobs new.blobs
+tree_looked {d} {tree} old new told h = others_more by h.1
+  where
+    by : (a : Asked) → UnfoldLooksAt new.blobs d a ⊎ EntriesLookAt tree a → CheckoutLooksAt new.blobs d a
+    by a (inl k) = inl k
+    by a (inr k) = inr (tree, told, k)
 
 -- ---- refusals
 

@@ -15,7 +15,8 @@ use Rattle.tree.specs.Form.{NodeValue}
 use Rattle.tree.specs.FlatTree.{FlatValue}
 use Rattle.tree.specs.Unfolded.{IsUnfolded, IsDeep, IsFaultBelow}
 use Rattle.checkout.specs.Folder.{FolderValue, Tried, Written}
-use Rattle.checkout.specs.Written.{AreWritten, place_below, places_of}
+use Rattle.checkout.specs.Written.{AreWritten, Reach, place_below, places_of}
+use Rattle.checkout.specs.Written.Reach.{of_tree, of_entries}
 use Rattle.checkout.specs.declared.error.CheckoutError.{CheckoutError}
 use Rattle.checkout.specs.declared.error.CheckoutError.TheVariants.{Missing, Wrong, Malformed}
 use Rattle.checkout.specs.declared.error.CheckoutError.TheVariants.{TooDeep, Fetch, Place, Memory}
@@ -72,10 +73,10 @@ pub data FailsOneEntry {A : Type 0} (refuses : Refuses) (tries : Tried) (B : Blo
       → FailsOneEntry refuses tries B place s e
 
 -- Why entries aren't written: one isn't, and those before it are, by a call each. `has` says what a
--- folder has after these.
+-- folder has after these, and `asks` that no content was asked for but theirs and that one's.
 pub record FailsEntries {A : Type 0} (has : List (List ℕ × Written) → Type 0) (refuses : Refuses)
-    (tries : Tried) (B : Blobs) (folder : List ℕ) (entries : FlatValue) (e : CheckoutError A)
-    : Type 0 where
+    (tries : Tried) (asks : FlatValue → Type 0) (B : Blobs) (folder : List ℕ)
+    (entries : FlatValue) (e : CheckoutError A) : Type 0 where
   pub done : FlatValue
   pub path : List Name
   pub standing : Standing NodeValue
@@ -84,19 +85,23 @@ pub record FailsEntries {A : Type 0} (has : List (List ℕ × Written) → Type 
   pub written : List (List ℕ × Written)
   pub of_done : AreWritten B folder done written
   pub before : has written
+  pub asked : asks (done ++ (path, standing) ∷ [])
   pub fails : FailsOneEntry refuses (λ more. tries (places_of folder done ++ more)) B
       (place_below folder (path_text path)) standing e
 
--- Why the tree under a digest isn't written, the first reason, and what was tried until then: it
--- isn't had, and nothing was; or the folder isn't taken, and that alone was; or one of the tree's
--- entries isn't written, while the folder has those before it.
+-- Why the tree under a digest isn't written, the first reason, and what was tried and asked for
+-- until then: it isn't had, and nothing was tried; or the folder isn't taken, that alone was tried
+-- and no content asked for; or one of the tree's entries isn't written, while the folder has those
+-- before it.
 pub data FailsCheckout {A : Type 0} (has : FolderValue → Type 0) (refuses : Refuses)
-    (tries : Tried) (B : Blobs) (d : DigestValue) (folder : List ℕ) (e : CheckoutError A)
-    : Type 0 where
-  in_tree : tries [] → FailsTree B d e → FailsCheckout has refuses tries B d folder e
+    (tries : Tried) (asks : Reach → Type 0) (B : Blobs) (d : DigestValue) (folder : List ℕ)
+    (e : CheckoutError A) : Type 0 where
+  in_tree : tries [] → asks of_tree → FailsTree B d e
+      → FailsCheckout has refuses tries asks B d folder e
   in_folder : (entries : FlatValue) → IsUnfolded B d entries → tries (folder ∷ [])
-      → FailsPlace refuses folder e → FailsCheckout has refuses tries B d folder e
+      → asks (of_entries entries []) → FailsPlace refuses folder e
+      → FailsCheckout has refuses tries asks B d folder e
   in_entries : (entries : FlatValue) → IsUnfolded B d entries
       → FailsEntries (λ written. has (record { path = folder; written = written })) refuses
-      (λ more. tries (folder ∷ more)) B folder entries e
-      → FailsCheckout has refuses tries B d folder e
+      (λ more. tries (folder ∷ more)) (λ some. asks (of_entries entries some)) B folder entries e
+      → FailsCheckout has refuses tries asks B d folder e

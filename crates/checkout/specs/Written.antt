@@ -7,7 +7,7 @@ use Rattle.messages.specs.Path.{path_text}
 use Rattle.messages.specs.declared.node.Node.TheVariants.{File, Link}
 use Rattle.blob_source.specs.Source.{Blobs, IsBlobUnder, Telling}
 use Rattle.tree.specs.LooksAt.{UnfoldLooksAt}
-use Rattle.tree.specs.Memo.{Asked, LooksAtBlob}
+use Rattle.tree.specs.Memo.{Asked, AsksNoOther, LooksAtBlob}
 use Rattle.tree.specs.Tree.{Name, Standing, a_leaf, a_directory}
 use Rattle.tree.specs.Form.{NodeValue}
 use Rattle.tree.specs.FlatTree.{FlatValue}
@@ -91,6 +91,30 @@ pub data AsksEachOnce (d : DigestValue) (old new : Telling) : Type 0 where
   in_entries : (entries : FlatValue) → IsUnfolded new.blobs d entries
       → new.calls ≤ old.calls + 1 + directories_in entries + contents_in entries
       → AsksEachOnce d old new
+
+-- The contents of these entries were asked for, each at most once, and nothing else was.
+pub record AsksContents (old new : Telling) (entries : FlatValue) : Type 0 where
+  pub few : new.calls ≤ old.calls + contents_in entries
+  pub only : AsksNoOther (EntriesLookAt entries) old.blobs new.blobs
+
+-- how far a check-out came: to Directories of its tree; or it had the tree, and came to these of
+-- the entries
+pub data Reach : Type 0 where
+  of_tree : Reach
+  of_entries : (tree entries : FlatValue) → Reach
+
+-- What was asked for until then, each at most once, and nothing else was: Directories of the tree;
+-- and the contents of those entries.
+abbrev pub AsksUpTo : DigestValue → Telling → Telling → Reach → Type 0
+AsksUpTo d old new of_tree = AsksDirectories new.blobs d old new
+    × AsksNoOther (UnfoldLooksAt new.blobs d) old.blobs new.blobs
+AsksUpTo d old new (of_entries tree entries) =
+    (new.calls ≤ old.calls + 1 + directories_in tree + contents_in entries)
+    × AsksNoOther (λ a. UnfoldLooksAt new.blobs d a ⊎ EntriesLookAt entries a) old.blobs new.blobs
+
+-- nothing is said of what was asked for
+abbrev pub asked_somehow : Reach → Type 0
+asked_somehow reach = Unit {0}
 
 -- ---- entry by entry
 

@@ -11,8 +11,8 @@ ghost use Rattle.tree.specs.Unfolded.{AsksDirectories, ExplainsUnfold, IsUnfolde
 ghost use Rattle.tree.specs.Unfolded.{directories_in};
 ghost use Rattle.checkout.specs.Folder.{IsHad, Tries};
 ghost use Rattle.checkout.specs.Written.{HoldsTree, IsGained, MakesEntry, MakesEntries, TriesTree};
-ghost use Rattle.checkout.specs.Written.{AsksEachOnce, CheckoutLooksAt, EntriesLookAt};
-ghost use Rattle.checkout.specs.Written.{EntryLooksAt, IsToldTree, contents_at, contents_in};
+ghost use Rattle.checkout.specs.Written.{AsksContents, AsksEachOnce, AsksUpTo, CheckoutLooksAt};
+ghost use Rattle.checkout.specs.Written.{EntryLooksAt, IsToldTree, contents_at};
 ghost use Rattle.checkout.specs.Written.{place_below, places_of};
 ghost use Rattle.checkout.specs.Refused.{FailsCheckout, FailsContent, FailsEntries, FailsOneEntry};
 ghost use Rattle.checkout.specs.Refused.{FailsPlace, FailsTree, StopsUnfold};
@@ -166,15 +166,14 @@ fn write_entries<A: Allocator + Copy, S: BlobSource<A>, W: FolderWriter>(
         folder.new path.now (path_values entries.items)) }
     ensures tried { OnOk result (Tries W.tried writer.old writer.new
         (places_of path.now (path_values entries.items))) }
-    ensures few { (S.tells source.new).calls
-        ≤ (S.tells source.old).calls + contents_in (path_values entries.items) }
-    ensures refused { IfErr result (FailsEntries (IsGained W.works folder.old) W.works.refuses
-        (Tries W.tried writer.old writer.new) (S.tells source.new).blobs path.now
+    ensures asked { OnOk result (AsksContents (S.tells source.old) (S.tells source.new)
         (path_values entries.items)) }
+    ensures refused { IfErr result (FailsEntries (IsGained W.works folder.old) W.works.refuses
+        (Tries W.tried writer.old writer.new)
+        (AsksContents (S.tells source.old) (S.tells source.new))
+        (S.tells source.new).blobs path.now (path_values entries.items)) }
     ensures called { Called (S.tells source.old) (S.tells source.new)
         (IsErrOf result CheckoutError.Fetch) }
-    ensures only { AsksNoOther (EntriesLookAt (path_values entries.items))
-        (S.tells source.old).blobs (S.tells source.new).blobs }
 {
     for (below, entry) in entries {
         let place = place_below(alloc, path, below.as_str())?;
@@ -204,12 +203,15 @@ pub fn check_out<A: Allocator + Copy, S: BlobSource<A>, W: FolderWriter>(
     ensures unwritten { OnErr result
         (IsToldTree (S.tells source.new).blobs root.now ⊎ (writer.new ≡ writer.old)) }
     ensures few { AsksEachOnce root.now (S.tells source.old) (S.tells source.new) }
-    // Once something isn't told, taken or written, nothing more is tried.
+    // Once something isn't told, taken or written, nothing more is tried, and nothing behind it is
+    // asked for.
     ensures refused { IfErr result (FailsCheckout (IsHad W.works) W.works.refuses
-        (Tries W.tried writer.old writer.new) (S.tells source.new).blobs root.now path.now) }
+        (Tries W.tried writer.old writer.new)
+        (AsksUpTo root.now (S.tells source.old) (S.tells source.new))
+        (S.tells source.new).blobs root.now path.now) }
     ensures called { Called (S.tells source.old) (S.tells source.new)
         (IsErrOf result CheckoutError.Fetch) }
-    // Nothing is asked for but the tree's Directories and its files' contents.
+    // No blob is asked for but the tree's Directories and its files' contents.
     ensures only { AsksNoOther (CheckoutLooksAt (S.tells source.new).blobs root.now)
         (S.tells source.old).blobs (S.tells source.new).blobs }
 {

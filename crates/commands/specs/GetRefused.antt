@@ -7,6 +7,7 @@ use Rattle.blob_digest.specs.Digest.{DigestValue, digest_of, empty_digest}
 use Rattle.blob_digest.specs.Text.{digest_text}
 use Rattle.blob_source.specs.Source.{Telling}
 use Rattle.checkout.specs.Refused.{FailsCheckout}
+use Rattle.checkout.specs.Written.{asked_somehow}
 use Rattle.checkout.specs.declared.error.CheckoutError.{CheckoutError}
 use Rattle.checkout.specs.declared.error.CheckoutError.TheVariants as trees
 use Rattle.clap.specs.Words.{Row, first_of}
@@ -75,7 +76,8 @@ pub record FailsGetTree (sees : Sight) (start : ConnectionValue) (address : List
   pub told : Telling
   pub over : ∥ IsToldOver gets_alone start told ∥₁
   pub error : CheckoutError Global
-  pub fails : FailsCheckout sees.holds sees.unwritten sees.tries told.blobs digest folder error
+  pub fails : FailsCheckout sees.holds sees.unwritten sees.tries asked_somehow told.blobs digest
+      folder error
   pub tells : TellsCheckout start address error e
 
 -- ---- the command

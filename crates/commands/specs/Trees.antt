@@ -6,7 +6,7 @@ use Rattle.blob_digest.specs.Digest.{DigestValue}
 use Rattle.blob_digest.specs.Text.{digest_text}
 use Rattle.blob_source.specs.Source.{Telling}
 use Rattle.checkout.specs.Refused.{FailsCheckout}
-use Rattle.checkout.specs.Written.{HoldsTree, TriesTree}
+use Rattle.checkout.specs.Written.{HoldsTree, TriesTree, asked_somehow}
 use Rattle.checkout.specs.declared.error.CheckoutError.{CheckoutError}
 use Rattle.checkout.specs.declared.error.CheckoutError.TheVariants.{Missing}
 use Rattle.http_core.specs.declared.event.Area.TheVariants.{Cas}
@@ -46,7 +46,8 @@ pub record LacksTree (sees : Sight) (start : ConnectionValue) (digest : DigestVa
   pub told : Telling
   pub over : ∥ IsToldOver gets_alone start told ∥₁
   pub error : CheckoutError Global
-  pub fails : FailsCheckout sees.holds sees.unwritten sees.tries told.blobs digest folder error
+  pub fails : FailsCheckout sees.holds sees.unwritten sees.tries asked_somehow told.blobs digest
+      folder error
   pub lacks : PrintsLack start error appends
 
 -- one of both, and the line of a blob stands without a note

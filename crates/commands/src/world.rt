@@ -3,7 +3,8 @@ ghost use Rattle.std.specs.Prelude.{string_bytes};
 ghost use Rattle.std.specs.Fs.{IsDir, IsSymlink, file_type};
 ghost use Rattle.blob_source.specs.Called.{Called};
 ghost use Rattle.checkout.specs.Refused.{FailsCheckout};
-ghost use Rattle.checkout.specs.Written.{AsksEachOnce, CheckoutLooksAt, HoldsTree, TriesTree};
+ghost use Rattle.checkout.specs.Written.{AsksEachOnce, AsksUpTo, CheckoutLooksAt, HoldsTree};
+ghost use Rattle.checkout.specs.Written.{TriesTree};
 ghost use Rattle.messages.specs.Order.{bytes_cmp};
 ghost use Rattle.remote.specs.Folder.{IsErrorOf};
 ghost use Rattle.tree.specs.Memo.{AsksNoOther};
@@ -140,12 +141,13 @@ pub trait World {
             (HoldsTree sees.holds (S.tells source.new).blobs root.now path.now) }
         ensures tried { OnOk result
             (TriesTree sees.tries (S.tells source.new).blobs root.now path.now) }
-        // Once something isn't told, taken or written, nothing more is tried.
-        ensures refused { IfErr result
-            (FailsCheckout sees.holds sees.unwritten sees.tries (S.tells source.new).blobs
-            root.now path.now) }
+        // Once something isn't told, taken or written, nothing more is tried, and nothing behind
+        // it is asked for.
+        ensures refused { IfErr result (FailsCheckout sees.holds sees.unwritten sees.tries
+            (AsksUpTo root.now (S.tells source.old) (S.tells source.new))
+            (S.tells source.new).blobs root.now path.now) }
         ensures few { AsksEachOnce root.now (S.tells source.old) (S.tells source.new) }
-        // Nothing is asked for but the tree's Directories and its files' contents.
+        // No blob is asked for but the tree's Directories and its files' contents.
         ensures only { AsksNoOther (CheckoutLooksAt (S.tells source.new).blobs root.now)
             (S.tells source.old).blobs (S.tells source.new).blobs }
         ensures called { Called (S.tells source.old) (S.tells source.new)

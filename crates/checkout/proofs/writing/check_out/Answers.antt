@@ -7,10 +7,10 @@ use Rattle.blob_source.proofs.Asking.{ok_no_error}
 use Rattle.checkout.specs.Folder.{Tries, empty_folder}
 use Rattle.checkout.specs.Refused.{FailsEntries, FailsPlace}
 use Rattle.checkout.specs.Refused.FailsCheckout.{in_tree, in_folder, in_entries}
-use Rattle.checkout.specs.Written.{AreWritten, IsGained, places_of}
+use Rattle.checkout.specs.Written.{AreWritten, AsksContents, IsGained, places_of}
 use Rattle.checkout.specs.Written.{AsksEachOnce as asking}
-use Rattle.checkout.proofs.Entries.{fails_had, told_anyway, tries_none, tries_then}
-use Rattle.checkout.proofs.Telling.{asks_files, place_fails, tree_looked}
+use Rattle.checkout.proofs.Entries.{asked_among, fails_had, told_anyway, tries_none, tries_then}
+use Rattle.checkout.proofs.Telling.{asks_files, contents_none, place_fails, tree_looked, tree_then}
 use Rattle.tree.proofs.UnfoldSteps.{unfolded_still}
 use Rattle.tree.proofs.Leaving.{others_more}
 use Rattle.checkout.proofs.writing.check_out.Goals as goal
@@ -20,17 +20,17 @@ use Rattle.checkout.proofs.writing.check_out.Goals as goal
 pub returns-in_err-tree-clause-refused : goal.returns-in_err-tree-clause-refused
 returns-in_err-tree-clause-refused g c =
     let p = err_from_is_err_and c.from_residual.result c.from_residual.ensures.1 in
-    rw (p.1, p.2) (in_tree (tries_none g.W.FolderWriter.tried c.args.writer.now) c.in_err-tree.ensures.refused)
+    rw (p.1, p.2) (in_tree (tries_none g.W.FolderWriter.tried c.args.writer.now) (c.read_tree.ensures.once, c.read_tree.ensures.only) c.in_err-tree.ensures.refused)
 
 pub returns-in_err-entries-clause-refused : goal.returns-in_err-entries-clause-refused
 returns-in_err-entries-clause-refused g c =
     let p = err_from_is_err_and c.from_residual-in_err-entries.result c.from_residual-in_err-entries.ensures.1 in
-    rw (p.1, p.2) (in_tree (tries_none g.W.FolderWriter.tried c.args.writer.now) tt)
+    rw (p.1, p.2) (in_tree (tries_none g.W.FolderWriter.tried c.args.writer.now) (c.read_tree.ensures.once, c.read_tree.ensures.only) tt)
 
 pub returns-in_err-place-clause-refused : goal.returns-in_err-place-clause-refused
 returns-in_err-place-clause-refused g c =
     let p = err_from_is_err_and c.from_residual-in_err-place.result c.from_residual-in_err-place.ensures.1 in
-    rw (p.1, p.2) (in_tree (tries_none g.W.FolderWriter.tried c.args.writer.now) tt)
+    rw (p.1, p.2) (in_tree (tries_none g.W.FolderWriter.tried c.args.writer.now) (c.read_tree.ensures.once, c.read_tree.ensures.only) tt)
 
 pub returns-in_err-tree-clause-only : goal.returns-in_err-tree-clause-only
 returns-in_err-tree-clause-only g c = others_more (λ a h. inl h) c.read_tree.ensures.only
@@ -55,7 +55,9 @@ returns-in_err-place-clause-few g c = asking.in_tree c.read_tree.ensures.once
 pub returns-in_err-folder-clause-refused : goal.returns-in_err-folder-clause-refused
 returns-in_err-folder-clause-refused g c =
     let p = err_from_is_err_and c.from_residual-in_err-folder.result c.from_residual-in_err-folder.ensures.1 in
+    let mid = g.S.BlobSource.tells c.read_tree.new.source in
     rw (p.1, p.2) (in_folder c.in_ok-tree.tree c.in_ok-tree.ensures.told c.take.ensures.tries
+    (tree_then (g.S.BlobSource.tells c.args.source.now) mid c.in_ok-tree.tree (λ d b h. h) c.in_ok-tree.ensures.few c.read_tree.ensures.only (contents_none mid))
     (place_fails g.W.FolderWriter.works.refuses c.args.path.now c.take.result c.in_err-folder.field-0.0
     (subst (λ q. FailsPlace (λ _ fault. c.take.result ≡ Err fault) q c.in_err-folder.field-0.0) c.in_ok-place.ensures.ok c.in_err-folder.ensures.refused) c.take.ensures.refused))
 
@@ -76,13 +78,15 @@ returns-in_err-write_entries-clause-refused g c =
     let works = g.W.FolderWriter.works in
     let tried = g.W.FolderWriter.tried in
     let path = c.args.path.now in
-    let blobs = (g.S.BlobSource.tells c.write_entries.new.source).blobs in
     let folder = c.in_ok-folder.folder in
     let taken = subst (λ r. IfOk r (λ f. works.has f (empty_folder path))) c.in_ok-folder.ensures.same c.take.ensures.taken in
-    let fails = subst (λ es. FailsEntries (IsGained works folder) works.refuses (Tries tried c.take.new.self c.write_entries.new.writer) blobs path es c.in_err-write_entries.field-0.0)
+    let mid = g.S.BlobSource.tells c.read_tree.new.source in
+    let new = g.S.BlobSource.tells c.write_entries.new.source in
+    let fails = subst (λ es. FailsEntries (IsGained works folder) works.refuses (Tries tried c.take.new.self c.write_entries.new.writer) (AsksContents mid new) new.blobs path es c.in_err-write_entries.field-0.0)
     c.in_ok-entries.ensures.value c.in_err-write_entries.ensures.refused in
     rw (p.1, p.2) (in_entries c.in_ok-tree.tree (unfolded_still c.write_entries.ensures.called.asked.blobs c.in_ok-tree.ensures.told)
-    (fails_had (λ ws h. (h.0, h.1 (empty_folder path) taken)) (λ ps h. tries_then tried c.args.writer.now c.take.new.self c.write_entries.new.writer (path ∷ []) ps c.take.ensures.tries h) fails))
+    (fails_had (λ ws h. (h.0, h.1 (empty_folder path) taken)) (λ ps h. tries_then tried c.args.writer.now c.take.new.self c.write_entries.new.writer (path ∷ []) ps c.take.ensures.tries h)
+    (λ some. tree_then (g.S.BlobSource.tells c.args.source.now) mid c.in_ok-tree.tree c.write_entries.ensures.called.asked.blobs c.in_ok-tree.ensures.few c.read_tree.ensures.only) fails))
 
 pub returns-in_err-write_entries-clause-called : goal.returns-in_err-write_entries-clause-called
 returns-in_err-write_entries-clause-called g c =
@@ -94,11 +98,17 @@ returns-in_err-write_entries-clause-unwritten g c =
 
 pub returns-in_err-write_entries-clause-only : goal.returns-in_err-write_entries-clause-only
 returns-in_err-write_entries-clause-only g c =
-    tree_looked c.args.root.now c.in_ok-tree.tree c.write_entries.ensures.called.asked.blobs c.in_ok-tree.ensures.told c.in_ok-entries.ensures.value c.read_tree.ensures.only c.write_entries.ensures.only
+    let mid = g.S.BlobSource.tells c.read_tree.new.source in
+    let new = g.S.BlobSource.tells c.write_entries.new.source in
+    tree_looked (g.S.BlobSource.tells c.args.source.now) new (unfolded_still c.write_entries.ensures.called.asked.blobs c.in_ok-tree.ensures.told)
+    (tree_then (g.S.BlobSource.tells c.args.source.now) mid c.in_ok-tree.tree c.write_entries.ensures.called.asked.blobs c.in_ok-tree.ensures.few c.read_tree.ensures.only (subst (AsksContents mid new) c.in_ok-entries.ensures.value (asked_among c.in_err-write_entries.ensures.refused)))
 
 pub returns-in_err-write_entries-clause-few : goal.returns-in_err-write_entries-clause-few
 returns-in_err-write_entries-clause-few g c =
-    asks_files (g.S.BlobSource.tells c.read_tree.new.source) c.write_entries.ensures.called.asked.blobs c.in_ok-tree.ensures.told c.in_ok-entries.ensures.value c.in_ok-tree.ensures.few c.write_entries.ensures.few
+    let mid = g.S.BlobSource.tells c.read_tree.new.source in
+    let new = g.S.BlobSource.tells c.write_entries.new.source in
+    asks_files (g.S.BlobSource.tells c.args.source.now) new (unfolded_still c.write_entries.ensures.called.asked.blobs c.in_ok-tree.ensures.told)
+    (tree_then (g.S.BlobSource.tells c.args.source.now) mid c.in_ok-tree.tree c.write_entries.ensures.called.asked.blobs c.in_ok-tree.ensures.few c.read_tree.ensures.only (subst (AsksContents mid new) c.in_ok-entries.ensures.value (asked_among c.in_err-write_entries.ensures.refused)))
 
 -- ---- all is written
 
@@ -128,11 +138,17 @@ returns-clause-tried g c =
 
 pub returns-clause-only : goal.returns-clause-only
 returns-clause-only g c =
-    tree_looked c.args.root.now c.in_ok-tree.tree c.write_entries.ensures.called.asked.blobs c.in_ok-tree.ensures.told c.in_ok-entries.ensures.value c.read_tree.ensures.only c.write_entries.ensures.only
+    let mid = g.S.BlobSource.tells c.read_tree.new.source in
+    let new = g.S.BlobSource.tells c.write_entries.new.source in
+    tree_looked (g.S.BlobSource.tells c.args.source.now) new (unfolded_still c.write_entries.ensures.called.asked.blobs c.in_ok-tree.ensures.told)
+    (tree_then (g.S.BlobSource.tells c.args.source.now) mid c.in_ok-tree.tree c.write_entries.ensures.called.asked.blobs c.in_ok-tree.ensures.few c.read_tree.ensures.only (subst (AsksContents mid new) c.in_ok-entries.ensures.value (c.in_ok-write_entries.ensures.asked)))
 
 pub returns-clause-few : goal.returns-clause-few
 returns-clause-few g c =
-    asks_files (g.S.BlobSource.tells c.read_tree.new.source) c.write_entries.ensures.called.asked.blobs c.in_ok-tree.ensures.told c.in_ok-entries.ensures.value c.in_ok-tree.ensures.few c.write_entries.ensures.few
+    let mid = g.S.BlobSource.tells c.read_tree.new.source in
+    let new = g.S.BlobSource.tells c.write_entries.new.source in
+    asks_files (g.S.BlobSource.tells c.args.source.now) new (unfolded_still c.write_entries.ensures.called.asked.blobs c.in_ok-tree.ensures.told)
+    (tree_then (g.S.BlobSource.tells c.args.source.now) mid c.in_ok-tree.tree c.write_entries.ensures.called.asked.blobs c.in_ok-tree.ensures.few c.read_tree.ensures.only (subst (AsksContents mid new) c.in_ok-entries.ensures.value (c.in_ok-write_entries.ensures.asked)))
 
 pub returns-clause-called : goal.returns-clause-called
 returns-clause-called g c = called_ok c.in_ok-tree.ensures.called (called_no ok_no_error ok_no_error c.in_ok-write_entries.ensures.called)

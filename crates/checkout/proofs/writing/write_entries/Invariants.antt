@@ -1,9 +1,6 @@
-use Rattle.std.proofs.Common.{◌+◌, ◌≤◌}
 use Rattle.blob_source.specs.Called.{Called}
 use Rattle.tree.specs.FlatTree.{path_values}
-use Rattle.tree.specs.Memo.{AsksNoOther}
 use Rattle.checkout.specs.Folder.{Tries}
-use Rattle.checkout.specs.Written.{EntriesLookAt, contents_in}
 use Rattle.checkout.proofs.Entries.{SoFar}
 use Rattle.checkout.proofs.writing.write_entries.Given as goal
 
@@ -12,7 +9,5 @@ invariant-loop-below g l =
     let tells = g.S.BlobSource.tells in
     record {
       called : Called (tells l.fn.source) (tells l.source) ⊥;
-      only : AsksNoOther (EntriesLookAt (path_values l.fn.entries.items)) (tells l.fn.source).blobs (tells l.source).blobs;
-      few : (tells l.source).calls + contents_in (path_values l.below-iterator.rest.items) ≤ (tells l.fn.source).calls + contents_in (path_values l.fn.entries.items);
-      so_far : SoFar g.W.FolderWriter.works (Tries g.W.FolderWriter.tried l.fn.writer l.writer) (tells l.source).blobs l.fn.folder l.folder l.path (path_values l.fn.entries.items) (path_values l.below-iterator.rest.items);
+      so_far : SoFar g.W.FolderWriter.works (Tries g.W.FolderWriter.tried l.fn.writer l.writer) (tells l.fn.source) (tells l.source) l.fn.folder l.folder l.path (path_values l.fn.entries.items) (path_values l.below-iterator.rest.items);
     }

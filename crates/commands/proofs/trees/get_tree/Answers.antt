@@ -5,7 +5,7 @@ use Rattle.commands.specs.Faults.{OrMemory}
 use Rattle.commands.specs.GetRefused.{FailsGetTree}
 use Rattle.commands.specs.Refusal.{IsPrintFault}
 use Rattle.commands.proofs.Exits.{exit_by, or_else}
-use Rattle.commands.proofs.Gotten.{tree_fails}
+use Rattle.commands.proofs.Gotten.{somehow, tree_fails}
 use Rattle.commands.proofs.Writing.{where_err}
 use Rattle.commands.proofs.trees.get_tree.Goals as goal
 
@@ -27,7 +27,7 @@ returns-in_ok-print_lack-in-Err-clause-got g c =
       told = telling_of source.remote;
       over = ∥∥₁_map source.over (λ over. (connection_of g.W.Link.Stream.flow source.remote, over));
       error = c.in-Err.error;
-      fails = c.in-Err.ensures.refused;
+      fails = somehow c.in-Err.ensures.refused;
       lacks = c.in_ok-print_lack-in-Err.ensures.printed;
     }
 
@@ -38,7 +38,7 @@ returns-in_err-print_lack-in-Err-clause-begun g c =
       told = telling_of source.remote;
       over = ∥∥₁_map source.over (λ over. (connection_of g.W.Link.Stream.flow source.remote, over));
       error = c.in-Err.error;
-      fails = c.in-Err.ensures.refused;
+      fails = somehow c.in-Err.ensures.refused;
       lacks = lacks;
     }))
 
@@ -53,7 +53,7 @@ returns-in_err-print_lack-in-Err-clause-fault g c =
     exit_by (OrMemory (FailsGetTree sees start address digest folder)) _ c.from_residual.ensures.1
     (tree_fails sees start address digest folder (telling_of source.remote) c.in-Err.error _
     (∥∥₁_map source.over (λ over. (connection_of g.W.Link.Stream.flow source.remote, over)))
-    c.in-Err.ensures.refused c.in_err-print_lack-in-Err.ensures.fault)
+    (somehow c.in-Err.ensures.refused) c.in_err-print_lack-in-Err.ensures.fault)
 
 pub returns-in_err-print_lack-in-Err-clause-unprinted : goal.returns-in_err-print_lack-in-Err-clause-unprinted
 returns-in_err-print_lack-in-Err-clause-unprinted g c =
