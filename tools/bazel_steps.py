@@ -193,7 +193,8 @@ def that_are_read(spawns, origins, chosen):
 
 @dataclass
 class Steps:
-    """The steps in order, what they are given, what the artifact has, and what the store is told of them."""
+    """The steps in order, what they are given, what the artifact has, and what the store is told of them; and by their names
+    the numbers that are printed."""
 
     store: Store
     spawns: list
@@ -202,8 +203,7 @@ class Steps:
     artifact: dict
     sources: dict
     taken: list
-    left_out: int
-    not_shipped: int
+    counts: dict
 
     def keep(self, entries):
         """The digest of a dictionary, of which the store is told."""
@@ -230,7 +230,7 @@ def steps_of(log, wanted, below, artifact, drop_timeouts, keep_all):
     for spawn in spawns:
         spawn.outputs = outputs_of(spawn)
     outputs = outputs_by_path(spawns)
-    refuse_unmade(outputs, origins, wanted)
+    refuse_unmade(outputs, origins, wanted, below)
     chosen = choose(outputs, wanted, below, artifact)
     not_shipped = lacking(outputs, chosen, below) if artifact is not None and not wanted else 0
     count = len(spawns)
@@ -245,7 +245,9 @@ def steps_of(log, wanted, below, artifact, drop_timeouts, keep_all):
         store.results[spawn.action] = result_message(spawn.outputs, spawn.exit_code, store.keep)
     sources, tree, taken = sources_of(spawns, origins)
     given = Given(spawns, origins, sources)
-    return Steps(store, spawns, given, chosen, artifact, tree, taken, count - len(spawns), not_shipped)
+    from_cache = sum(it.is_from_cache for it in spawns)
+    counts = {"left-out": count - len(spawns), "not-shipped": not_shipped, "from-cache": from_cache}
+    return Steps(store, spawns, given, chosen, artifact, tree, taken, counts)
 
 
 def sources_of(spawns, origins):
@@ -312,12 +314,15 @@ def has_pattern(path, wanted):
     return any(fnmatch.fnmatchcase(path, it) for it in wanted)
 
 
-def refuse_unmade(outputs, origins, wanted):
-    """Refuses an output with a pattern that was listed and not made: the artifact would be without it. Only a test may leave some
-    of its outputs unmade."""
+def refuse_unmade(outputs, origins, wanted, below):
+    """Refuses an output that was listed and not made, and has a pattern, or may have files with one: the artifact would be without
+    it. Only a test may leave some of its outputs unmade."""
+    begun = [*wanted, *(it[:end] for it in wanted for end in range(1, len(it)))]
     for path, spawn in origins.listing.items():
-        if path not in outputs and spawn.mnemonic != "TestRunner" and has_pattern(path, wanted):
-            spawn.refuse(f'it lists "{path}", which has a pattern and, by the log, wasn\'t made, or is an empty directory')
+        if path in outputs or spawn.mnemonic == "TestRunner" or below and not path.startswith(f"{below}/"):
+            continue
+        if has_pattern(path, wanted) or has_pattern(f"{path}/", begun):
+            spawn.refuse(f'it lists "{path}", which may have a place in the artifact and, by the log, wasn\'t made or is an empty directory')
 
 
 def chosen_by_patterns(outputs, everything, wanted):

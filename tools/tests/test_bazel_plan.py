@@ -18,6 +18,7 @@ from bazel_case import CHAIN, HERE, TOP, Case, contents, log, spawn
 import bazel_log
 import bazel_plan
 import messages
+import stores
 
 
 # One spawn with everything that an action and a result have, and its messages as protobuf encodes them.
@@ -195,6 +196,11 @@ class Rules(Case):
         self.turn(log(spawn({}, ["a", "x"], {"a": "a"}), spawn({}, ["x"])))
         self.judge("yes ")
 
+    def test_steps_from_a_cache_are_counted(self):
+        hit = [spawn({}, ["b"], remoteCacheHit=True), spawn({}, ["c"], cacheHit=True, remoteCacheHit=False)]
+        self.assertEqual(self.call(log(spawn({}, ["a"]), *hit))[1].splitlines()[-1], "steps 3 taken 0 from-cache 2")
+        self.assertEqual(self.call(log(spawn({}, ["a"]), *hit), "--outputs", "b")[1].splitlines()[-1], "steps 1 taken 0 left-out 2 from-cache 1")
+
     def test_a_timeout_may_be_dropped(self):
         self.turn(log(spawn({}, ["a"], timeoutMillis="1000")), "--drop-timeouts")
         self.judge("yes ")
@@ -261,7 +267,7 @@ class Artifacts(Case):
     def test_an_output_with_a_pattern_that_was_not_made_is_refused(self):
         self.ship({"b": "bin/b"})
         words = ["--below", "bin", "--artifact", self.at("shipped"), "--outputs"]
-        reason = 'it lists "bin/a", which has a pattern and, by the log, wasn\'t made'
+        reason = 'it lists "bin/a", which may have a place in the artifact and, by the log, wasn\'t made'
         for other in ({}, {"exitCode": 1, "status": "NON_ZERO_EXIT"}):
             text = log(spawn({}, ["bin/a"], {}, **other), spawn({}, ["bin/b"]))
             self.refuse(f'line 1: spawn "Making bin/a": {reason}', text, *words, "bin/*")
@@ -269,6 +275,14 @@ class Artifacts(Case):
             self.judge("yes ")
             shutil.rmtree(self.at("asked"))
         self.refuse(reason, log(spawn({}, ["bin/a", "bin/b"], {"bin/b": "bin/b"})), *words, "bin/*")
+
+    def test_a_directory_with_a_pattern_for_files_of_it_that_was_not_made_is_refused(self):
+        text = log(spawn({}, ["bin/s/a"], {"bin/s/a/x": "1"}), spawn({}, ["bin/s/b"], {}), spawn({}, ["lib/s/c"], {}))
+        for pattern in ("bin/*/x", "*/s/*/x", "bin/?/[a-z]/?", "*x"):
+            self.refuse('it lists "bin/s/b", which may have a place', text, "--below", "bin", "--outputs", pattern)
+        for pattern in ("bin/s/a/*", "bin/?/a/x"):
+            self.turn(text, "--below", "bin", "--outputs", pattern)
+            self.judge("yes ")
 
     def test_a_test_may_leave_outputs_with_a_pattern_unmade(self):
         self.turn(log(spawn({}, ["logs/xml", "logs/more"], {"logs/xml": "x"}, mnemonic="TestRunner")), "--outputs", "logs/*")
@@ -289,10 +303,17 @@ class Artifacts(Case):
             self.refuse(f'"{place}" lies in the artifact', self.BUILD, "--artifact", self.at("shipped"), "--store", place)
         self.turn(self.BUILD, "--artifact", self.at("shipped"), "--store", self.at("shipped-store"))
 
-    def test_a_folder_without_a_name_is_not_there(self):
-        status, out, err = self.call(self.BUILD, "--outputs", "bin/*", "--artifact", "")
-        self.assertEqual((status, out, err), (3, "", "error: [Errno 2] No such file or directory: ''\n"))
-        self.assertFalse(os.path.exists(self.at("asked")))
+    def test_words_without_a_path_are_refused(self):
+        self.addCleanup(os.chdir, os.getcwd())
+        os.chdir(self.folder)
+        stores.write_texts(".", {"claim": []})
+        rows = {"LOG": ["", "asked"], "FOLDER": ["log", ""]}
+        rows.update((option, ["log", "asked", option, ""]) for option in ("--artifact", "--below", "--store"))
+        for name, words in rows.items():
+            with self.assertRaises(SystemExit) as ended, contextlib.redirect_stderr(io.StringIO()) as err:
+                bazel_plan.main(words)
+            self.assertEqual((ended.exception.code, err.getvalue()), (2, f"error: argument {name}: '' is no path; --help tells the words\n"))
+        self.assertTrue(os.path.exists("claim"))
 
     def test_names_are_utf8_in_every_locale(self):
         self.ship({"é": "bb\n", "è/é": "bb\n"})

@@ -9,7 +9,7 @@ import subprocess
 import sys
 import unittest
 
-from bazel_case import TOP, Case, contents, files, log, spawn
+from bazel_case import TOP, Case, contents, files, log, named, spawn
 
 import bazel_plan
 import plans
@@ -103,11 +103,17 @@ class Refusals(Case):
             ('its input "a/b" lies under another one, or above it', dict(inputs=files({"a": "1", "a/b": "2"}))),
             ('its input "a" has no digest', dict(inputs=[{"path": "a"}])),
             ('its output "a" has no digest', dict(actualOutputs=[{"path": "a", "digest": {"hash": "A" * 64}}])),
-            ('its input "a" has a digest of BLAKE3', dict(inputs=[{"path": "a", "digest": {"hashFunctionName": "BLAKE3"}}])),
+            ('its input "a" has no digest of SHA-256', dict(inputs=[{"path": "a", "digest": dict(named(""), hashFunctionName="BLAKE3")}])),
+            ('its input "a" has no digest of SHA-256', dict(inputs=[{"path": "a", "digest": dict(named(""), hashFunctionName="")}])),
             ('its input "a" has a field "mode"', dict(inputs=[{"path": "a", "mode": 1}])),
             ('its input "a" has a digest, and a target as a link', dict(inputs=[dict(files({"a": ""})[0], symlinkTargetPath="b")])),
             # (what `echo é | iconv -f latin1 -t utf-8` prints, as Bazel 4.2.3 logs the output é)
-            ('its output "\u00c3\u00a9" has another name: each byte', dict(actualOutputs=files({"\u00c3\u00a9": ""}))),
+            ('its output "\u00c3\u00a9" has another name or target: each byte', dict(actualOutputs=files({"\u00c3\u00a9": ""}))),
+            ('its input "l" has another name or target: each byte', dict(inputs=[{"path": "l", "symlinkTargetPath": "\u00c3\u00a9"}])),
+            ("it ran another command: each byte of 'x\u00c3\u00a9' is logged", dict(commandArgs=["/bin/echo", "x\u00c3\u00a9"])),
+            ("it ran another command: each byte of '\u00c3\u00a9'", dict(listedOutputs=["\u00c3\u00a9"])),
+            ("it ran another command: each byte of '\u00c3\u00a9'", dict(environmentVariables=[{"name": "A", "value": "\u00c3\u00a9"}])),
+            ("it ran another command: each byte of '\u00c3\u00a9'", dict(platform={"properties": [{"name": "\u00c3\u00a9", "value": ""}]})),
             ('its input "bazel-out/cfg/a" stands where Bazel maps paths to', dict(inputs=files({"bazel-out/cfg/a": ""}))),
             ('its output "a" is a link whose target', dict(actualOutputs=[{"path": "a", "symlinkTargetPath": "x" * 4097}])),
             ('it made "a/b", and line', dict(actualOutputs=files({"a": "1", "a/b": "2"}))),
@@ -188,10 +194,14 @@ class Refusals(Case):
 
     def test_an_output_that_cannot_be_written(self):
         self.call(log(spawn({}, ["a"])))
-        tool = os.path.join(TOP, "tools", "bazel_plan.py")
-        with open("/dev/full", "wb") as full:
-            done = subprocess.run([sys.executable, tool, self.at("log"), self.at("asked")], stdout=full, stderr=subprocess.PIPE, text=True)
-        self.assertEqual((done.returncode, done.stderr), (3, "error: [Errno 28] No space left on device\n"))
+        shutil.rmtree(self.at("asked"))
+        rows = {"exec >/dev/full": "[Errno 28] No space left on device", "exec >&-": "standard output is closed",
+                "ulimit -f 0": "[Errno 27] File too large"}
+        for before, reason in rows.items():
+            words = sys.executable, os.path.join(TOP, "tools", "bazel_plan.py"), self.at("log"), self.at("asked")
+            done = subprocess.run(["sh", "-c", f'{before}; exec "$@"', "sh", *words], stderr=subprocess.PIPE, text=True)
+            self.assertEqual((done.returncode, done.stderr), (3, f"error: {reason}\n"))
+        self.assertEqual([it for it in contents(self.at("asked")) if ".new" in it], [])
 
     def test_files_that_cannot_be_read(self):
         for words in (["none", "asked"], [__file__, "asked", "--artifact", "none"]):
