@@ -68,7 +68,7 @@ def write(made, folder, store):
 def parse(words):
     parser = command_line.Parser("bazel_plan.py", __doc__)
     parser.add_argument(
-        "log", metavar="LOG", type=command_line.path_of, help="the log of a build that ran all its spawns, as the first one after `bazel clean`"
+        "log", metavar="LOG", type=command_line.place_of, help="the log of a build that ran all its spawns, as the first one after `bazel clean`"
     )
     stores.add_options(parser)
     parser.add_argument(
@@ -77,11 +77,11 @@ def parse(words):
         "shell. Without it: with --artifact the files of that, else every output (below PATH)",
     )
     parser.add_argument(
-        "--below", metavar="PATH", action=command_line.Once, type=command_line.path_of,
+        "--below", metavar="PATH", action=command_line.Once, type=command_line.place_of,
         help="the folder of the execution root, as bazel-out/k8-fastbuild/bin, that is the top of the artifact",
     )
     parser.add_argument(
-        "--artifact", metavar="SHIPPED", action=command_line.Once, type=command_line.path_of,
+        "--artifact", metavar="SHIPPED", action=command_line.Once, type=command_line.place_of,
         help="claim the tree of this folder on disk, in place of what the log has. Without --outputs the artifact has what that "
         "folder has, so that a file which it lacks isn't missed; with --below PATH the last line counts these",
     )

@@ -36,7 +36,7 @@ class Once(argparse.Action):
         setattr(namespace, self.dest, value)
 
 
-def path_of(text):
+def place_of(text):
     """The path of a file or a folder, which isn't empty, as that of a variable which isn't set."""
     if not text:
         raise argparse.ArgumentTypeError("'' is no path")

@@ -254,7 +254,7 @@ class Maker:
 
 def parse(words):
     parser = command_line.Parser("make_plan.py", __doc__)
-    parser.add_argument("steps", metavar="STEPS", type=command_line.path_of, help="the steps, as JSON")
+    parser.add_argument("steps", metavar="STEPS", type=command_line.place_of, help="the steps, as JSON")
     stores.add_options(parser)
     return parser.parse_args(words)
 

@@ -5,7 +5,7 @@ import http.client
 import os
 import re
 
-from command_line import NotAnswered, Once, path_of
+from command_line import NotAnswered, Once, place_of
 from plans import Refused
 
 
@@ -26,8 +26,7 @@ class FolderStore:
         """The bytes under a name, or None."""
         if not os.path.exists(self.place(part, name)):
             return None
-        with open(self.place(part, name), "rb") as it:
-            return it.read()
+        return read_file(self.place(part, name))
 
     def put(self, part, name, content):
         if part not in self.parts_made:
@@ -96,10 +95,10 @@ def is_prefix(text):
 
 def add_options(parser, folder_help="where the files are written; it is made if it isn't there"):
     """The word FOLDER, and the options that name a store: a folder, by default FOLDER/store, or a server."""
-    parser.add_argument("folder", metavar="FOLDER", type=path_of, help=folder_help)
+    parser.add_argument("folder", metavar="FOLDER", type=place_of, help=folder_help)
     places = parser.add_mutually_exclusive_group()
     places.add_argument(
-        "--store", metavar="STORE", action=Once, type=path_of, help="the store folder, in place of FOLDER/store; it may hold other builds"
+        "--store", metavar="STORE", action=Once, type=place_of, help="the store folder, in place of FOLDER/store; it may hold other builds"
     )
     places.add_argument(
         "--server", metavar="HOST:PORT", action=Once,
@@ -127,6 +126,11 @@ def forget(path):
     """Removes a file where it is there."""
     with contextlib.suppress(FileNotFoundError):
         os.remove(path)
+
+
+def read_file(path):
+    with open(path, "rb") as it:
+        return it.read()
 
 
 def write_file(path, content):

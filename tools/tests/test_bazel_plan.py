@@ -206,19 +206,24 @@ class Rules(Case):
         self.judge("yes ")
 
 
-class Artifacts(Case):
+class Shipping(Case):
+    """Tests with a folder `shipped`."""
+
+    def ship(self, contents):
+        """Puts files of these contents into it, which may be run."""
+        for path, content in contents.items():
+            os.makedirs(os.path.dirname(self.at("shipped", path)), exist_ok=True)
+            with open(self.at("shipped", path), "w", encoding="utf-8") as out:
+                out.write(content)
+            os.chmod(self.at("shipped", path), 0o755)
+
+
+class Artifacts(Shipping):
     BUILD = log(spawn({}, ["bin/t"], {"bin/t/x": "1", "bin/t/y": "2"}), spawn({}, ["bin/a"]), spawn({}, ["lib/b"]))
 
     def root(self, *words):
         plan = self.turn(self.BUILD, *words)
         return [it.split()[1] for it in plan[plan.index("root") + 1:]]
-
-    def ship(self, contents):
-        for path, content in contents.items():
-            os.makedirs(os.path.dirname(self.at("shipped", path)), exist_ok=True)
-            with open(self.at("shipped", path), "w", encoding="utf-8") as out:
-                out.write(content)
-            os.chmod(self.at("shipped", path), 0o555)
 
     def test_patterns_choose_the_outputs(self):
         self.assertEqual(self.root(), ["bin/a", "bin/t", "lib/b"])
@@ -364,7 +369,7 @@ class Artifacts(Case):
             self.refuse(f"{path!r} is no path below", self.BUILD, "--below", path)
 
 
-class Releases(Case):
+class Releases(Shipping):
     """One build, and each fault that a folder to be shipped may have: what it gets where patterns say what the release has, and
     where the folder does."""
 
@@ -376,22 +381,15 @@ class Releases(Case):
     MADE = {"a": "a", "b c": "b", "t/é": "1", "t/u/100%": "2"}
     NO, NOT_MADE, EMPTY = "no root cause root-differs", "no spawn of the log made it", "is empty, and the log has no empty directories"
 
-    def ship(self, contents):
-        for path, content in contents.items():
-            os.makedirs(os.path.dirname(self.at("rel", path)), exist_ok=True)
-            with open(self.at("rel", path), "w", encoding="utf-8") as out:
-                out.write(content)
-            os.chmod(self.at("rel", path), 0o755)
-
     def expect(self, told, *words):
-        words = ["--below", "out/rel", "--artifact", self.at("rel"), *words]
+        words = ["--below", "out/rel", "--artifact", self.at("shipped"), *words]
         if told in (self.NOT_MADE, self.EMPTY):
             return self.refuse(told, self.BUILD, *words)
         self.turn(self.BUILD, *words)
         self.judge(f"{told} ")
 
     def test_each_fault(self):
-        rel = self.at("rel")
+        rel = self.at("shipped")
         move = os.rename
         rows = [
             ("none", "yes", "yes", lambda: None),
