@@ -230,7 +230,7 @@ def steps_of(log, wanted, below, artifact, drop_timeouts, keep_all):
     for spawn in spawns:
         spawn.outputs = outputs_of(spawn)
     outputs = outputs_by_path(spawns)
-    refuse_unmade(outputs, origins, wanted, below)
+    refuse_unmade(outputs, origins, wanted)
     chosen = choose(outputs, wanted, below, artifact)
     not_shipped = lacking(outputs, chosen, below) if artifact is not None and not wanted else 0
     count = len(spawns)
@@ -314,15 +314,12 @@ def has_pattern(path, wanted):
     return any(fnmatch.fnmatchcase(path, it) for it in wanted)
 
 
-def refuse_unmade(outputs, origins, wanted, below):
-    """Refuses an output that was listed and not made, and has a pattern, or may have files with one: the artifact would be without
-    it. Only a test may leave some of its outputs unmade."""
-    begun = [*wanted, *(it[:end] for it in wanted for end in range(1, len(it)))]
+def refuse_unmade(outputs, origins, wanted):
+    """Refuses an output with a pattern that was listed and not made: the artifact would be without it. Only a test may leave some
+    of its outputs unmade."""
     for path, spawn in origins.listing.items():
-        if path in outputs or spawn.mnemonic == "TestRunner" or below and not path.startswith(f"{below}/"):
-            continue
-        if has_pattern(path, wanted) or has_pattern(f"{path}/", begun):
-            spawn.refuse(f'it lists "{path}", which may have a place in the artifact and, by the log, wasn\'t made or is an empty directory')
+        if path not in outputs and spawn.mnemonic != "TestRunner" and has_pattern(path, wanted):
+            spawn.refuse(f'it lists "{path}", which has a pattern and, by the log, wasn\'t made, or is an empty directory')
 
 
 def chosen_by_patterns(outputs, everything, wanted):

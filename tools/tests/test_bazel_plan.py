@@ -272,7 +272,7 @@ class Artifacts(Shipping):
     def test_an_output_with_a_pattern_that_was_not_made_is_refused(self):
         self.ship({"b": "bin/b"})
         words = ["--below", "bin", "--artifact", self.at("shipped"), "--outputs"]
-        reason = 'it lists "bin/a", which may have a place in the artifact and, by the log, wasn\'t made'
+        reason = 'it lists "bin/a", which has a pattern and, by the log, wasn\'t made'
         for other in ({}, {"exitCode": 1, "status": "NON_ZERO_EXIT"}):
             text = log(spawn({}, ["bin/a"], {}, **other), spawn({}, ["bin/b"]))
             self.refuse(f'line 1: spawn "Making bin/a": {reason}', text, *words, "bin/*")
@@ -280,14 +280,6 @@ class Artifacts(Shipping):
             self.judge("yes ")
             shutil.rmtree(self.at("asked"))
         self.refuse(reason, log(spawn({}, ["bin/a", "bin/b"], {"bin/b": "bin/b"})), *words, "bin/*")
-
-    def test_a_directory_with_a_pattern_for_files_of_it_that_was_not_made_is_refused(self):
-        text = log(spawn({}, ["bin/s/a"], {"bin/s/a/x": "1"}), spawn({}, ["bin/s/b"], {}), spawn({}, ["lib/s/c"], {}))
-        for pattern in ("bin/*/x", "*/s/*/x", "bin/?/[a-z]/?", "*x"):
-            self.refuse('it lists "bin/s/b", which may have a place', text, "--below", "bin", "--outputs", pattern)
-        for pattern in ("bin/s/a/*", "bin/?/a/x"):
-            self.turn(text, "--below", "bin", "--outputs", pattern)
-            self.judge("yes ")
 
     def test_a_test_may_leave_outputs_with_a_pattern_unmade(self):
         self.turn(log(spawn({}, ["logs/xml", "logs/more"], {"logs/xml": "x"}, mnemonic="TestRunner")), "--outputs", "logs/*")
