@@ -68,7 +68,8 @@ def write(made, folder, store):
 def parse(words):
     parser = command_line.Parser("bazel_plan.py", __doc__)
     parser.add_argument(
-        "log", metavar="LOG", type=command_line.place_of, help="the log of a build that ran all its spawns, as the first one after `bazel clean`"
+        "log", metavar="LOG", type=command_line.place_of,
+        help="the log of a build that ran all its spawns, as the first one after `bazel clean`",
     )
     stores.add_options(parser)
     parser.add_argument(

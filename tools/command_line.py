@@ -37,7 +37,7 @@ class Once(argparse.Action):
 
 
 def place_of(text):
-    """The path of a file or a folder, which isn't empty, as that of a variable which isn't set."""
+    """A path among the words. An empty one, as of a variable that isn't set, is refused."""
     if not text:
         raise argparse.ArgumentTypeError("'' is no path")
     return text
