@@ -18,7 +18,7 @@ import stores
 from builds import SHELL, Builds
 from harness import Between, Faulty, Nginx, Server, is_error, standing_at
 from messages import Digest, File, Link, directory_message
-from server_streams import DIGITS, NO_BYTES, FEED, NINE, directory
+from server_streams import DIGITS, FEED, NINE, NO_BYTES, directory
 
 SOURCES = Digest.of(directory("a")).text()
 CLAIM = Digest.of(directory("b")).text()

@@ -22,8 +22,8 @@ import time
 import harness
 from harness import Server, get, is_error, path_of, put
 from messages import Digest
-from server_streams import ABSENT, ASKS, DIGITS, DONE, NO_BYTES, FEED, LARGEST, LEFT_OPEN
-from server_streams import NINE, REFUSED, SHORT, STREAMS, found, head, refused
+from server_streams import ABSENT, ASKS, DIGITS, DONE, FEED, LARGEST, LEFT_OPEN
+from server_streams import NINE, NO_BYTES, REFUSED, SHORT, STREAMS, found, head, refused
 
 LIMITS = ["--limit", "1", "--result-limit", "1"]
 

@@ -199,9 +199,7 @@ def wrong_at_limit(builds, done, place, root, record, ends):
 
 
 def try_all(rows, program):
-    try_each(rows, program, [
-        rows_of_replies, rows_of_results, rows_of_limits,
-    ])
+    try_each(rows, program, [rows_of_replies, rows_of_results, rows_of_limits])
 
 
 if __name__ == "__main__":
