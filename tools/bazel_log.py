@@ -13,11 +13,9 @@ from plans import Refused, folders_of, is_path, is_target, is_text, without_repe
 # The fields of a spawn and of what is in it that a plan says, those that say nothing of what was run or made, and no others.
 SPAWN_FIELDS = {
     "commandArgs", "environmentVariables", "platform", "inputs", "listedOutputs", "actualOutputs", "cacheable",
-    "timeoutMillis", "progressMessage", "targetLabel", "mnemonic", "status", "exitCode",
+    "timeoutMillis", "progressMessage", "targetLabel", "mnemonic", "status", "exitCode", "remoteCacheHit", "cacheHit",
 }
-UNSAID_SPAWN_FIELDS = {
-    "remotable", "remoteCacheable", "runner", "remoteCacheHit", "cacheHit", "walltime", "metrics", "digest",
-}
+UNSAID_SPAWN_FIELDS = {"remotable", "remoteCacheable", "runner", "walltime", "metrics", "digest"}
 FILE_FIELDS = {"path", "digest", "symlinkTargetPath", "isTool"}
 DIGEST_FIELDS = {"hash", "sizeBytes", "hashFunctionName"}
 PLATFORM_FIELDS = {"properties"}
@@ -44,6 +42,7 @@ class Spawn:
     listed: list
     made: dict
     is_cacheable: bool
+    is_from_cache: bool
     timeout: int
     exit_code: int
     outputs: dict = None
@@ -124,6 +123,7 @@ def read_spawn(number, line, title, value, files):
         listed=sorted(set(of_type(list, value.get("listedOutputs", [])))),
         made={},
         is_cacheable=of_type(bool, value.get("cacheable", False)),
+        is_from_cache=True in [of_type(bool, value.get(it, False)) for it in ("remoteCacheHit", "cacheHit")],
         timeout=whole(value.get("timeoutMillis", 0)),
         exit_code=whole(value.get("exitCode", 0)),
     )
@@ -189,6 +189,10 @@ def check_command(spawn):
     for name, value in spawn.platform:
         if not is_text(name + value):
             spawn.refuse(f"its platform's property {name!r} has a NUL, or is no UTF-8")
+    texts = *spawn.arguments, *spawn.listed, *(it for pair in spawn.environment + spawn.platform for it in pair)
+    bytewise = next((it for it in texts if is_bytewise(it)), None)
+    if bytewise is not None:
+        spawn.refuse(f"it ran another command: each byte of {bytewise!r} is logged as a character")
     listed = set(spawn.listed)
     for path in spawn.listed:
         if not is_path(path):
@@ -223,10 +227,10 @@ class Files:
         self.seen[key] = sys.intern(key[0]), self.files.setdefault(entry, entry)
 
 
-def is_bytewise(path):
-    """Whether these characters are the bytes of a path beyond ASCII, as Bazel 4.2.3 logs it."""
+def is_bytewise(text):
+    """Whether these characters are the bytes of a text beyond ASCII, as Bazel 4.2.3 logs it."""
     try:
-        return not path.isascii() and bool(path.encode("latin-1").decode())
+        return not text.isascii() and bool(text.encode("latin-1").decode())
     except UnicodeError:
         return False
 
@@ -234,8 +238,8 @@ def is_bytewise(path):
 def read_file(spawn, kind, path, target, hash_text, size, function):
     if not is_path(path):
         spawn.refuse(f"it has the {kind} {path!r}, which is no path below the execution root")
-    if is_bytewise(path):
-        spawn.refuse(f'its {kind} "{path}" has another name: each byte of it is logged as a character')
+    if is_bytewise(path + target):
+        spawn.refuse(f'its {kind} "{path}" has another name or target: each byte of it is logged as a character')
     if path.startswith(MAPPED):
         spawn.refuse(f'its {kind} "{path}" stands where Bazel maps paths to: build without --experimental_output_paths')
     if target and hash_text:
@@ -244,8 +248,6 @@ def read_file(spawn, kind, path, target, hash_text, size, function):
         if not is_target(target):
             spawn.refuse(f'its {kind} "{path}" is a link whose target has a NUL, no UTF-8, or over 4,096 bytes')
         return Link(target)
-    if function not in ("SHA-256", "SHA256", ""):
-        spawn.refuse(f'its {kind} "{path}" has a digest of {function}, which isn\'t SHA-256')
-    if not re.fullmatch("[0-9a-f]{64}", hash_text) or not 0 <= size < 2**63:
-        spawn.refuse(f'its {kind} "{path}" has no digest')
+    if not re.fullmatch("[0-9a-f]{64}", hash_text) or not 0 <= size < 2**63 or function not in ("SHA-256", "SHA256"):
+        spawn.refuse(f'its {kind} "{path}" has no digest of SHA-256')
     return File(Digest(hash_text, size))

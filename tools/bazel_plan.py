@@ -22,7 +22,6 @@ the file, the line of the log at which the spawn begins, and the spawn; then non
 no claim of a run before.
 """
 
-import argparse
 import contextlib
 import gc
 import io
@@ -49,13 +48,6 @@ def check_store(steps, store):
             spawn.refuse(f'the store has another result of its action, "{store.place("ac", spawn.action.hash)}"')
 
 
-def forget(folder, names):
-    """Removes what a run before wrote of these files."""
-    for name in names:
-        with contextlib.suppress(FileNotFoundError):
-            os.remove(os.path.join(folder, name))
-
-
 def write(made, folder, store):
     """Writes all: the blobs before the results that refer to them, then the files of FOLDER, and the claim last."""
     made.steps.store.put_into(store)
@@ -68,17 +60,16 @@ def write(made, folder, store):
         whole["stages"] = names
     else:
         whole.update(plan=made.builds[0].plan, record=made.builds[0].record)
-    forget(folder, {"plan", "record", "stages"} - whole.keys())
+    for name in {"plan", "record", "stages"} - whole.keys():
+        stores.forget(os.path.join(folder, name))
     stores.write_texts(folder, {**whole, "claim": [made.claim.text()]})
 
 
 def parse(words):
     parser = command_line.Parser("bazel_plan.py", __doc__)
     parser.add_argument(
-        "log", metavar="LOG", help="the log of a build that ran all its spawns, as the first one after `bazel clean`"
-    )
-    parser.add_argument(
-        "folder", metavar="FOLDER", help="where the files are written; it is made if it isn't there"
+        "log", metavar="LOG", type=command_line.place_of,
+        help="the log of a build that ran all its spawns, as the first one after `bazel clean`",
     )
     stores.add_options(parser)
     parser.add_argument(
@@ -87,11 +78,11 @@ def parse(words):
         "shell. Without it: with --artifact the files of that, else every output (below PATH)",
     )
     parser.add_argument(
-        "--below", metavar="PATH", default="", action=command_line.Once,
+        "--below", metavar="PATH", action=command_line.Once, type=command_line.place_of,
         help="the folder of the execution root, as bazel-out/k8-fastbuild/bin, that is the top of the artifact",
     )
     parser.add_argument(
-        "--artifact", metavar="SHIPPED", action=command_line.Once,
+        "--artifact", metavar="SHIPPED", action=command_line.Once, type=command_line.place_of,
         help="claim the tree of this folder on disk, in place of what the log has. Without --outputs the artifact has what that "
         "folder has, so that a file which it lacks isn't missed; with --below PATH the last line counts these",
     )
@@ -104,17 +95,11 @@ def parse(words):
         help="keep the spawns of which nothing of the artifact that --outputs or --artifact says is made",
     )
     parser.add_argument(
-        "--stages", metavar="STEPS", nargs="?", type=steps_a_stage, const=MOST_STEPS, action=command_line.Once,
+        "--stages", metavar="STEPS", nargs="?", type=command_line.number_to(MOST_STEPS), const=MOST_STEPS, action=command_line.Once,
         help="one plan a stage, each of so many steps at most (by default, and at most, as many as a plan holds); a build that "
         "one plan doesn't hold is written so without being asked",
     )
     return parser.parse_args(words)
-
-
-def steps_a_stage(text):
-    if not text.isdecimal() or not 1 <= int(text) <= MOST_STEPS:
-        raise argparse.ArgumentTypeError(f"{text!r} is no number from 1 to {MOST_STEPS}")
-    return int(text)
 
 
 @dataclass
@@ -150,7 +135,7 @@ def read_steps(options, below, artifact):
 
 def make(options, store):
     """Makes the plans of the log and writes them, where nothing of it is refused."""
-    below = options.below.removesuffix("/")
+    below = (options.below or "").removesuffix("/")
     if options.below and not is_path(below):
         raise Refused(f"{options.below!r} is no path below the execution root")
     artifact = None
@@ -170,15 +155,14 @@ def make(options, store):
 
 
 def lines_of(options):
-    """Does all, and what is printed then. A run that fails leaves no claim, by which the run before would be verified again."""
-    forget(options.folder, ["claim"])
+    """Does all, and the status and what is printed then. A run that fails leaves no claim, by which the run before would be verified again."""
+    stores.forget(os.path.join(options.folder, "claim"))
     with contextlib.closing(stores.store_of(options)) as store:
         made = make(options, store)
-    stages = f" stages {len(made.builds)}" if made.are_stages else ""
-    left_out = f" left-out {made.steps.left_out}" if made.steps.left_out else ""
-    not_shipped = f" not-shipped {made.steps.not_shipped}" if made.steps.not_shipped else ""
-    counts = f"steps {len(made.steps.spawns)} taken {len(made.steps.taken)}{stages}{left_out}{not_shipped}"
-    return f"sources {made.sources.text()}", f"claim {made.claim.text()}", counts
+    counts = {"stages": len(made.builds) if made.are_stages else 0, **made.steps.counts}
+    more = "".join(f" {name} {count}" for name, count in counts.items() if count)
+    steps = f"steps {len(made.steps.spawns)} taken {len(made.steps.taken)}{more}"
+    return 0, f"sources {made.sources.text()}", f"claim {made.claim.text()}", steps
 
 
 def main(words):

@@ -193,7 +193,8 @@ def that_are_read(spawns, origins, chosen):
 
 @dataclass
 class Steps:
-    """The steps in order, what they are given, what the artifact has, and what the store is told of them."""
+    """The steps in order, what they are given, what the artifact has, and what the store is told of them; and by their names
+    the numbers that are printed."""
 
     store: Store
     spawns: list
@@ -202,8 +203,7 @@ class Steps:
     artifact: dict
     sources: dict
     taken: list
-    left_out: int
-    not_shipped: int
+    counts: dict
 
     def keep(self, entries):
         """The digest of a dictionary, of which the store is told."""
@@ -245,7 +245,9 @@ def steps_of(log, wanted, below, artifact, drop_timeouts, keep_all):
         store.results[spawn.action] = result_message(spawn.outputs, spawn.exit_code, store.keep)
     sources, tree, taken = sources_of(spawns, origins)
     given = Given(spawns, origins, sources)
-    return Steps(store, spawns, given, chosen, artifact, tree, taken, count - len(spawns), not_shipped)
+    from_cache = sum(it.is_from_cache for it in spawns)
+    counts = {"left-out": count - len(spawns), "not-shipped": not_shipped, "from-cache": from_cache}
+    return Steps(store, spawns, given, chosen, artifact, tree, taken, counts)
 
 
 def sources_of(spawns, origins):

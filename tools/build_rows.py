@@ -13,13 +13,13 @@ import concurrent.futures
 import os
 import signal
 import subprocess
-import tempfile
 import time
 
 import harness
 import stores
-from builds import MADE, NINE, SHELL, Builds, directory, read, record_of
+from builds import MADE, SHELL, record_of, try_each
 from messages import EMPTY, Digest, File, Link, action_message, command_message, directory_message
+from server_streams import NINE, directory
 
 
 def rows_of_one_step(builds):
@@ -41,7 +41,7 @@ def rows_of_one_step(builds):
     builds.ran_nothing(place)
     builds.rows.tell("and the record is the same", record_of(place) == record_of(first), record_of(place))
     builds.put(NINE)
-    given = builds.put(directory("a", NINE))
+    given = builds.put(directory("a"))
     done, place = builds.build(builds.one_step([*SHELL, 'read -r l < d/x; printf %s "$l" > out'], ["d/x src a"]), given)
     builds.expect_built("an input is read", done, place, MADE, 1, given)
 
@@ -68,8 +68,7 @@ def rows_of_processes(builds):
 def rows_of_refusals(builds):
     """A step that can't be opened, started or laid out, each for one reason, and for two of which the first is told."""
     true = command_message(["/bin/true"], [])
-    command = Digest.of(true)
-    nine, lost = File(Digest.of(NINE), False), Digest.of(b"lost")
+    command, nine, lost = Digest.of(true), File(Digest.of(NINE), False), Digest.of(b"lost")
     builds.put(NINE)
     builds.put(true)
     frame = builds.put(action_message(command))
@@ -192,7 +191,7 @@ def rows_of_given(builds):
     left = f"{builds.work}/left"
     done, place = builds.build(builds.one_step([*SHELL, f'sleep 600 & echo $! > "$0"; {made} out', left]))
     builds.expect_built("a process that a step leaves behind isn't waited for", done, place, MADE)
-    os.kill(int(read(left)), signal.SIGKILL)
+    os.kill(int(stores.read_file(left)), signal.SIGKILL)
 
 
 def rows_of_ended(builds):
@@ -209,7 +208,7 @@ def rows_of_ended(builds):
             time.sleep(0.1)
         ended.terminate()
         out, status = ended.communicate()[0], ended.returncode
-    os.kill(int(read(mark)), signal.SIGKILL)
+    os.kill(int(stores.read_file(mark)), signal.SIGKILL)
     right = (out, status) == (b"", -signal.SIGTERM) and not os.path.exists(f"{place}/record")
     builds.rows.tell("a build that SIGTERM ends has no line and no record", right, (out, status))
     done, place = builds.build(plan)
@@ -267,7 +266,7 @@ def rows_of_merges(builds):
         return File(Digest.of(content), is_executable=False)
 
     builds.put(NINE)
-    given = builds.put(directory("a", NINE))
+    given = builds.put(directory("a"))
     use = ("use", [*SHELL, "mkdir out; cat d/a d/b > out/c"], ["out"], ["d src .", "d out gen out"])
     plan = builds.plan([("gen", makes({"b": "made"}), ["out"], ()), use], ["r out gen out", "r out use out"], 2)
     root = Digest.of(directory_message({"r": {"b": of(b"made"), "c": of(NINE + b"made")}})).text()
@@ -282,7 +281,7 @@ def rows_of_merges(builds):
     done, place = builds.build(roots({"b": "made"}, {"b": "made", "c": "more"}))
     root = Digest.of(directory_message({"r": {"b": of(b"made"), "c": of(b"more")}})).text()
     builds.expect_built("two steps that made the same file at one path", done, place, root, 2)
-    meeting = read(f"{place}/plan").decode().replace("in r out two out", "in r/b out two out")
+    meeting = stores.read_file(f"{place}/plan").decode().replace("in r out two out", "in r/b out two out")
     stores.write_file(f"{place}/plan", meeting.encode())
     builds.expect_verdict("a folder at the path of a file: no", place, root, "no root cause input-conflict r/b\n", 1)
 
@@ -334,7 +333,7 @@ def rows_of_the_record(builds):
         kept = "kept" if link else "record"
         beside = sorted(it for it in os.listdir(place) if it.startswith(kept))
         builds.rows.tell("and nothing new beside it", beside == [kept, f"{kept}.new0"], beside)
-        builds.rows.tell("and what was beside it stays", read(f"{place}/{kept}.new0") == b"another's")
+        builds.rows.tell("and what was beside it stays", stores.read_file(f"{place}/{kept}.new0") == b"another's")
     rows_of_no_record(builds)
 
 
@@ -397,25 +396,11 @@ def rows_of_hints(builds):
 
 
 def try_all(rows, program):
-    with tempfile.TemporaryDirectory() as work:
-        builds = Builds(os.path.realpath(program), work, rows)
-        try:
-            rows_of_one_step(builds)
-            rows_of_processes(builds)
-            rows_of_refusals(builds)
-            rows_of_outputs(builds)
-            rows_of_streams(builds)
-            rows_of_two_steps(builds)
-            rows_of_given(builds)
-            rows_of_ended(builds)
-            rows_of_two_builds(builds)
-            rows_of_one_action(builds)
-            rows_of_merges(builds)
-            rows_of_the_folder(builds)
-            rows_of_the_record(builds)
-            rows_of_hints(builds)
-        finally:
-            builds.server.end()
+    try_each(rows, program, [
+        rows_of_one_step, rows_of_processes, rows_of_refusals, rows_of_outputs, rows_of_streams,
+        rows_of_two_steps, rows_of_given, rows_of_ended, rows_of_two_builds, rows_of_one_action,
+        rows_of_merges, rows_of_the_folder, rows_of_the_record, rows_of_hints,
+    ])
 
 
 if __name__ == "__main__":

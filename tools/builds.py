@@ -1,22 +1,18 @@
 """What rows with builds share: plans of steps over the program's own server, and what comes of their builds."""
 
 import os
+import tempfile
 
 import harness
 import stores
 from harness import Server
-from messages import EMPTY, Digest, File, action_message, command_message, directory_message
+from messages import EMPTY, Digest, action_message, command_message
+from server_streams import directory
 
-NINE = b"123456789"
 SHELL = ["/bin/sh", "-c"]
 
 
-def directory(name, blob):
-    """The Directory of one file."""
-    return directory_message({name: File(Digest.of(blob), is_executable=False)})
-
-
-MADE = Digest.of(directory("a", NINE)).text()
+MADE = Digest.of(directory("a")).text()
 
 
 class Builds:
@@ -99,9 +95,15 @@ class Builds:
 
 
 def record_of(place):
-    return read(f"{place}/record")
+    return stores.read_file(f"{place}/record")
 
 
-def read(path):
-    with open(path, "rb") as it:
-        return it.read()
+def try_each(rows, program, parts):
+    """Tries rows over one server."""
+    with tempfile.TemporaryDirectory() as work:
+        builds = Builds(os.path.realpath(program), work, rows)
+        try:
+            for part in parts:
+                part(builds)
+        finally:
+            builds.server.end()

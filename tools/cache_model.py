@@ -9,7 +9,6 @@ from messages import Digest, File, result_message, tree_message
 
 LIMIT = 1 << 20
 RESULT_LIMIT = 4000
-EMPTY = hashlib.sha256(b"").digest()
 
 
 @functools.lru_cache(maxsize=8192)
@@ -91,7 +90,7 @@ class Model:
         self.blobs.sort(key=lambda it: it[0] != hash)
 
     def get_blob(self, hash):
-        if hash == EMPTY:
+        if hash == hash_of(b""):
             return 200, b""
         for found, blob in self.blobs:
             if found == hash:
@@ -144,10 +143,6 @@ class Model:
 
 
 # Requests: each a kind, a method, a path, a body, and the model's answer to it, as a function of the model.
-
-
-def path_of(blob):
-    return f"/cas/{hash_of(blob).hex()}"
 
 
 def ask_blob(hash):

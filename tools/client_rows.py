@@ -18,7 +18,7 @@ import stores
 from builds import SHELL, Builds
 from harness import Between, Faulty, Nginx, Server, is_error, standing_at
 from messages import Digest, File, Link, directory_message
-from server_streams import DIGITS, EMPTY, FEED, NINE, directory
+from server_streams import DIGITS, FEED, NINE, NO_BYTES, directory
 
 SOURCES = Digest.of(directory("a")).text()
 CLAIM = Digest.of(directory("b")).text()
@@ -34,7 +34,7 @@ def commands(folder, address):
         ([*verify, "--claim", CLAIM], f"yes {CLAIM} steps 0\n".encode(), 0),
         (["get", *server, f"{DIGITS}/9"], NINE, 0),
         (["get", *server, f"{FEED}/1"], b"", 1),
-        (["get", *server, f"{EMPTY}/0"], b"", 0),
+        (["get", *server, f"{NO_BYTES}/0"], b"", 0),
     ]
 
 
@@ -188,20 +188,22 @@ def try_lie(rows, program, words, beyond, number, path):
               right, told)
 
 
+def get_into(builds, digest, folder):
+    return builds.run("get", "--server", builds.address, "--into", folder, digest)
+
+
+def expect_got(builds, name, done, out, status):
+    right = done.stdout == out.encode() and done.returncode == status
+    builds.rows.tell(name, right and (harness.is_error(done.stderr) if status > 1 else done.stderr == b""), done)
+
+
+def expect_tree(builds, name, digest, folder, tree):
+    expect_got(builds, name, get_into(builds, digest, folder), "", 0)
+    builds.rows.tell(f"{name}: it is the tree", standing_at(folder) == tree, standing_at(folder))
+
+
 def try_trees(builds):
     """`get --into`: the tree of a digest in a folder, as the tree has it; and no folder that has something is written into."""
-
-    def get(digest, folder):
-        return builds.run("get", "--server", builds.address, "--into", folder, digest)
-
-    def expect(name, done, out, status):
-        right = done.stdout == out.encode() and done.returncode == status
-        builds.rows.tell(name, right and (harness.is_error(done.stderr) if status > 1 else done.stderr == b""), done)
-
-    def expect_tree(name, digest, folder, tree):
-        expect(name, get(digest, folder), "", 0)
-        builds.rows.tell(f"{name}: it is the tree", standing_at(folder) == tree, standing_at(folder))
-
     script = "mkdir -p out/d/e; printf %s 123456789 > out/d/f; : > out/g"
     done, place = builds.build(builds.plan([("mk", [*SHELL, script], ["out"], ())], ["a/b out mk out", "c out mk out/g"]))
     nine, none = File(Digest.of(NINE), False), File(Digest.of(b""), False)
@@ -210,29 +212,35 @@ def try_trees(builds):
     builds.expect_built("a root with folders above what a step made", done, place, root)
     empty = (b"", False)
     made = {"a": None, "a/b": None, "a/b/d": None, "a/b/d/e": None, "a/b/d/f": (NINE, False), "a/b/g": empty, "c": empty}
-    expect_tree("the root of a build", root, f"{place}/tree", made)
+    expect_tree(builds, "the root of a build", root, f"{place}/tree", made)
     os.mkdir(f"{place}/empty")
-    expect_tree("into a folder that is empty", root, f"{place}/empty", made)
-    expect("into it again, as it isn't empty now", get(root, f"{place}/empty"), "", 3)
+    expect_tree(builds, "into a folder that is empty", root, f"{place}/empty", made)
+    expect_got(builds, "into it again, as it isn't empty now", get_into(builds, root, f"{place}/empty"), "", 3)
     builds.rows.tell("and it is as it was", standing_at(f"{place}/empty") == made)
-    expect("into a file", get(root, f"{place}/plan"), "", 3)
-    expect("below a folder that isn't there", get(root, f"{place}/none/tree"), "", 3)
-    blob = Digest.of(NINE).text()
-    unlike = get(blob, f"{place}/file")
-    expect("the digest of a file", unlike, "", 3)
+    expect_got(builds, "into a file", get_into(builds, root, f"{place}/plan"), "", 3)
+    expect_got(builds, "below a folder that isn't there", get_into(builds, root, f"{place}/none/tree"), "", 3)
+
+
+def try_other_trees(builds):
+    """`get --into` of what no build made: a digest of no tree, links, a program, and trees that the server lacks in part."""
+    place = f"{builds.work}/others"
+    os.mkdir(place)
+    blob = builds.put(NINE)
+    unlike = get_into(builds, blob, f"{place}/file")
+    expect_got(builds, "the digest of a file", unlike, "", 3)
     said = f"error: {builds.address}: get of blob {blob}: not a Directory; the bytes of a file are got without --into\n"
     builds.rows.tell("and it is told how those bytes are got", unlike.stderr == said.encode(), unlike)
     outside = {"l": Link("../../plan"), "m": Link("/etc"), "x": File(Digest.of(NINE))}
     made = {"l": "../../plan", "m": "/etc", "x": (NINE, True)}
-    expect_tree("links and a program", builds.put(directory_message(outside)), f"{place}/links", made)
+    expect_tree(builds, "links and a program", builds.put(directory_message(outside)), f"{place}/links", made)
     lost = Digest.of(b"lost")
     lacking = {"a": File(Digest.of(NINE)), "b": File(lost), "c": File(Digest.of(NINE))}
-    lacks = get(builds.put(directory_message(lacking)), f"{place}/lacking")
-    expect("a file that the server lacks", lacks, f"missing {lost.text()}\n", 1)
+    lacks = get_into(builds, builds.put(directory_message(lacking)), f"{place}/lacking")
+    expect_got(builds, "a file that the server lacks", lacks, f"missing {lost.text()}\n", 1)
     builds.rows.tell("and what was written before stays", standing_at(f"{place}/lacking") == {"a": (NINE, True)})
-    expect("a tree that the server lacks", get(f"{'0' * 64}/80", f"{place}/lacked"), f"missing {'0' * 64}/80\n", 1)
+    expect_got(builds, "a tree that the server lacks", get_into(builds, f"{'0' * 64}/80", f"{place}/lacked"), f"missing {'0' * 64}/80\n", 1)
     builds.rows.tell("and no folder was made", not os.path.exists(f"{place}/lacked"))
-    expect_tree("the empty tree", Digest.of(b"").text(), f"{place}/nothing", {})
+    expect_tree(builds, "the empty tree", Digest.of(b"").text(), f"{place}/nothing", {})
 
 
 def try_folders(rows, program, folder):
@@ -305,6 +313,7 @@ def try_all(rows, program):
         builds = Builds(program, folder, rows)
         try:
             try_trees(builds)
+            try_other_trees(builds)
         finally:
             builds.server.end()
         try_folders(rows, program, folder)

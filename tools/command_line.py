@@ -9,7 +9,7 @@ from plans import Refused
 
 
 class NotAnswered(Exception):
-    """What a server did in place of an answer."""
+    """What a server or the program did in place of an answer."""
 
 
 class Parser(argparse.ArgumentParser):
@@ -20,7 +20,8 @@ class Parser(argparse.ArgumentParser):
         super().__init__(prog=prog, description=first, epilog=rest, formatter_class=argparse.RawDescriptionHelpFormatter)
 
     def error(self, message):
-        self.exit(2, f"error: {on_one_line(message)}; --help tells the words\n")
+        complain(f"error: {on_one_line(message)}; --help tells the words")
+        sys.exit(2)
 
 
 class Once(argparse.Action):
@@ -35,8 +36,27 @@ class Once(argparse.Action):
         setattr(namespace, self.dest, value)
 
 
+def place_of(text):
+    """A path among the words. An empty one, as of a variable that isn't set, is refused."""
+    if not text:
+        raise argparse.ArgumentTypeError("'' is no path")
+    return text
+
+
+def number_to(most):
+    """Reads a whole number from 1 to this one."""
+    def read(text):
+        if not text.isdecimal() or not 1 <= int(text) <= most:
+            raise argparse.ArgumentTypeError(f"{text!r} is no number from 1 to {most}")
+        return int(text)
+
+    return read
+
+
 def say(*lines):
     """Prints lines at once. What standard output doesn't take is forgotten, else it would be written again at the end."""
+    if sys.stdout is None:
+        raise OSError("standard output is closed")
     try:
         print(*lines, sep="\n", flush=True)
     except OSError:
@@ -45,17 +65,25 @@ def say(*lines):
         raise
 
 
+def complain(line):
+    """Prints a line on standard error, where there is one and that takes it: the status says the same."""
+    if line and sys.stderr:
+        with contextlib.suppress(OSError):
+            print(line, file=sys.stderr, flush=True)
+
+
 def status_of(make):
-    """Prints the lines that `make` comes to, or that of an error; the status: 2 where it refuses, 3 where a file, a server or
-    memory fails."""
+    """Prints the lines that `make` comes to, or that of an error. The status is what `make` has before its lines, 2 where it
+    refuses, and 3 where a file, a server or memory fails, or it is interrupted."""
     try:
-        say(*make())
-        return 0
+        status, *lines = make()
+        say(*lines)
+        return status
     except Refused as fault:
         status, why = 2, fault
-    except (NotAnswered, OSError, UnicodeError, MemoryError) as fault:
+    except (NotAnswered, OSError, UnicodeError, MemoryError, KeyboardInterrupt) as fault:
         status, why = 3, str(fault) or type(fault).__name__
-    print("error:", on_one_line(str(why)), file=sys.stderr)
+    complain(f"error: {on_one_line(str(why))}")
     return status
 
 

@@ -180,7 +180,7 @@ class Commands:
         words += ["--record", noted, "--work", work]
         done = harness.run(self.program, *words, seconds=SECONDS, env=fault and fault.environment())
         wrong = wrong_of(done, f"built {self.claim} steps 1\n".encode(), 0)
-        left = read(noted) if os.path.exists(noted) else None
+        left = stores.read_file(noted) if os.path.exists(noted) else None
         is_unsaid = done.returncode == 3 and fault and fault.failed() in WRITES
         is_right = left == record if done.returncode == 0 else left is None or is_unsaid and left == record
         return wrong or (None if is_right and (fault or done.returncode == 0) else (done, left))
@@ -212,11 +212,6 @@ def plan_of(frame, line):
 
 def record_of(action):
     return f"buildrecord 1\nstep mk {Digest.of(action).text()}\n".encode()
-
-
-def read(path):
-    with open(path, "rb") as it:
-        return it.read()
 
 
 # A server.

@@ -1,6 +1,7 @@
 """What the tools share that run the program: the words of their own command line, rows that are told, the program's own
 server, servers that answer otherwise, and nginx. Everything listens on 127.0.0.1 alone."""
 
+import hashlib
 import http.server
 import os
 import re
@@ -96,6 +97,10 @@ def run(program, *words, seconds=60, env=None):
         return subprocess.run([program, *words], timeout=seconds, **how)
     except subprocess.TimeoutExpired as late:
         return subprocess.CompletedProcess(late.cmd, None, late.stdout or b"", late.stderr or b"")
+
+
+def path_of(blob):
+    return f"/cas/{hashlib.sha256(blob).hexdigest()}"
 
 
 def get(path):

@@ -254,8 +254,7 @@ class Maker:
 
 def parse(words):
     parser = command_line.Parser("make_plan.py", __doc__)
-    parser.add_argument("steps", metavar="STEPS", help="the steps, as JSON")
-    parser.add_argument("folder", metavar="FOLDER", help="where the files are written; it is made if it isn't there")
+    parser.add_argument("steps", metavar="STEPS", type=command_line.place_of, help="the steps, as JSON")
     stores.add_options(parser)
     return parser.parse_args(words)
 
@@ -281,13 +280,13 @@ def make(options):
 
 
 def lines_of(options):
-    """Does all, and what is printed then."""
+    """Does all, and the status and what is printed then."""
     with contextlib.closing(stores.store_of(options)) as place:
         plan, root, store = make(options)
         store.put_into(place)
         stores.write_texts(options.folder, {"plan": plan, "sources": [root.text()]})
     at = os.path.join(options.folder, "plan").encode(errors="backslashreplace").decode()
-    return f"sources {root.text()}", f"plan {at}", f"steps {sum(it.startswith('step ') for it in plan)}"
+    return 0, f"sources {root.text()}", f"plan {at}", f"steps {sum(it.startswith('step ') for it in plan)}"
 
 
 def main(words):

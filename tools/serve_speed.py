@@ -17,7 +17,7 @@ import socket
 import subprocess
 import time
 
-from harness import LOCAL, Nginx, Server, get, need, numbers_of, program_at, put, words_of
+from harness import LOCAL, Nginx, Server, get, need, numbers_of, path_of, program_at, put, words_of
 
 SIZES = [1 << 10, 64 << 10, 1 << 20, 16 << 20]
 TURNS = 10
@@ -53,12 +53,8 @@ class Client:
             left -= self.socket.recv_into(self.buffer, min(left, len(self.buffer)))
 
 
-def path(blob):
-    return "/cas/" + hashlib.sha256(blob).hexdigest()
-
-
 def put_text(blob):
-    return put(path(blob), blob)
+    return put(path_of(blob), blob)
 
 
 class Blobs:
@@ -102,7 +98,7 @@ def measure(clients, seconds, store):
             client.ask(put_text(held), (200, 201, 204))
         for _ in range(TURNS):
             for name, client in clients.items():
-                for kind, make in (("GET", lambda: get(path(held))), ("PUT", lambda: put_text(blobs.next()))):
+                for kind, make in (("GET", lambda: get(path_of(held))), ("PUT", lambda: put_text(blobs.next()))):
                     rate = turn(client, make, seconds / TURNS, (200, 201, 204))
                     best[name, kind] = max(rate, best.get((name, kind), 0))
                     client.ask(put_text(held), (200, 201, 204))
@@ -114,7 +110,7 @@ def measure(clients, seconds, store):
 def wrk(port, blob, seconds, connections):
     """Requests a second of GETs of a blob, each answered with 200."""
     threads = min(2, connections)
-    words = ["wrk", f"-t{threads}", f"-c{connections}", f"-d{max(1, round(seconds))}s", "--timeout", "10s", f"http://{LOCAL}:{port}{path(blob)}"]
+    words = ["wrk", f"-t{threads}", f"-c{connections}", f"-d{max(1, round(seconds))}s", "--timeout", "10s", f"http://{LOCAL}:{port}{path_of(blob)}"]
     told = subprocess.run(words, capture_output=True, text=True, timeout=seconds + 60, check=True).stdout
     if "Non-2xx" in told or "Socket errors" in told:
         raise SystemExit(f"serve_speed: {told}")

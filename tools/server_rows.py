@@ -20,10 +20,10 @@ import threading
 import time
 
 import harness
-from harness import Server, get, is_error, put
+from harness import Server, get, is_error, path_of, put
 from messages import Digest
-from server_streams import ABSENT, ASKS, DIGITS, DONE, EMPTY, FEED, LARGEST, LEFT_OPEN
-from server_streams import NINE, REFUSED, SHORT, STREAMS, found, head, path_of, refused
+from server_streams import ABSENT, ASKS, DIGITS, DONE, FEED, LARGEST, LEFT_OPEN
+from server_streams import NINE, NO_BYTES, REFUSED, SHORT, STREAMS, found, head, refused
 
 LIMITS = ["--limit", "1", "--result-limit", "1"]
 
@@ -60,7 +60,7 @@ def try_streams(rows, program):
             seen = talk(it.port, stream, len(stream))
         rows.tell(f"{name}, limits {limit} and {result_limit}", seen == answers, seen)
     with server(program, 1, "--prefix", "/x") as it:
-        seen = talk(it.port, get(f"/x/cas/{EMPTY}") + get(f"/cas/{EMPTY}"), 65536)
+        seen = talk(it.port, get(f"/x/cas/{NO_BYTES}") + get(f"/cas/{NO_BYTES}"), 65536)
     rows.tell("only what stands under the prefix is served", seen == DONE + ABSENT, seen)
     for prefix in ("/", "/a/", "a"):
         told = harness.run(program, "serve", "--listen", "127.0.0.1:0", *LIMITS, "--prefix", prefix)
@@ -69,7 +69,7 @@ def try_streams(rows, program):
 
 def try_heads(rows, program):
     """Each with a request after it, which is answered only where the connection stays open."""
-    again = get(f"/cas/{EMPTY}")
+    again = get(f"/cas/{NO_BYTES}")
     for more in ((), ("--at-once", "4")):
         with server(program, None, *more) as it:
             for name, (request, answer) in REFUSED.items():
@@ -217,7 +217,7 @@ def try_places(rows, program):
     """The third of two at once waits until one has ended."""
     with server(program, 3, "--at-once", "2") as it:
         streams = [connect(it.port) for _ in range(3)]
-        request, answer = get(f"/cas/{EMPTY}"), found(b"")
+        request, answer = get(f"/cas/{NO_BYTES}"), found(b"")
         rows.tell("two at once are answered", all(ask(stream, request, answer) for stream in streams[:2]))
         streams[2].sendall(request)
         streams[2].settimeout(0.5)
@@ -265,7 +265,7 @@ def try_waiting(rows, program):
         clients = begin_bodies(it.port, 1)
         time.sleep(0.5)
         with connect(it.port) as small:
-            small.sendall(get(f"/cas/{EMPTY}")[:20])
+            small.sendall(get(f"/cas/{NO_BYTES}")[:20])
             time.sleep(0.2)
             right = [ask(stream, rest, DONE) for stream, rest in clients]
         rows.tell("where requests hold all that they may, none waits for one that stops in its head", all(right), right)
@@ -365,7 +365,7 @@ def try_no_end(rows, program):
             served = 0
             for _ in range(5):
                 with connect(it.port) as stream:
-                    served += ask(stream, get(f"/cas/{EMPTY}"), found(b""))
+                    served += ask(stream, get(f"/cas/{NO_BYTES}"), found(b""))
             rows.tell(f"without --connections 5 are served, {name}", served == 5, served)
             rows.tell("and the server goes on", it.process.poll() is None, it.process.returncode)
             it.process.terminate()
@@ -390,7 +390,7 @@ def try_few_files(rows, program):
     """A server that may open 20 files: the connections beyond wait until others end, and it goes on."""
     few = ["bash", "-c", 'ulimit -n 20; exec "$0" "$@"', program]
     with Server(few, more=("--at-once", "1024")) as it:
-        request, answer = get(f"/cas/{EMPTY}"), found(b"")
+        request, answer = get(f"/cas/{NO_BYTES}"), found(b"")
         streams = [connect(it.port) for _ in range(40)]
         answered = 0
         for stream in streams:

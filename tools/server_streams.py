@@ -2,19 +2,19 @@
 room is short, and heads that close the connection or leave it open.
 """
 
-from harness import get, put
+from harness import get, path_of, put
 from messages import Digest, File, bytes_field, directory_message, result_message
 
 NINE = b"123456789"
 DIGITS = "15e2b0d3c33891ebb0f1ef609ec419420c20e320ce94c65fbc8c3312448eb225"
-EMPTY = "e3b0c44298fc1c149afbf4c8996fb92427ae41e4649b934ca495991b7852b855"
+NO_BYTES = "e3b0c44298fc1c149afbf4c8996fb92427ae41e4649b934ca495991b7852b855"
 FEED = "01ba4719c80b6fe911b091a7c05124b64eeece964e09c058ef8f9805daca546b"
 KEY = "0" * 64
 
 
-def directory(name):
-    """The Directory of one file of that name, the nine digits."""
-    return directory_message({name: File(Digest(DIGITS, 9), is_executable=False)})
+def directory(name, blob=NINE):
+    """The Directory of one file."""
+    return directory_message({name: File(Digest.of(blob), is_executable=False)})
 
 
 TREE = bytes_field(1, directory("a"))
@@ -54,10 +54,6 @@ CONFLICT = b"HTTP/1.1 409 Conflict\r\nContent-Length: 0\r\n\r\n"
 FULL = b"HTTP/1.1 507 Insufficient Storage\r\nContent-Length: 0\r\n\r\n"
 
 
-def path_of(blob):
-    return f"/cas/{Digest.of(blob).hash}"
-
-
 # The same where room is short: the limits of blobs and results, a stream, and all that it is answered.
 SHORT = {
     "what a pinned result refers to stays": (
@@ -93,12 +89,12 @@ def refused(reason, *fields):
     return "\r\n".join([f"HTTP/1.1 {reason}", "Content-Length: 0", *fields, "Connection: close", "", ""]).encode()
 
 
-ASKS, PUTS = f"GET /cas/{EMPTY} HTTP/1.1", f"PUT /cas/{FEED} HTTP/1.1"
+ASKS, PUTS = f"GET /cas/{NO_BYTES} HTTP/1.1", f"PUT /cas/{FEED} HTTP/1.1"
 LARGEST = 16777216
 NO_METHOD = ("405 Method Not Allowed", "Allow: GET, PUT")
 # Requests that close their connection, with their answers.
 REFUSED = {
-    "HEAD": (head(f"HEAD /cas/{EMPTY} HTTP/1.1"), NO_METHOD),
+    "HEAD": (head(f"HEAD /cas/{NO_BYTES} HTTP/1.1"), NO_METHOD),
     "POST": (head(f"POST /cas/{FEED} HTTP/1.1", "Content-Length: 1") + b"\n", NO_METHOD),
     "OPTIONS": (head("OPTIONS * HTTP/1.1"), NO_METHOD),
     "a method in lower case": (head(ASKS.lower().replace("http", "HTTP")), NO_METHOD),
@@ -122,14 +118,14 @@ REFUSED = {
 LEFT_OPEN = {
     "64 fields": (head(ASKS, *("a: b" for _ in range(63))), found(b"")),
     "a head of 16,384 bytes": (head(ASKS, "a: " + "b" * (16384 - len(head(ASKS, "a: ")))), found(b"")),
-    "a query": (get(f"/cas/{EMPTY}?a"), ABSENT),
-    "an escape": (get(f"/%63as/{EMPTY}"), ABSENT),
-    "a whole address": (get(f"http://x/cas/{EMPTY}"), ABSENT),
-    "a hash in upper case": (get(f"/cas/{EMPTY.upper()}"), ABSENT),
+    "a query": (get(f"/cas/{NO_BYTES}?a"), ABSENT),
+    "an escape": (get(f"/%63as/{NO_BYTES}"), ABSENT),
+    "a whole address": (get(f"http://x/cas/{NO_BYTES}"), ABSENT),
+    "a hash in upper case": (get(f"/cas/{NO_BYTES.upper()}"), ABSENT),
     "GET of a pin": (get(f"/pin/{KEY}"), ABSENT),
     "a pin with a body": (put(f"/pin/{KEY}", b"\n"), BAD),
     "bytes that are no result": (put(f"/ac/{KEY}", b"\xff"), BAD),
-    "a line end before the head": (b"\r\n" + get(f"/cas/{EMPTY}"), found(b"")),
+    "a line end before the head": (b"\r\n" + get(f"/cas/{NO_BYTES}"), found(b"")),
     "a length of zeros": (head(ASKS, "Content-Length: 00"), found(b"")),
     "keep-alive": (head(ASKS, "Connection: keep-alive"), found(b"")),
 }

@@ -27,7 +27,7 @@ import time
 
 import harness
 from cache_model import (
-    LIMIT, RESULT_LIMIT, Model, Requests, Result, Unlike, ask_blob, ask_pin, ask_result, give_blob, give_result, hash_of, path_of,
+    LIMIT, RESULT_LIMIT, Model, Requests, Result, Unlike, ask_blob, ask_pin, ask_result, give_blob, give_result, hash_of,
 )
 from soak_clients import Client, crowd, misbehave, request_text, server_of
 
@@ -87,7 +87,7 @@ class Checked:
 
 def broken_off(blob):
     """A PUT whose body lacks a byte."""
-    return harness.put(path_of(blob), blob + b"x")[:-1]
+    return harness.put(harness.path_of(blob), blob + b"x")[:-1]
 
 
 class Soak(Checked):

@@ -6,8 +6,8 @@ import socket
 import struct
 import time
 
-from cache_model import LIMIT, RESULT_LIMIT, Unlike, path_of
-from harness import Server, get, put
+from cache_model import LIMIT, RESULT_LIMIT, Unlike
+from harness import Server, get, path_of, put
 
 # How many connections are opened one after another.
 CONNECTIONS = 10000
@@ -93,12 +93,17 @@ def misbehave(program, rows):
 BODY = bytes(1 << 20)
 
 
+def tell_next(server, rows, name):
+    """Tells whether the next client is answered, and after how long."""
+    began = time.monotonic()
+    rows.tell(f"{name} the next one is answered", is_alive(server.port))
+    print(f"       after {time.monotonic() - began:.1f} s, with --idle 2")
+
+
 def try_clients(server, rows):
     """Clients that misbehave, each with another one behind it."""
     silent = socket.create_connection(("127.0.0.1", server.port))
-    began = time.monotonic()
-    rows.tell("a silent client is dropped, and the next one answered", is_alive(server.port))
-    print(f"       after {time.monotonic() - began:.1f} s, with --idle 2")
+    tell_next(server, rows, "a silent client is dropped, and")
     silent.close()
 
     slow = socket.create_connection(("127.0.0.1", server.port))
@@ -120,20 +125,16 @@ def try_clients(server, rows):
             deaf.sendall(get(path_of(BODY)))
     except OSError:
         pass
-    began = time.monotonic()
-    rows.tell("after a client that never reads the next one is answered", is_alive(server.port))
-    print(f"       after {time.monotonic() - began:.1f} s, with --idle 2")
+    tell_next(server, rows, "after a client that never reads")
     full.close()
 
     broken = Client(server.port)
     broken.connect().sendall(put(path_of(BODY), BODY)[:1000])
     broken.close(reset=True)
-    rows.tell("after a client that resets in a body the next one is answered", is_alive(server.port))
+    tell_next(server, rows, "after a client that resets in a body")
 
-    many = CONNECTIONS
     began = time.monotonic()
-    right = all(is_alive(server.port) for _ in range(many))
-    rows.tell(f"{many} connections one after another", right)
+    rows.tell(f"{CONNECTIONS} connections one after another", all(is_alive(server.port) for _ in range(CONNECTIONS)))
     print(f"       in {time.monotonic() - began:.1f} s; memory {server.memory()} kB")
 
 

@@ -11,13 +11,13 @@ import collections
 import contextlib
 import os
 import re
-import tempfile
 
 import harness
 import stores
-from builds import MADE, NINE, SHELL, Builds, directory, record_of
+from builds import MADE, SHELL, record_of, try_each
 from harness import Between
 from messages import EMPTY, Digest, File, action_message, command_message, directory_message, result_message
+from server_streams import NINE, directory
 
 # A file that is greater than all that a small plan puts beside it.
 LARGE = NINE * 100
@@ -117,7 +117,7 @@ def rows_of_results(builds):
 def rows_of_limits(builds):
     """Builds over a server that evicts what they put: each comes to its root, or names a blob that the server lacks."""
     large, larger = (File(Digest.of(it), False) for it in (LARGE, LARGE + NINE))
-    given = Digest.of(directory("a", NINE))
+    given = Digest.of(directory("a"))
     entries = {"l": large, "t": {"l": large, "m": larger}, "w": File(Digest.of(NINE * 2), False)}
     root = Digest.of(directory_message(entries)).text()
 
@@ -125,7 +125,7 @@ def rows_of_limits(builds):
         """The plan, over a server of this limit, whose least recent blobs are the sources'."""
         builds.renew(limit=limit)
         builds.put(NINE)
-        builds.put(directory("a", NINE))
+        builds.put(directory("a"))
         return builds.plan([
             ("one", [*SHELL, "n=0; while [ $n -lt 100 ]; do printf 123456789; n=$((n+1)); done > out"], ["out"], ()),
             ("two", [*SHELL, "cat d/x d/x > out"], ["out"], ["d/x src a"]),
@@ -148,20 +148,25 @@ def rows_of_limits(builds):
         builds.rows.tell("and the evicted blob is noted", done.stderr == note, done.stderr)
     done, place = builds.build(renewed(len(LARGE) - 1), given.text())
     builds.expect("a limit that a file exceeds", done, place, "", 3)
+    try_limits(builds, renewed, range(len(LARGE), held + 5 * len(LARGE), 150), given, root, first)
+    builds.renew()
+
+
+def try_limits(builds, renewed, limits, given, root, first):
+    """The same at many limits, twice each."""
     ends = collections.Counter()
-    for limit in range(len(LARGE), held + 5 * len(LARGE), 150):
+    for limit in limits:
         plan = renewed(limit)
         for turn in ("first", "second"):
             done, place = builds.build(plan, given.text())
             wrong = wrong_at_limit(builds, done, place, root, first, ends)
             builds.rows.tell(f"limit {limit}, the {turn} build: it is right, or names what is evicted", wrong is None, wrong)
     builds.rows.tell("such builds end in each way", all(ends[it] for it in ("yes", "no", "got", "missing", "failed")), ends)
-    builds.renew()
 
 
 def wrong_at_limit(builds, done, place, root, record, ends):
     """What is wrong with a build of three steps at a small limit, its `verify` and its `get --into`, or nothing."""
-    sources = Digest.of(directory("a", NINE)).text()
+    sources = Digest.of(directory("a")).text()
 
     def named(told, pattern):
         """Whether these are lines that name a blob, or the action of a result, that the server lacks."""
@@ -194,14 +199,7 @@ def wrong_at_limit(builds, done, place, root, record, ends):
 
 
 def try_all(rows, program):
-    with tempfile.TemporaryDirectory() as work:
-        builds = Builds(os.path.realpath(program), work, rows)
-        try:
-            rows_of_replies(builds)
-            rows_of_results(builds)
-            rows_of_limits(builds)
-        finally:
-            builds.server.end()
+    try_each(rows, program, [rows_of_replies, rows_of_results, rows_of_limits])
 
 
 if __name__ == "__main__":

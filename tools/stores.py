@@ -1,10 +1,11 @@
 """Where blobs and results are put, by their hashes: a store folder, or a cache over HTTP."""
 
+import contextlib
 import http.client
 import os
 import re
 
-from command_line import NotAnswered, Once
+from command_line import NotAnswered, Once, place_of
 from plans import Refused
 
 
@@ -14,6 +15,10 @@ class FolderStore:
     def __init__(self, folder):
         self.folder, self.parts_made = folder, set()
 
+    def words(self):
+        """The words by which the program is told of it."""
+        return ["--store", self.folder]
+
     def place(self, part, name):
         return f"{self.folder}/{part}/{name}"
 
@@ -21,17 +26,20 @@ class FolderStore:
         """The bytes under a name, or None."""
         if not os.path.exists(self.place(part, name)):
             return None
-        with open(self.place(part, name), "rb") as it:
-            return it.read()
+        return read_file(self.place(part, name))
 
     def put(self, part, name, content):
         if part not in self.parts_made:
             os.makedirs(os.path.join(self.folder, part), exist_ok=True)
             self.parts_made.add(part)
         # (whole or not at all: another program may read this store)
-        place = self.place(part, name)
-        write_file(f"{place}.new{os.getpid()}", content)
-        os.replace(f"{place}.new{os.getpid()}", place)
+        new = f"{self.place(part, name)}.new{os.getpid()}"
+        try:
+            write_file(new, content)
+            os.replace(new, self.place(part, name))
+        except BaseException:
+            forget(new)
+            raise
 
     def close(self):
         pass
@@ -43,6 +51,9 @@ class ServerStore:
     def __init__(self, address, prefix):
         self.address, self.prefix = address, prefix
         self.connection = http.client.HTTPConnection(address, timeout=60)
+
+    def words(self):
+        return ["--server", self.address, *(["--prefix", self.prefix] if self.prefix else [])]
 
     def place(self, part, name):
         return f"http://{self.address}{self.prefix}/{part}/{name}"
@@ -82,11 +93,12 @@ def is_prefix(text):
     return len(text) <= 256 and re.fullmatch("(/[A-Za-z0-9._~-]+)*", text) is not None
 
 
-def add_options(parser):
-    """The options that name a store: a folder, by default FOLDER/store, or a server."""
+def add_options(parser, folder_help="where the files are written; it is made if it isn't there"):
+    """The word FOLDER, and the options that name a store: a folder, by default FOLDER/store, or a server."""
+    parser.add_argument("folder", metavar="FOLDER", type=place_of, help=folder_help)
     places = parser.add_mutually_exclusive_group()
     places.add_argument(
-        "--store", metavar="STORE", action=Once, help="the store folder, in place of FOLDER/store; it may hold other builds"
+        "--store", metavar="STORE", action=Once, type=place_of, help="the store folder, in place of FOLDER/store; it may hold other builds"
     )
     places.add_argument(
         "--server", metavar="HOST:PORT", action=Once,
@@ -108,6 +120,17 @@ def store_of(options):
     if not is_address(options.server):
         raise Refused(f"{options.server!r} is no server's address, HOST:PORT")
     return ServerStore(options.server, options.prefix)
+
+
+def forget(path):
+    """Removes a file where it is there."""
+    with contextlib.suppress(FileNotFoundError):
+        os.remove(path)
+
+
+def read_file(path):
+    with open(path, "rb") as it:
+        return it.read()
 
 
 def write_file(path, content):

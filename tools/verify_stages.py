@@ -12,7 +12,6 @@ The last line is `yes CLAIM stages N steps M`, or the no of the first stage that
 The status is that of `verify`: 0 yes, 1 no, 2 a file is at fault, 3 no verdict.
 """
 
-import argparse
 import concurrent.futures
 import os
 import re
@@ -22,16 +21,11 @@ from dataclasses import dataclass
 
 import command_line
 import harness
+import stores
+from command_line import NotAnswered
+from plans import Refused
 
 ASKED = ("sources", "claim")
-
-
-class Fault(Exception):
-    """What is at fault, the status that tells it, and beside a no the line of its note."""
-
-    def __init__(self, status, why, note=""):
-        super().__init__(why)
-        self.status, self.note = status, note
 
 
 @dataclass
@@ -42,40 +36,37 @@ class Stage:
     claim: str
 
 
-def read_lines(path):
-    try:
-        with open(path, encoding="utf-8") as it:
-            return it.read().splitlines()
-    except (OSError, UnicodeDecodeError) as fault:
-        raise Fault(3, f'"{path}": {fault}') from None
+def read_lines(folder, name):
+    with open(os.path.join(folder, name), encoding="utf-8", errors="replace") as it:
+        return it.read().splitlines()
 
 
 def read_digests(folder):
     """The sources and the claim that a folder asks about."""
-    digests = [read_lines(os.path.join(folder, it)) for it in ASKED]
+    digests = [read_lines(folder, it) for it in ASKED]
     if not all(len(it) == 1 and re.fullmatch("[0-9a-f]{64}/[0-9]{1,19}", it[0]) for it in digests):
-        raise Fault(2, f'"{folder}": the files sources and claim have a digest each')
+        raise Refused(f'"{folder}": the files sources and claim have a digest each')
     return [it[0] for it in digests]
 
 
 def read_stages(folder):
     """The stages, of which each goes on from what the one before ends in, from the build's sources to its claim."""
-    names = read_lines(os.path.join(folder, "stages"))
+    names = read_lines(folder, "stages")
     if not names:
-        raise Fault(2, f'"{folder}": there are no stages')
+        raise Refused(f'"{folder}": there are no stages')
     wrong = next((it for it in names if not re.fullmatch("[0-9]+", it)), None)
     if wrong is not None:
-        raise Fault(2, f'"{folder}": {wrong!r} is no folder of a stage')
+        raise Refused(f'"{folder}": {wrong!r} is no folder of a stage')
     places = [os.path.join(folder, it) for it in names]
     stages = [Stage(name, place, *read_digests(place)) for name, place in zip(names, places)]
     at, claim = read_digests(folder)
     whose = "the build's"
     for stage in stages:
         if stage.sources != at:
-            raise Fault(2, f"stage {stage.name}: its sources {stage.sources} aren't {whose}")
+            raise Refused(f"stage {stage.name}: its sources {stage.sources} aren't {whose}")
         at, whose = stage.claim, f"the claim of stage {stage.name}"
     if at != claim:
-        raise Fault(2, f"{whose}, {at}, isn't the build's, {claim}")
+        raise Refused(f"{whose}, {at}, isn't the build's, {claim}")
     return stages
 
 
@@ -83,27 +74,25 @@ def verify(stage, program, place):
     """What `verify` prints on a stage, what it prints as an error, and its status."""
     words = [program, "verify", *place, "--sources", stage.sources, "--claim", stage.claim]
     words += ["--plan", os.path.join(stage.folder, "plan"), "--record", os.path.join(stage.folder, "record")]
-    try:
-        ran = subprocess.run(words, stdin=subprocess.DEVNULL, capture_output=True, text=True, errors="replace", check=False)
-    except OSError as fault:
-        raise Fault(3, fault) from None
+    ran = subprocess.run(words, stdin=subprocess.DEVNULL, capture_output=True, text=True, errors="replace", check=False)
     return ran.stdout.rstrip("\n"), ran.stderr.rstrip("\n"), ran.returncode
 
 
 def judge(stages, program, place, jobs):
-    """The number of steps of all stages, or the first stage's fault."""
-    steps, is_shown = 0, sys.stderr.isatty()
+    """The status, and the line: of a yes, or of the first stage's no, whose note is told."""
+    steps, is_shown = 0, sys.stderr and sys.stderr.isatty()
     with concurrent.futures.ThreadPoolExecutor(jobs) as pool:
         verdicts = [pool.submit(verify, it, program, place) for it in stages]
         try:
             for count, (stage, verdict) in enumerate(zip(stages, verdicts), 1):
                 line, told, status = verdict.result()
                 if status == 1 and line.startswith("no "):
-                    raise Fault(1, f"no stage {stage.name} {line.removeprefix('no ')}", told)
+                    command_line.complain(told)
+                    return 1, f"no stage {stage.name} {line.removeprefix('no ')}"
                 found = re.fullmatch(f"yes {stage.claim} steps ([0-9]+)", line)
                 if status != 0 or not found:
                     why = told.removeprefix("error: ") or line or f"the program ends with status {status}"
-                    raise Fault(2 if status == 2 else 3, f"stage {stage.name}: {why}")
+                    raise (Refused if status == 2 else NotAnswered)(f"stage {stage.name}: {why}")
                 steps += int(found[1])
                 if is_shown:
                     print(f"\r{count} of {len(stages)} stages, {steps} steps", end="", file=sys.stderr, flush=True)
@@ -112,7 +101,7 @@ def judge(stages, program, place, jobs):
                 it.cancel()
             if is_shown:
                 print(file=sys.stderr)
-    return steps
+    return 0, f"yes {stages[-1].claim} stages {len(stages)} steps {steps}"
 
 
 def program_here():
@@ -121,62 +110,26 @@ def program_here():
     if "BUILDCACHE" in os.environ or os.path.exists(harness.PROGRAM):
         return harness.PROGRAM
     script = os.path.join(harness.TOP, "buildcache")
-    try:
-        ran = subprocess.run([script, "--version"], stdin=subprocess.DEVNULL, stdout=subprocess.DEVNULL, check=False)
-    except OSError as fault:
-        raise Fault(3, fault) from None
+    ran = subprocess.run([script, "--version"], stdin=subprocess.DEVNULL, stdout=subprocess.DEVNULL, check=False)
     if ran.returncode != 0:
-        raise Fault(3, f'"{script}" ends with status {ran.returncode}')
+        raise NotAnswered(f'"{script}" ends with status {ran.returncode}')
     return script
-
-
-def jobs_of(text):
-    if not text.isdecimal() or not 1 <= int(text) <= 64:
-        raise argparse.ArgumentTypeError(f"{text!r} is no number from 1 to 64")
-    return int(text)
 
 
 def parse(words):
     parser = command_line.Parser("verify_stages.py", __doc__)
-    parser.add_argument("folder", metavar="FOLDER", help="the folder with the stages")
-    parser.add_argument("--jobs", metavar="J", type=jobs_of, default=1, help="so many at once, 1 to 64")
-    places = parser.add_mutually_exclusive_group()
-    places.add_argument("--store", metavar="STORE", help="the store folder, in place of FOLDER/store")
-    places.add_argument("--server", metavar="HOST:PORT", help="a cache over HTTP in place of a folder")
-    parser.add_argument("--prefix", metavar="PREFIX", help="what stands before /cas and /ac on the server")
+    stores.add_options(parser, "the folder with the stages")
+    parser.add_argument(
+        "--jobs", metavar="J", type=command_line.number_to(64), default=1, action=command_line.Once, help="so many at once, 1 to 64"
+    )
     return parser.parse_args(words)
 
 
 def main(words):
     options = parse(words)
-    if options.server is not None:
-        place = ["--server", options.server, *(["--prefix", options.prefix] if options.prefix else [])]
-    else:
-        place = ["--store", options.store or os.path.join(options.folder, "store")]
-    try:
-        if options.prefix and options.server is None:
-            raise Fault(2, "--prefix is for --server")
-        stages = read_stages(options.folder)
-        steps = judge(stages, program_here(), place, options.jobs)
-        command_line.say(f"yes {stages[-1].claim} stages {len(stages)} steps {steps}")
-        return 0
-    except Fault as fault:
-        return tell(fault)
-    except OSError as fault:
-        return tell(Fault(3, fault))
-
-
-def tell(fault):
-    """Prints a no, or the line of an error; the status."""
-    try:
-        if fault.status == 1:
-            command_line.say(fault)
-    except OSError as other:
-        fault = Fault(3, other)
-    told = fault.note if fault.status == 1 else f"error: {command_line.on_one_line(str(fault))}"
-    if told:
-        print(told, file=sys.stderr)
-    return fault.status
+    return command_line.status_of(
+        lambda: judge(read_stages(options.folder), program_here(), stores.store_of(options).words(), options.jobs)
+    )
 
 
 if __name__ == "__main__":

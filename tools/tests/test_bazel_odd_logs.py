@@ -21,7 +21,7 @@ READER = spawn({"o/a": "a", "o/t/b": "b"}, ["o/c"])
 # A value of each kind of JSON, and some that are odd in themselves.
 ODD = [None, True, False, 7, -1, 2**70, 0.5, float("nan"), "x", "", "\0", "\ud800", "a/../b", [], [7], [[]], {}, {"x": 1}]
 # What says nothing of what was run or made, so that any value will do.
-UNSAID = {"remotable", "remoteCacheable", "runner", "remoteCacheHit", "isTool"}
+UNSAID = {"remotable", "remoteCacheable", "runner", "isTool"}
 
 
 def places_of(value, above=()):

@@ -18,6 +18,7 @@ from bazel_case import CHAIN, HERE, TOP, Case, contents, log, spawn
 import bazel_log
 import bazel_plan
 import messages
+import stores
 
 
 # One spawn with everything that an action and a result have, and its messages as protobuf encodes them.
@@ -195,24 +196,34 @@ class Rules(Case):
         self.turn(log(spawn({}, ["a", "x"], {"a": "a"}), spawn({}, ["x"])))
         self.judge("yes ")
 
+    def test_steps_from_a_cache_are_counted(self):
+        hit = [spawn({}, ["b"], remoteCacheHit=True), spawn({}, ["c"], cacheHit=True, remoteCacheHit=False)]
+        self.assertEqual(self.call(log(spawn({}, ["a"]), *hit))[1].splitlines()[-1], "steps 3 taken 0 from-cache 2")
+        self.assertEqual(self.call(log(spawn({}, ["a"]), *hit), "--outputs", "b")[1].splitlines()[-1], "steps 1 taken 0 left-out 2 from-cache 1")
+
     def test_a_timeout_may_be_dropped(self):
         self.turn(log(spawn({}, ["a"], timeoutMillis="1000")), "--drop-timeouts")
         self.judge("yes ")
 
 
-class Artifacts(Case):
+class Shipping(Case):
+    """Tests with a folder `shipped`."""
+
+    def ship(self, contents):
+        """Puts files of these contents into it, which may be run."""
+        for path, content in contents.items():
+            os.makedirs(os.path.dirname(self.at("shipped", path)), exist_ok=True)
+            with open(self.at("shipped", path), "w", encoding="utf-8") as out:
+                out.write(content)
+            os.chmod(self.at("shipped", path), 0o755)
+
+
+class Artifacts(Shipping):
     BUILD = log(spawn({}, ["bin/t"], {"bin/t/x": "1", "bin/t/y": "2"}), spawn({}, ["bin/a"]), spawn({}, ["lib/b"]))
 
     def root(self, *words):
         plan = self.turn(self.BUILD, *words)
         return [it.split()[1] for it in plan[plan.index("root") + 1:]]
-
-    def ship(self, contents):
-        for path, content in contents.items():
-            os.makedirs(os.path.dirname(self.at("shipped", path)), exist_ok=True)
-            with open(self.at("shipped", path), "w", encoding="utf-8") as out:
-                out.write(content)
-            os.chmod(self.at("shipped", path), 0o555)
 
     def test_patterns_choose_the_outputs(self):
         self.assertEqual(self.root(), ["bin/a", "bin/t", "lib/b"])
@@ -289,10 +300,17 @@ class Artifacts(Case):
             self.refuse(f'"{place}" lies in the artifact', self.BUILD, "--artifact", self.at("shipped"), "--store", place)
         self.turn(self.BUILD, "--artifact", self.at("shipped"), "--store", self.at("shipped-store"))
 
-    def test_a_folder_without_a_name_is_not_there(self):
-        status, out, err = self.call(self.BUILD, "--outputs", "bin/*", "--artifact", "")
-        self.assertEqual((status, out, err), (3, "", "error: [Errno 2] No such file or directory: ''\n"))
-        self.assertFalse(os.path.exists(self.at("asked")))
+    def test_words_without_a_path_are_refused(self):
+        self.addCleanup(os.chdir, os.getcwd())
+        os.chdir(self.folder)
+        stores.write_texts(".", {"claim": []})
+        rows = {"LOG": ["", "asked"], "FOLDER": ["log", ""]}
+        rows.update((option, ["log", "asked", option, ""]) for option in ("--artifact", "--below", "--store"))
+        for name, words in rows.items():
+            with self.assertRaises(SystemExit) as ended, contextlib.redirect_stderr(io.StringIO()) as err:
+                bazel_plan.main(words)
+            self.assertEqual((ended.exception.code, err.getvalue()), (2, f"error: argument {name}: '' is no path; --help tells the words\n"))
+        self.assertTrue(os.path.exists("claim"))
 
     def test_names_are_utf8_in_every_locale(self):
         self.ship({"é": "bb\n", "è/é": "bb\n"})
@@ -343,7 +361,7 @@ class Artifacts(Case):
             self.refuse(f"{path!r} is no path below", self.BUILD, "--below", path)
 
 
-class Releases(Case):
+class Releases(Shipping):
     """One build, and each fault that a folder to be shipped may have: what it gets where patterns say what the release has, and
     where the folder does."""
 
@@ -355,22 +373,15 @@ class Releases(Case):
     MADE = {"a": "a", "b c": "b", "t/é": "1", "t/u/100%": "2"}
     NO, NOT_MADE, EMPTY = "no root cause root-differs", "no spawn of the log made it", "is empty, and the log has no empty directories"
 
-    def ship(self, contents):
-        for path, content in contents.items():
-            os.makedirs(os.path.dirname(self.at("rel", path)), exist_ok=True)
-            with open(self.at("rel", path), "w", encoding="utf-8") as out:
-                out.write(content)
-            os.chmod(self.at("rel", path), 0o755)
-
     def expect(self, told, *words):
-        words = ["--below", "out/rel", "--artifact", self.at("rel"), *words]
+        words = ["--below", "out/rel", "--artifact", self.at("shipped"), *words]
         if told in (self.NOT_MADE, self.EMPTY):
             return self.refuse(told, self.BUILD, *words)
         self.turn(self.BUILD, *words)
         self.judge(f"{told} ")
 
     def test_each_fault(self):
-        rel = self.at("rel")
+        rel = self.at("shipped")
         move = os.rename
         rows = [
             ("none", "yes", "yes", lambda: None),

@@ -9,7 +9,7 @@ import subprocess
 import sys
 import unittest
 
-from bazel_case import TOP, Case, contents, files, log, spawn
+from bazel_case import TOP, Case, contents, files, log, named, spawn
 
 import bazel_plan
 import plans
@@ -65,6 +65,55 @@ class Servers(Case):
         self.refuse("--prefix is for --server", text, "--prefix", "/cache")
 
 
+# Why a spawn with other fields is refused, and these.
+SPAWNS = [
+    ("it has no program to run", dict(commandArgs=[])),
+    ("it has no program to run", dict(commandArgs=["", "a"])),
+    ("its argument 'a\\x00' has a NUL", dict(commandArgs=["a\0"])),
+    ("its argument '\\ud800' has a NUL, or is no UTF-8", dict(commandArgs=["\ud800"])),
+    ("its variable 'A=' is without a name", dict(environmentVariables=[{"name": "A=", "value": "1"}])),
+    ('its variable "A" is set twice', dict(environmentVariables=[{"name": "A", "value": "1"}, {"name": "A", "value": "2"}])),
+    ('the property "p" twice', dict(platform={"properties": [{"name": "p", "value": "1"}] * 2})),
+    ("property 'p' has a NUL", dict(platform={"properties": [{"name": "p", "value": "\0"}]})),
+    ("it lists the output '/a'", dict(listedOutputs=["/a"])),
+    ("it lists the output 'a/../b'", dict(listedOutputs=["a/../b"])),
+    ('"a/b", which lies under "a"', dict(listedOutputs=["a", "a/b"])),
+    ('its input "a\\nb" has no digest', dict(inputs=[{"path": "a\nb"}])),
+    ('its input "a\\r\\x1b[2Ké\\u2028" has no digest', dict(inputs=[{"path": "a\r\x1b[2Ké\u2028"}])),
+    ("its exit code 2147483648 has more than 32 bits", dict(exitCode=2**31)),
+    ('its status is "TIMEOUT", and its exit code 0', dict(status="TIMEOUT")),
+    ('it has a field "extra"', dict(extra=1)),
+    ("an object with \"nice\", of which this program knows nothing", dict(platform={"nice": 1})),
+    ("an object with \"nice\"", dict(platform={"properties": [{"name": "p", "value": "1", "nice": 1}]})),
+    ("an object with \"nice\"", dict(environmentVariables=[{"name": "A", "value": "1", "nice": 1}])),
+    ("an object with \"nice\"", dict(inputs=[{"path": "a", "digest": {"nice": 1}}])),
+    ("not as Bazel writes a spawn", dict(commandArgs=7)),
+    ("not as Bazel writes a spawn", dict(timeoutMillis="soon")),
+    ("not as Bazel writes a spawn", dict(exitCode=0.5)),
+    ("not as Bazel writes a spawn", dict(cacheable="yes")),
+    ("it has the input 'a//b'", dict(inputs=files({"a//b": ""}))),
+    ("it has the input '" + "n/" * 64 + "n'", dict(inputs=files({"n/" * 64 + "n": ""}))),
+    ('it has the input "a" twice, and not the same', dict(inputs=files({"a": "1"}) + files({"a": "2"}))),
+    ('its input "a/b" lies under another one, or above it', dict(inputs=files({"a": "1", "a/b": "2"}))),
+    ('its input "a" has no digest', dict(inputs=[{"path": "a"}])),
+    ('its output "a" has no digest', dict(actualOutputs=[{"path": "a", "digest": {"hash": "A" * 64}}])),
+    ('its input "a" has no digest of SHA-256', dict(inputs=[{"path": "a", "digest": dict(named(""), hashFunctionName="BLAKE3")}])),
+    ('its input "a" has no digest of SHA-256', dict(inputs=[{"path": "a", "digest": dict(named(""), hashFunctionName="")}])),
+    ('its input "a" has a field "mode"', dict(inputs=[{"path": "a", "mode": 1}])),
+    ('its input "a" has a digest, and a target as a link', dict(inputs=[dict(files({"a": ""})[0], symlinkTargetPath="b")])),
+    # (what `echo é | iconv -f latin1 -t utf-8` prints, as Bazel 4.2.3 logs the output é)
+    ('its output "\u00c3\u00a9" has another name or target: each byte', dict(actualOutputs=files({"\u00c3\u00a9": ""}))),
+    ('its input "l" has another name or target: each byte', dict(inputs=[{"path": "l", "symlinkTargetPath": "\u00c3\u00a9"}])),
+    ("it ran another command: each byte of 'x\u00c3\u00a9' is logged", dict(commandArgs=["/bin/echo", "x\u00c3\u00a9"])),
+    ("it ran another command: each byte of '\u00c3\u00a9'", dict(listedOutputs=["\u00c3\u00a9"])),
+    ("it ran another command: each byte of '\u00c3\u00a9'", dict(environmentVariables=[{"name": "A", "value": "\u00c3\u00a9"}])),
+    ("it ran another command: each byte of '\u00c3\u00a9'", dict(platform={"properties": [{"name": "\u00c3\u00a9", "value": ""}]})),
+    ('its input "bazel-out/cfg/a" stands where Bazel maps paths to', dict(inputs=files({"bazel-out/cfg/a": ""}))),
+    ('its output "a" is a link whose target', dict(actualOutputs=[{"path": "a", "symlinkTargetPath": "x" * 4097}])),
+    ('it made "a/b", and line', dict(actualOutputs=files({"a": "1", "a/b": "2"}))),
+]
+
+
 class Refusals(Case):
     def test_the_line_and_the_spawn_are_named(self):
         text = log(spawn({}, ["a"])) + "\n"
@@ -72,47 +121,7 @@ class Refusals(Case):
         self.refuse(f'log": line {line}: spawn "Making b": it has a timeout of 5 ms', text + log(spawn({}, ["b"], timeoutMillis="5")))
 
     def test_spawns(self):
-        rows = [
-            ("it has no program to run", dict(commandArgs=[])),
-            ("it has no program to run", dict(commandArgs=["", "a"])),
-            ("its argument 'a\\x00' has a NUL", dict(commandArgs=["a\0"])),
-            ("its argument '\\ud800' has a NUL, or is no UTF-8", dict(commandArgs=["\ud800"])),
-            ("its variable 'A=' is without a name", dict(environmentVariables=[{"name": "A=", "value": "1"}])),
-            ('its variable "A" is set twice', dict(environmentVariables=[{"name": "A", "value": "1"}, {"name": "A", "value": "2"}])),
-            ('the property "p" twice', dict(platform={"properties": [{"name": "p", "value": "1"}] * 2})),
-            ("property 'p' has a NUL", dict(platform={"properties": [{"name": "p", "value": "\0"}]})),
-            ("it lists the output '/a'", dict(listedOutputs=["/a"])),
-            ("it lists the output 'a/../b'", dict(listedOutputs=["a/../b"])),
-            ('"a/b", which lies under "a"', dict(listedOutputs=["a", "a/b"])),
-            ('its input "a\\nb" has no digest', dict(inputs=[{"path": "a\nb"}])),
-            ('its input "a\\r\\x1b[2Ké\\u2028" has no digest', dict(inputs=[{"path": "a\r\x1b[2Ké\u2028"}])),
-            ("its exit code 2147483648 has more than 32 bits", dict(exitCode=2**31)),
-            ('its status is "TIMEOUT", and its exit code 0', dict(status="TIMEOUT")),
-            ('it has a field "extra"', dict(extra=1)),
-            ("an object with \"nice\", of which this program knows nothing", dict(platform={"nice": 1})),
-            ("an object with \"nice\"", dict(platform={"properties": [{"name": "p", "value": "1", "nice": 1}]})),
-            ("an object with \"nice\"", dict(environmentVariables=[{"name": "A", "value": "1", "nice": 1}])),
-            ("an object with \"nice\"", dict(inputs=[{"path": "a", "digest": {"nice": 1}}])),
-            ("not as Bazel writes a spawn", dict(commandArgs=7)),
-            ("not as Bazel writes a spawn", dict(timeoutMillis="soon")),
-            ("not as Bazel writes a spawn", dict(exitCode=0.5)),
-            ("not as Bazel writes a spawn", dict(cacheable="yes")),
-            ("it has the input 'a//b'", dict(inputs=files({"a//b": ""}))),
-            ("it has the input '" + "n/" * 64 + "n'", dict(inputs=files({"n/" * 64 + "n": ""}))),
-            ('it has the input "a" twice, and not the same', dict(inputs=files({"a": "1"}) + files({"a": "2"}))),
-            ('its input "a/b" lies under another one, or above it', dict(inputs=files({"a": "1", "a/b": "2"}))),
-            ('its input "a" has no digest', dict(inputs=[{"path": "a"}])),
-            ('its output "a" has no digest', dict(actualOutputs=[{"path": "a", "digest": {"hash": "A" * 64}}])),
-            ('its input "a" has a digest of BLAKE3', dict(inputs=[{"path": "a", "digest": {"hashFunctionName": "BLAKE3"}}])),
-            ('its input "a" has a field "mode"', dict(inputs=[{"path": "a", "mode": 1}])),
-            ('its input "a" has a digest, and a target as a link', dict(inputs=[dict(files({"a": ""})[0], symlinkTargetPath="b")])),
-            # (what `echo é | iconv -f latin1 -t utf-8` prints, as Bazel 4.2.3 logs the output é)
-            ('its output "\u00c3\u00a9" has another name: each byte', dict(actualOutputs=files({"\u00c3\u00a9": ""}))),
-            ('its input "bazel-out/cfg/a" stands where Bazel maps paths to', dict(inputs=files({"bazel-out/cfg/a": ""}))),
-            ('its output "a" is a link whose target', dict(actualOutputs=[{"path": "a", "symlinkTargetPath": "x" * 4097}])),
-            ('it made "a/b", and line', dict(actualOutputs=files({"a": "1", "a/b": "2"}))),
-        ]
-        for reason, other in rows:
+        for reason, other in SPAWNS:
             with self.subTest(reason):
                 self.refuse(reason, log(spawn({}, ["ok"]), dict(spawn({}, ["a"]), **other)))
 
@@ -188,10 +197,14 @@ class Refusals(Case):
 
     def test_an_output_that_cannot_be_written(self):
         self.call(log(spawn({}, ["a"])))
-        tool = os.path.join(TOP, "tools", "bazel_plan.py")
-        with open("/dev/full", "wb") as full:
-            done = subprocess.run([sys.executable, tool, self.at("log"), self.at("asked")], stdout=full, stderr=subprocess.PIPE, text=True)
-        self.assertEqual((done.returncode, done.stderr), (3, "error: [Errno 28] No space left on device\n"))
+        shutil.rmtree(self.at("asked"))
+        rows = {"exec >/dev/full": "[Errno 28] No space left on device", "exec >&-": "standard output is closed",
+                "ulimit -f 0": "[Errno 27] File too large"}
+        for before, reason in rows.items():
+            words = sys.executable, os.path.join(TOP, "tools", "bazel_plan.py"), self.at("log"), self.at("asked")
+            done = subprocess.run(["sh", "-c", f'{before}; exec "$@"', "sh", *words], stderr=subprocess.PIPE, text=True)
+            self.assertEqual((done.returncode, done.stderr), (3, f"error: {reason}\n"))
+        self.assertEqual([it for it in contents(self.at("asked")) if ".new" in it], [])
 
     def test_files_that_cannot_be_read(self):
         for words in (["none", "asked"], [__file__, "asked", "--artifact", "none"]):

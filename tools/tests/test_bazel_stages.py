@@ -316,13 +316,14 @@ class OtherPrograms(Case):
         stores.write_texts(self.at("asked"), {"stages": ["1", "2"]})
         return self.ask(script, *words)
 
-    def ask(self, script, *words):
+    def ask(self, script, *words, before="exec"):
+        """The same, where a shell has `before` before the command."""
         if script is not None:
             stores.write_texts(self.folder, {"program": ["#!/bin/sh", script]})
             os.chmod(self.at("program"), 0o755)
-        tool = os.path.join(TOP, "tools", "verify_stages.py")
+        command = f'{before} "$@"', "sh", sys.executable, os.path.join(TOP, "tools", "verify_stages.py"), self.at("asked")
         env = {**os.environ, "BUILDCACHE": self.at("program")}
-        done = subprocess.run([sys.executable, tool, self.at("asked"), *words], capture_output=True, text=True, env=env)
+        done = subprocess.run(["sh", "-c", *command, *words], capture_output=True, text=True, env=env)
         return done.stdout, done.stderr, done.returncode
 
     def test_a_note_stands_beside_the_no(self):
@@ -347,18 +348,32 @@ class OtherPrograms(Case):
                 self.assertEqual((out, err.count("\n"), err[:7], status), ("", 1, "error: ", 2))
 
     def test_words_of_servers(self):
-        told = [self.answer('echo "error: $*" >&2; exit 2', *words)[1] for words in (["--server", ""], ["--store", "s"], [])]
-        self.assertEqual([" ".join(it.split()[3:6]) for it in told],
-                         ["verify --server --sources", "verify --store s", f"verify --store {self.at('asked', 'store')}"])
+        words = (["--server", "h:1", "--prefix", "/p"], ["--server", "h:1"], ["--store", "s"], [])
+        told = [self.answer('echo "error: $*" >&2; exit 2', *it)[1].split(" --sources ")[0] for it in words]
+        self.assertEqual([it.removeprefix("error: stage 1: verify --") for it in told],
+                         ["server h:1 --prefix /p", "server h:1", "store s", f"store {self.at('asked', 'store')}"])
+        rows = {"--store s --store s": "--store is given twice", "--prefix /p": "--prefix is for --server", "--server x": "'x' is no server's"}
+        for words, reason in rows.items():
+            out, err, status = self.answer("exit 0", *words.split())
+            self.assertEqual((out, status, err.count("\n"), err[:7]), ("", 2, 1, "error: "))
+            self.assertIn(reason, err)
+        self.assertIn("'' is no path", self.answer("exit 0", "--store", "")[1])
 
     def test_an_output_that_cannot_be_written(self):
         for script in (f"echo yes {self.DIGEST} steps 1", "echo no root cause blob-missing x; exit 1"):
             self.answer(script)
-            tool = os.path.join(TOP, "tools", "verify_stages.py")
-            env = {**os.environ, "BUILDCACHE": self.at("program")}
-            with open("/dev/full", "wb") as full:
-                done = subprocess.run([sys.executable, tool, self.at("asked")], stdout=full, stderr=subprocess.PIPE, text=True, env=env)
-            self.assertEqual((done.returncode, done.stderr), (3, "error: [Errno 28] No space left on device\n"))
+            for before, told in ("exec >/dev/full;", "[Errno 28] No space left on device"), ("exec >&-;", "standard output is closed"):
+                self.assertEqual(self.ask(script, before=before), ("", f"error: {told}\n", 3))
+
+    def test_an_error_that_cannot_be_written_has_its_status(self):
+        for before in ("exec 2>/dev/full;", "exec 2>&-;"):
+            for script, words, status in ("exit 2", [], 2), ("exit 3", [], 3), ("exit 0", ["--none"], 2):
+                self.answer(script)
+                self.assertEqual(self.ask(script, *words, before=before), ("", "", status))
+
+    def test_an_interrupt_is_no_verdict(self):
+        out, err, status = self.answer("kill -INT $PPID; sleep 1; exit 1")
+        self.assertEqual((out, err, status), ("", "error: KeyboardInterrupt\n", 3))
 
     def test_a_program_that_is_not_there(self):
         out, err, status = self.answer(None)
