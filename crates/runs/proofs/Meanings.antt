@@ -157,7 +157,7 @@ stops_here steps n fs cs s old mid new lt is so g first step frame = record {
 
 meaning_still : {B C : Blobs} (s : StepValue) (a : Asked) → Grows B C → MeaningLooksAt B s a → MeaningLooksAt C s a
 meaning_still s a g (inl h) = inl h
-meaning_still {B} {C} s a g (inr (f, told, rest)) = inr (f, frame_still B C s.frame f g told, rest)
+meaning_still {B} {C} s a g (inr (f, told, cached, h)) = inr (f, frame_still B C s.frame f g told, cached, h)
 
 opening_still : {B C : Blobs} (steps : List StepValue) (a : Asked) → Grows B C → OpeningLooksAt B steps a → OpeningLooksAt C steps a
 opening_still {B} {C} steps a g (i, s, at, before, h) =
