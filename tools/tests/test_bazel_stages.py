@@ -7,6 +7,7 @@ import io
 import os
 import re
 import shutil
+import signal
 import subprocess
 import sys
 import unittest
@@ -323,7 +324,9 @@ class OtherPrograms(Case):
             os.chmod(self.at("program"), 0o755)
         command = f'{before} "$@"', "sh", sys.executable, os.path.join(TOP, "tools", "verify_stages.py"), self.at("asked")
         env = {**os.environ, "BUILDCACHE": self.at("program")}
-        done = subprocess.run(["sh", "-c", *command, *words], capture_output=True, text=True, env=env)
+        # (a shell in the background ignores interrupts, and so would what it starts)
+        done = subprocess.run(["sh", "-c", *command, *words], capture_output=True, text=True, env=env,
+                              preexec_fn=lambda: signal.signal(signal.SIGINT, signal.SIG_DFL))
         return done.stdout, done.stderr, done.returncode
 
     def test_a_note_stands_beside_the_no(self):
