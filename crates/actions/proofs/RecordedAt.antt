@@ -1,6 +1,7 @@
 -- The nodes of a recorded outcome are those that the result records at its paths.
 use Rattle.std.proofs.Common.{◌≡◌, ℕ, zero, suc, List, [], ◌∷◌, refl, sym, ap, subst, ◌∙◌, inl, inr, arith}
 use Rattle.std.specs.Prelude.{◌⊎◌, ◌↔◌, Contains}
+use Rattle.std.specs.List.{AllByRecursion}
 use Rattle.blob_digest.specs.Digest.{digest_of}
 use Rattle.messages.specs.declared.node.Node.TheVariants as nodes
 use Rattle.messages.specs.Directory.{directory_bytes}
@@ -13,7 +14,7 @@ use Rattle.action_messages.specs.OutputDirectory.{OutputDirectoryValue}
 use Rattle.action_messages.specs.OutputSymlink.{OutputSymlinkValue}
 use Rattle.action_messages.specs.ActionResult.{ActionResultValue}
 use Rattle.actions.specs.Outcome.{OutputValue, OutcomeValue, output_node, tree_node, outputs_form}
-use Rattle.action_messages.specs.Outputs.{RecordedValue, file, directory, link, recorded_path, files_among, directories_among, links_among}
+use Rattle.action_messages.specs.Outputs.{RecordedValue, file, directory, link, recorded_path, files_among, directories_among, links_among, AreOutputs}
 use Rattle.actions.specs.Recorded.{StandsFor, StandForAll, IsRecorded}
 use Rattle.actions.proofs.TreeLookups.{behind}
 use Rattle.actions.proofs.Once.{tree_once}
@@ -95,3 +96,23 @@ recorded_at B r o p x h = (
   (λ c. rw (h.ordered.files, h.ordered.symlinks, h.ordered.directories) at (records B h.recorded o.outputs p x h.outputs c)),
   (λ a. stands B h.recorded o.outputs p x h.outputs (let among : Among B h.recorded p x = rw (h.ordered.files, h.ordered.symlinks, h.ordered.directories) a in among)),
 )
+
+-- an output is among those of its kind, and has a node, where the Trees of the directories are told
+pub is_among : (B : Blobs) (xs : List RecordedValue) (y : RecordedValue) → Contains xs y → AllByRecursion (λ (d : OutputDirectoryValue). (t : TreeValue) × IsTold IsTree tree_bytes B d.tree t) (directories_among xs)
+    → (x : NodeValue) × Among B xs (recorded_path y) x
+is_among B [] y (k, lt, is) told = absurd (omega (arith, lt))
+is_among B (file f ∷ xs) y (zero, lt, is) told = (nodes.File f.digest f.executable, inl (f, first f (files_among xs), ap recorded_path is, refl))
+is_among B (link l ∷ xs) y (zero, lt, is) told = (nodes.Link l.target, inr (inl (l, first l (links_among xs), ap recorded_path is, refl)))
+is_among B (directory d ∷ xs) y (zero, lt, is) told = let t = told.0 in (tree_node t.0, inr (inr (d, first d (directories_among xs), ap recorded_path is, t.0, t.1, refl)))
+is_among B (file f ∷ xs) y (suc k, lt, is) told = let rest = is_among B xs y (k, omega (arith, lt), is) told in (rest.0, later B (file f) xs (recorded_path y) rest.0 rest.1)
+is_among B (link l ∷ xs) y (suc k, lt, is) told = let rest = is_among B xs y (k, omega (arith, lt), is) told in (rest.0, later B (link l) xs (recorded_path y) rest.0 rest.1)
+is_among B (directory d ∷ xs) y (suc k, lt, is) told = let rest = is_among B xs y (k, omega (arith, lt), is) told.1 in (rest.0, later B (directory d) xs (recorded_path y) rest.0 rest.1)
+
+-- so in a result
+pub has_node : (B : Blobs) (r : ActionResultValue) (xs : List RecordedValue) (y : RecordedValue) → AreOutputs r xs → Contains xs y → AllByRecursion (λ (d : OutputDirectoryValue). (t : TreeValue) × IsTold IsTree tree_bytes B d.tree t) r.directories
+    → (x : NodeValue) × StandsAmong B r.files r.symlinks r.directories (recorded_path y) x
+has_node B r xs y are inside told =
+    by (is_among B xs y inside (subst (AllByRecursion (λ (d : OutputDirectoryValue). (t : TreeValue) × IsTold IsTree tree_bytes B d.tree t)) (sym are.directories) told))
+  where
+    by : (x : NodeValue) × Among B xs (recorded_path y) x → (x : NodeValue) × StandsAmong B r.files r.symlinks r.directories (recorded_path y) x
+    by (x, among) = (x, rw (are.files, are.symlinks, are.directories) at among)

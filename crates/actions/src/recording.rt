@@ -125,7 +125,7 @@ pub fn recorded<A: Allocator + Copy, S: BlobSource<A>>(
         (IsFirstTreeFault (S.tells source.new).blobs made.now.directories)) }
     ensures called { Calls (Asks (length made.now.directories))
         (S.tells source.old) (S.tells source.new) (IsErrOf result TreeError.Fetch) }
-    // Nothing is asked for but the Trees of the result's directories.
+    // No blob is asked for but the Trees of the result's directories.
     ensures only { AsksNoOther (TreesLookAt made.now.directories)
         (S.tells source.old).blobs (S.tells source.new).blobs }
     ensures few { StopsAtFault made.now.directories (S.tells source.old) (S.tells source.new) }
