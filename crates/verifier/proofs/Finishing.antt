@@ -6,17 +6,16 @@ use Rattle.std.specs.Map.{lookup, remove_entry}
 use Rattle.std.proofs.lemmas.Bool.Decides.{Decides-eqb}
 use Rattle.std.proofs.lemmas.List.{length-append}
 use Rattle.std.proofs.lemmas.Option.{slice_get_within, slice_get_cases}
-use Rattle.blob_digest.specs.Digest.{DigestValue, NoClash}
+use Rattle.blob_digest.specs.Digest.{DigestValue}
 use Rattle.action_messages.proofs.Apart.{weaker}
-use Rattle.plan.specs.Plan.{IsPlan, AreSteps}
+use Rattle.plan.specs.Plan.{AreSteps}
 use Rattle.plan.specs.Values.{OriginValue, source, output, LineValue, StepValue, PlanValue, IsOrigin, IsLine}
-use Rattle.tree.specs.Tree.{Tree, Leaf, IsOrdered}
-use Rattle.tree.specs.Form.{form, root}
+use Rattle.tree.specs.Tree.{Tree, Leaf}
 use Rattle.blob_source.specs.Source.{Blobs}
-use Rattle.verifier.specs.Build.{Meaning, ActionMeaning, Outcome, MeaningFits, Event, start, finish, State, job_of, action_of, started, finished, happens, IsTable, Obeys, IsRun, HasFinishedAll}
-use Rattle.verifier.specs.Headline.{IsBlobOfEvent, IsBlobOfEvents, IsBlobAhead, HasFinished}
-use Rattle.verifier.specs.Recorded.{Agrees}
-use Rattle.verifier.proofs.FreshRuns.{one_answer, FirstAsRecorded, Within, Keeps, keeps_event, may_start, nothing_is_stuck}
+use Rattle.verifier.specs.Build.{Meaning, ActionMeaning, Outcome, Event, start, finish, State, job_of, action_of, started, finished, happens, Obeys, IsRun, HasFinishedAll}
+use Rattle.verifier.specs.Headline.{PlanRun, IsBlobOfEvent, IsBlobOfEvents, IsBlobAhead, HasFinished}
+use Rattle.verifier.proofs.FreshRuns.{one_answer, IsGiven, Keeps}
+use Rattle.verifier.proofs.KeptRuns.{keeps_event, runs_keep, may_start, nothing_is_stuck}
 
 -- ---- a number that no job has
 
@@ -87,65 +86,61 @@ module _ (X : List (ActionMeaning × Outcome)) (plan : PlanValue) (meaning : Mea
 
 -- ---- all steps
 
-module _ (S : List ℕ → Type 0) (apart : NoClash S) (B C : Blobs) (t : Tree Leaf) (chosen : List (ActionMeaning × Outcome)) (within : Within S B t chosen)
-    (src : DigestValue) (plan : PlanValue) (ds : List DigestValue) (meaning : Meaning) (X : List (ActionMeaning × Outcome))
-    (ordered : IsOrdered t) (sources : root (form t) ≡ src) (fits : MeaningFits plan meaning) (table : IsTable X) (agrees : Agrees B C X chosen ds) (rules : IsPlan plan) (h : FirstAsRecorded B C src plan ds)
-    (all_first : (i : ℕ) (s : StepValue) → slice_get plan.steps i ≡ Some s → slice_get h.first i ≡ Some s) where
-  abbrev IsKept : State → Type 0
-  IsKept = Keeps S apart B C t chosen within src plan ds meaning X ordered sources fits table agrees rules h
+module _ {S : List ℕ → Type 0} {B C : Blobs} {src : DigestValue} {plan : PlanValue} {ds : List DigestValue} {t : Tree Leaf} {run : PlanRun} (given : IsGiven S B C src plan ds t run)
+    (all_first : (i : ℕ) (s : StepValue) → slice_get plan.steps i ≡ Some s → slice_get given.recorded.first i ≡ Some s) (ahead : (b : List ℕ) → IsBlobAhead run.table plan run.meaning t run.now b → S b) where
+  abbrev IsRunTo : List Event → State → Type 0
+  IsRunTo = IsRun run.table plan run.meaning t run.now
 
-  module _ (now : State) (begun : IsKept now) (ahead : (b : List ℕ) → IsBlobAhead X plan meaning t now b → S b) where
-    -- what can be reached with the first steps finished
-    record Reached (n : ℕ) : Type 0 where
-      events : List Event
-      end : State
-      happened : IsRun X plan meaning t now events end
-      kept : IsKept end
-      first : AreFirstDone n end.done
+  -- what can be reached with the first steps finished
+  record Reached (n : ℕ) : Type 0 where
+    events : List Event
+    end : State
+    happened : IsRunTo events end
+    kept : Keeps given end
+    first : AreFirstDone n end.done
 
-    -- one event more is of the set
-    event_ahead : (es : List Event) (mid : State) (e : Event) (end : State) → IsRun X plan meaning t now es mid → Obeys X mid e → happens plan meaning t mid e ≡ Some end
-        → (b : List ℕ) → IsBlobOfEvent plan meaning t mid e b → S b
-    event_ahead es mid e end run obeys next b k = ahead b (es ++ e ∷ [], end, run_more X plan meaning t now es mid e end run obeys next, blobs_more X plan meaning t now es mid e b run k)
+  -- one event more is of the set
+  event_ahead : (es : List Event) (mid : State) (e : Event) (end : State) → IsRunTo es mid → Obeys run.table mid e → happens plan run.meaning t mid e ≡ Some end
+      → (b : List ℕ) → IsBlobOfEvent plan run.meaning t mid e b → S b
+  event_ahead es mid e end led obeys next b k =
+      ahead b (es ++ e ∷ [], end, run_more run.table plan run.meaning t run.now es mid e end led obeys next, blobs_more run.table plan run.meaning t run.now es mid e b led k)
 
-    one_step : (n : ℕ) (step : StepValue) → slice_get plan.steps n ≡ Some step → Reached n → Reached (suc n)
-    one_step n step at r =
-        let s = r.end in
-        let above = above_all s.jobs in
-        let w = above.0 in
-        let free : job_of w s ≡ None = none_above w s.jobs above.1 in
-        let none : length {A = StepValue} [] + n ≡ n = omega arith in
-        let lines = subst (λ n. AllByRecursion (IsLine n) step.lines) none (step_lines [] plan.steps rules.steps n step at) in
-        let a = may_start S apart B C t chosen within src plan ds meaning X ordered sources fits table agrees rules h all_first s r.kept n step at (lines_done n s r.first step.lines lines) in
-        let mid : State = record s { jobs = (w, (n, a.0)) ∷ s.jobs } in
-        let starts : happens plan meaning t s (start n w) ≡ Some mid = ap (λ q. started s n w q (action_of plan meaning t s n)) free ∙ ap (started s n w None) a.1 in
-        let started_kept : IsKept mid = keeps_event S apart B C t chosen within src plan ds meaning X ordered sources fits table agrees rules h s mid (start n w) r.kept tt
-        (event_ahead r.events s (start n w) mid r.happened tt starts) starts in
-        let run = run_more X plan meaning t now r.events s (start n w) mid r.happened tt starts in
-        let busy : job_of w mid ≡ Some (n, a.0) = own_entry w (n, a.0) s.jobs in
-        let comes = (nothing_is_stuck S apart B C t chosen within src plan ds meaning X ordered sources fits table agrees rules h all_first mid started_kept).finishes w (n, a.0) busy in
-        let o = comes.0 in
-        let obeys : Obeys X mid (finish w o) = λ job is. let same : (n, a.0) ≡ job = one_answer (job_of w mid) (n, a.0) job busy is in subst (λ (j : ℕ × ActionMeaning). Contains X (j.1, o)) same comes.1 in
-        let end : State = record { done = (n, o) ∷ mid.done; jobs = remove_entry (λ k. k == w) mid.jobs } in
-        let finishes : happens plan meaning t mid (finish w o) ≡ Some end = ap (finished mid w o) busy in
-        record {
-          events = (r.events ++ start n w ∷ []) ++ finish w o ∷ [];
-          end = end;
-          happened = run_more X plan meaning t now (r.events ++ start n w ∷ []) mid (finish w o) end run obeys finishes;
-          kept = keeps_event S apart B C t chosen within src plan ds meaning X ordered sources fits table agrees rules h mid end (finish w o) started_kept obeys
-              (event_ahead (r.events ++ start n w ∷ []) mid (finish w o) end run obeys finishes) finishes;
-          first = one_more_done n o s.done r.first;
-        }
+  one_step : (n : ℕ) (step : StepValue) → slice_get plan.steps n ≡ Some step → Reached n → Reached (suc n)
+  one_step n step at r =
+      let s = r.end in
+      let above = above_all s.jobs in
+      let w = above.0 in
+      let free : job_of w s ≡ None = none_above w s.jobs above.1 in
+      let none : length {A = StepValue} [] + n ≡ n = omega arith in
+      let lines = subst (λ n. AllByRecursion (IsLine n) step.lines) none (step_lines [] plan.steps given.rules.steps n step at) in
+      let a = may_start given all_first s r.kept n step at (lines_done n s r.first step.lines lines) in
+      let mid : State = record s { jobs = (w, (n, a.0)) ∷ s.jobs } in
+      let starts : happens plan run.meaning t s (start n w) ≡ Some mid = ap (λ q. started s n w q (action_of plan run.meaning t s n)) free ∙ ap (started s n w None) a.1 in
+      let started_kept : Keeps given mid = keeps_event given s mid (start n w) r.kept tt (event_ahead r.events s (start n w) mid r.happened tt starts) starts in
+      let led = run_more run.table plan run.meaning t run.now r.events s (start n w) mid r.happened tt starts in
+      let busy : job_of w mid ≡ Some (n, a.0) = own_entry w (n, a.0) s.jobs in
+      let comes = (nothing_is_stuck given all_first mid started_kept).finishes w (n, a.0) busy in
+      let o = comes.0 in
+      let obeys : Obeys run.table mid (finish w o) = λ job is. let same : (n, a.0) ≡ job = one_answer (job_of w mid) (n, a.0) job busy is in subst (λ (j : ℕ × ActionMeaning). Contains run.table (j.1, o)) same comes.1 in
+      let end : State = record { done = (n, o) ∷ mid.done; jobs = remove_entry (λ k. k == w) mid.jobs } in
+      let finishes : happens plan run.meaning t mid (finish w o) ≡ Some end = ap (finished mid w o) busy in
+      record {
+        events = (r.events ++ start n w ∷ []) ++ finish w o ∷ [];
+        end = end;
+        happened = run_more run.table plan run.meaning t run.now (r.events ++ start n w ∷ []) mid (finish w o) end led obeys finishes;
+        kept = keeps_event given mid end (finish w o) started_kept obeys (event_ahead (r.events ++ start n w ∷ []) mid (finish w o) end led obeys finishes) finishes;
+        first = one_more_done n o s.done r.first;
+      }
 
-    all_steps : (n : ℕ) → n ≤ length plan.steps → Reached n
-    all_steps zero le = record { events = []; end = now; happened = refl; kept = begun; first = λ j lt. absurd (omega (arith, lt)) }
-    all_steps (suc n) le = by (slice_get_cases plan.steps n).1 (all_steps n (omega (arith, le)))
-      where
-        by : ((x : StepValue) × (n < length plan.steps) × (slice_get plan.steps n ≡ Some x) × (get_or plan.steps n x ≡ x)) ⊎ ((length plan.steps ≤ n) × (slice_get plan.steps n ≡ None)) → Reached n → Reached (suc n)
-        by (inl (step, lt, at, own)) r = one_step n step at r
-        by (inr (past, none)) r = absurd (omega (arith, le, past))
+  all_steps : (n : ℕ) → n ≤ length plan.steps → Reached n
+  all_steps zero le = record { events = []; end = run.now; happened = refl; kept = runs_keep given; first = λ j lt. absurd (omega (arith, lt)) }
+  all_steps (suc n) le = by (slice_get_cases plan.steps n).1 (all_steps n (omega (arith, le)))
+    where
+      by : ((x : StepValue) × (n < length plan.steps) × (slice_get plan.steps n ≡ Some x) × (get_or plan.steps n x ≡ x)) ⊎ ((length plan.steps ≤ n) × (slice_get plan.steps n ≡ None)) → Reached n → Reached (suc n)
+      by (inl (step, lt, at, own)) r = one_step n step at r
+      by (inr (past, none)) r = absurd (omega (arith, le, past))
 
-    pub can_be_finished : (more : List Event) × (end : State) × IsRun X plan meaning t now more end × HasFinishedAll plan end
-    can_be_finished =
-        let r = all_steps (length plan.steps) (omega arith) in
-        (r.events, r.end, r.happened, λ j step at. r.first j (slice_get_within plan.steps j step at))
+  pub can_be_finished : (more : List Event) × (end : State) × IsRunTo more end × HasFinishedAll plan end
+  can_be_finished =
+      let r = all_steps (length plan.steps) (omega arith) in
+      (r.events, r.end, r.happened, λ j step at. r.first j (slice_get_within plan.steps j step at))

@@ -1,7 +1,7 @@
 -- Every complete run of a plan that is as recorded ends in the claim, no run of it is stuck, and a yes says so.
 use Rattle.std.proofs.Common.{List, inl, inr, sym, subst}
 use Rattle.std.specs.Prelude.{◌≡◌, ◌⊎◌, ℕ, Some, Result, Ok, Err, IfOk, IsSomeAnd}
-use Rattle.blob_digest.specs.Digest.{DigestValue}
+use Rattle.blob_digest.specs.Digest.{DigestValue, NoClash}
 use Rattle.plan.specs.Plan.{IsPlan}
 use Rattle.plan.specs.Values.{PlanValue}
 use Rattle.tree.specs.Tree.{Tree, Leaf, IsOrdered}
@@ -12,58 +12,45 @@ use Rattle.verifier.specs.AsRecorded.{IsPlanAsRecorded}
 use Rattle.verifier.specs.Build.{HasFinishedAll, merge_of}
 use Rattle.verifier.specs.Headline.{IsConcerned, IsBlobAhead, PlanRun, RunsFrom, EveryRunEndsIn, EveryRunIsAsChosen, NoRunIsStuck}
 use Rattle.verifier.specs.Verdict.{IsVerdict, IsYes}
-use Rattle.verifier.proofs.FreshRuns.{FirstAsRecorded, Within, runs_keep, end_tree, nothing_is_stuck, runs_as_chosen}
+use Rattle.verifier.proofs.FreshRuns.{FirstAsRecorded, IsGiven}
+use Rattle.verifier.proofs.KeptRuns.{runs_keep, end_tree, nothing_is_stuck, runs_as_chosen}
 use Rattle.verifier.proofs.Finishing.{can_be_finished}
 use Rattle.verifier.proofs.Passing.{yes_recorded}
 
-module _ (B C : Blobs) (sources : DigestValue) (plan : PlanValue) (ds : List DigestValue) where
-  -- what is concerned in a run stands among the blobs concerned
-  pub concerned : (t : Tree Leaf) (r : PlanRun) → Within (IsConcerned B plan r.meaning t r.chosen r.events) B t r.chosen
-  concerned t r = record {
-    values = λ b q. inl (inl q);
-    directories = λ b q. inl (inr q);
-    own = λ b q. inr (inl (inl q));
-    picked = λ b q. inr (inr (inl q));
+module _ {B C : Blobs} {sources : DigestValue} {plan : PlanValue} {ds : List DigestValue} (valid : IsPlan plan) (first : FirstAsRecorded B C sources plan ds) (t : Tree Leaf) (r : PlanRun)
+    (ordered : IsOrdered t) (is : root (form t) ≡ sources) (runs : RunsFrom B C plan ds t r) where
+  -- what is given of a run, by the blobs concerned, and by others too
+  abbrev pub as_given : IsGiven (IsConcerned B plan r.meaning t r.chosen r.events) B C sources plan ds t r
+  as_given = record { apart = runs.apart; within = λ b q. q; ordered = ordered; sources = is; runs = runs; rules = valid; recorded = first }
+
+  abbrev AreBlobs : List ℕ → Type 0
+  AreBlobs b = IsConcerned B plan r.meaning t r.chosen r.events b ⊎ IsBlobAhead r.table plan r.meaning t r.now b
+
+  abbrev given_ahead : NoClash AreBlobs → IsGiven AreBlobs B C sources plan ds t r
+  given_ahead apart = record { apart = apart; within = λ b q. inl q; ordered = ordered; sources = is; runs = runs; rules = valid; recorded = first }
+
+module _ (B C : Blobs) (sources : DigestValue) (plan : PlanValue) (ds : List DigestValue) (claim : DigestValue) (valid : IsPlan plan) (h : IsPlanAsRecorded B C sources plan ds claim) where
+  abbrev every : FirstAsRecorded B C sources plan ds
+  every = record { first = plan.steps; outcomes = h.outcomes; planned = λ i s at. at; steps = h.steps }
+
+  -- the tree is in order, so that it may be the sources of another plan
+  pub recorded_tree : (t : Tree Leaf) (r : PlanRun) → IsOrdered t → root (form t) ≡ sources → RunsFrom B C plan ds t r → HasFinishedAll plan r.now
+      → (g : Tree Leaf) × (merge_of t r.now plan.root_lines ≡ Some g) × (root (form g) ≡ claim) × IsOrdered g
+  recorded_tree t r ordered is k = end_tree (as_given valid every t r ordered is k) (λ i s at. at) claim h.root
+
+  pub recorded_ends : EveryRunEndsIn B C sources plan ds claim
+  recorded_ends = record {
+    of_run = λ t r ordered is k all. let g = recorded_tree t r ordered is k all in subst (λ o. IsSomeAnd o (λ g. root (form g) ≡ claim)) (sym g.1) g.2;
   }
 
-  module _ (claim : DigestValue) (valid : IsPlan plan) (h : IsPlanAsRecorded B C sources plan ds claim) where
-    abbrev every : FirstAsRecorded B C sources plan ds
-    every = record { first = plan.steps; outcomes = h.outcomes; planned = λ i s at. at; steps = h.steps }
+  pub recorded_unstuck : NoRunIsStuck B C sources plan ds
+  recorded_unstuck = record {
+    of_run = λ t r ordered is k. let given = as_given valid every t r ordered is k in nothing_is_stuck given (λ i s at. at) r.now (runs_keep given);
+    can_end = λ t r ordered is k apart. can_be_finished (given_ahead valid every t r ordered is k apart) (λ i s at. at) (λ b q. inr q);
+  }
 
-    -- the tree is in order, so that it may be the sources of another plan
-    pub recorded_tree : (t : Tree Leaf) (r : PlanRun) → IsOrdered t → root (form t) ≡ sources → RunsFrom B C plan ds t r → HasFinishedAll plan r.now
-        → (g : Tree Leaf) × (merge_of t r.now plan.root_lines ≡ Some g) × (root (form g) ≡ claim) × IsOrdered g
-    recorded_tree t r ordered is k all =
-        let S : List ℕ → Type 0 = IsConcerned B plan r.meaning t r.chosen r.events in
-        let keeps = runs_keep S k.apart B C t r.chosen (concerned t r) sources plan ds r.meaning r.table ordered is k.fits k.table k.agrees valid every r.now r.events (λ b q. inr (inr (inr q))) k.happened in
-        end_tree S k.apart B C t r.chosen (concerned t r) sources plan ds r.meaning r.table ordered is k.fits k.table k.agrees valid every (λ i s at. at) claim h.root r.now keeps all
-
-    pub recorded_ends : EveryRunEndsIn B C sources plan ds claim
-    recorded_ends = record {
-      of_run = λ t r ordered is k all. let g = recorded_tree t r ordered is k all in subst (λ o. IsSomeAnd o (λ g. root (form g) ≡ claim)) (sym g.1) g.2;
-    }
-
-    pub recorded_unstuck : NoRunIsStuck B C sources plan ds
-    recorded_unstuck = record {
-      of_run = λ t r ordered is k.
-          let S : List ℕ → Type 0 = IsConcerned B plan r.meaning t r.chosen r.events in
-          let keeps = runs_keep S k.apart B C t r.chosen (concerned t r) sources plan ds r.meaning r.table ordered is k.fits k.table k.agrees valid every r.now r.events (λ b q. inr (inr (inr q))) k.happened in
-          nothing_is_stuck S k.apart B C t r.chosen (concerned t r) sources plan ds r.meaning r.table ordered is k.fits k.table k.agrees valid every (λ i s at. at) r.now keeps;
-      can_end = λ t r ordered is k apart.
-          let S : List ℕ → Type 0 = λ b. IsConcerned B plan r.meaning t r.chosen r.events b ⊎ IsBlobAhead r.table plan r.meaning t r.now b in
-          let c = concerned t r in
-          let within : Within S B t r.chosen = record { values = λ b q. inl (c.values b q); directories = λ b q. inl (c.directories b q); own = λ b q. inl (c.own b q); picked = λ b q. inl (c.picked b q) } in
-          let keeps = runs_keep S apart B C t r.chosen within sources plan ds r.meaning r.table ordered is k.fits k.table k.agrees valid every r.now r.events (λ b q. inl (inr (inr (inr q)))) k.happened in
-          can_be_finished S apart B C t r.chosen within sources plan ds r.meaning r.table ordered is k.fits k.table k.agrees valid every (λ i s at. at) r.now keeps (λ b q. inr q);
-    }
-
-    pub recorded_as_chosen : EveryRunIsAsChosen B C sources plan ds
-    recorded_as_chosen = record {
-      of_run = λ t r ordered is k.
-          let S : List ℕ → Type 0 = IsConcerned B plan r.meaning t r.chosen r.events in
-          let keeps = runs_keep S k.apart B C t r.chosen (concerned t r) sources plan ds r.meaning r.table ordered is k.fits k.table k.agrees valid every r.now r.events (λ b q. inr (inr (inr q))) k.happened in
-          runs_as_chosen S k.apart B C t r.chosen (concerned t r) sources plan ds r.meaning r.table ordered is k.fits k.table k.agrees valid every (λ i s at. at) r.now keeps;
-    }
+  pub recorded_as_chosen : EveryRunIsAsChosen B C sources plan ds
+  recorded_as_chosen = record { of_run = λ t r ordered is k. runs_as_chosen (as_given valid every t r ordered is k) (λ i s at. at) }
 
 -- so a yes says both
 module _ {A E : Type 0} (t : Telling) (sources : DigestValue) (plan : PlanValue) (ds : List DigestValue) (claim : DigestValue) (valid : IsPlan plan) where

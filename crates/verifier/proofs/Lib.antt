@@ -7,6 +7,7 @@ pub mod TwoStepsBlobs
 pub mod TwoStepsEvents
 pub mod TwoStages
 pub mod TwoNoes
+pub mod TwoEnds
 pub mod SourceStep
 pub mod Lines
 pub mod Targets
@@ -20,6 +21,8 @@ pub mod RecordedSteps
 pub mod HeldOrigins
 pub mod LinesTold
 pub mod FreshRuns
+pub mod KeptRuns
+pub mod StepStarts
 pub mod Finishing
 pub mod Explained
 pub mod Checking
@@ -31,5 +34,6 @@ pub mod StepLaws
 pub mod CheckingSteps
 pub mod NoAtStep
 pub mod Unbuilt
+pub mod BadEnds
 pub mod Totals
 pub mod VerdictTotal

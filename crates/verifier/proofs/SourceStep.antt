@@ -155,7 +155,7 @@ agrees = record { each = refl; pairs = by }
     by zero digest pair d p =
         let digests : two.use_action_digest ≡ digest = cc in
         let pairs : two.uses ≡ pair = cc in
-        subst (λ d. IsPicked d pair) digests (subst (IsPicked two.use_action_digest) pairs (uses_alone, use_digest, use_recorded_as two.reading_blobs))
+        subst (λ d. IsPicked d pair) digests (subst (IsPicked two.use_action_digest) pairs (uses_alone, use_digest, use_recorded_as two.reading_blobs two.results two.use_action_digest use_result_held))
     by (suc i) digest pair d p = absurd cc
 
 -- ---- the run

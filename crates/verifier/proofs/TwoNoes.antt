@@ -10,19 +10,22 @@ use Rattle.action_messages.specs.Command.{CommandValue}
 use Rattle.action_messages.specs.Frame.{FrameValue}
 use Rattle.actions.specs.OutcomeLookup.{StandsOver}
 use Rattle.plan.specs.Plan.{IsPlan}
-use Rattle.plan.specs.Values.{StepValue, PlanValue}
+use Rattle.plan.specs.Values.{LineValue, StepValue, PlanValue}
+use Rattle.plan.specs.declared.version.Version.{Version}
+use Rattle.plan.specs.declared.version.Version.TheVariants.{One, Two}
 use Rattle.tree.specs.Lookup.{nothing}
 use Rattle.tree.specs.Merge.{merge}
 use Rattle.tree.specs.Merging.{MergeLines, conflict, merged}
 use Rattle.tree.specs.Stage.{◌and_then◌}
 use Rattle.tree.specs.Tree.{empty}
+use Rattle.verifier.specs.declared.verdict.Cause.{Cause}
 use Rattle.verifier.specs.declared.verdict.Cause.TheVariants.{FrameDiffers, OriginMissing, InputConflict}
 use Rattle.verifier.specs.declared.verdict.Place.TheVariants.{Root, Step}
 use Rattle.verifier.specs.declared.verdict.Verdict.TheVariants.{No}
 use Rattle.verifier.specs.Build.{Meaning, ActionMeaning, action_digest, Outcome, StepFits, MeaningFits, Event, opening, action_of, IsRun}
 use Rattle.verifier.specs.Headline.{IsBlobOfMeaning, IsBlobOfAction, IsBlobOfOutcome, IsBlobOfEvents, IsConcerned, RunsFrom}
 use Rattle.verifier.specs.Recorded.{Agrees, IsRecordedAs}
-use Rattle.verifier.specs.StepChecks.{together}
+use Rattle.verifier.specs.StepChecks.{framed, together, input_check, result_check}
 use Rattle.verifier.specs.Together.{no_origin, in_conflict}
 use Rattle.verifier.specs.TwoSteps as two
 use Rattle.verifier.specs.Verdict.{IsVerdict}
@@ -33,6 +36,15 @@ use Rattle.verifier.proofs.TwoSteps.{plan_valid, fits, table_valid, data_name, o
 use Rattle.verifier.proofs.TwoStepsRecorded.{gen_outcome, use_outcome, made_file, stands_made, gen_passes, use_passes, use_action_told, use_command_told}
 use Rattle.verifier.proofs.TwoStepsRun.{s1, s4, obeys, gen_inside, is_run_from, agrees}
 use Rattle.verifier.proofs.TwoStepsBlobs.{all_blobs, none_clash, kept_one, in_tree, of_nothing, of_gen, made_by_gen, of_meaning, no_clash_from}
+
+-- where the check of `use` fails behind its Command, the verdict is no there
+fails_at_use : (A : Type 0) (version : Version) (root_lines : List LineValue) (frame : DigestValue) (lines : List LineValue) (c : Cause A)
+    → (framed (with_input two.uses.0.frame two.input_digest) frame and_then λ _. input_check two.blobs two.sources (gen_outcome ∷ []) lines (with_input two.uses.0.frame two.input_digest) and_then λ _. result_check two.telling two.uses.0.command two.use_action_digest).fails c
+    → IsVerdict two.telling two.sources (record { version = version; steps = record { name = codes "gen"; frame = two.gen_frame_digest; lines = [] } ∷ record { name = codes "use"; frame = frame; lines = lines } ∷ []; root_lines = root_lines }) two.recorded two.claim (No (Step (codes "use")) c)
+unfolding ◌and_then◌
+fails_at_use A version root_lines frame lines c h =
+    let gen = from_recorded A two.telling two.sources [] (record { name = codes "gen"; frame = two.gen_frame_digest; lines = [] }) two.gen_action_digest gen_outcome (gen_passes two.sources) in
+    inl (inr (gen_outcome, gen, inl (refl, inr (with_input two.uses.0.frame two.input_digest, use_action_told, inr (tt, refl, inr (two.uses.0.command, use_command_told, h))))))
 
 -- ---- lines in conflict
 
@@ -81,16 +93,7 @@ not_together A = (
 
 pub clashes : (A : Type 0) → IsVerdict {A = A} two.telling two.sources two.clashing_plan two.recorded two.claim (No (Step (codes "use")) (InputConflict (codes "data" ∷ [])))
 unfolding ◌and_then◌
-clashes A =
-    let gen = from_recorded A two.telling two.sources [] (record { name = codes "gen"; frame = two.gen_frame_digest; lines = [] }) two.gen_action_digest gen_outcome (gen_passes two.sources) in
-    inl (inr (
-      gen_outcome,
-      gen,
-      inl (
-        refl,
-        inr (with_input two.uses.0.frame two.input_digest, use_action_told, inr (tt, refl, inr (two.uses.0.command, use_command_told, inr (tt, use_frame_named, inl (inl (not_together A)))))),
-      ),
-    ))
+clashes A = fails_at_use A Two two.plan.root_lines two.use_frame_digest two.clashing_lines (InputConflict (codes "data" ∷ [])) (inr (tt, use_frame_named, inl (inl (not_together A))))
 
 -- ---- a run of the step before
 
@@ -114,23 +117,23 @@ first_agrees = record { each = refl; pairs = by }
     by zero digest pair d p = agrees.pairs 0 digest pair d p
     by (suc i) digest pair d p = absurd cc
 
--- what is concerned in a run in which only `gen` is chosen
-concerned : (plan : PlanValue) (meaning : Meaning) (es : List Event) → ((b : List ℕ) → IsBlobOfMeaning meaning b → Contains all_blobs b) → ((b : List ℕ) → IsBlobOfEvents plan meaning empty opening es b → Contains all_blobs b)
-    → (b : List ℕ) → IsConcerned two.blobs plan meaning empty (two.gen ∷ []) es b → Contains all_blobs b
-concerned plan meaning es means happens b (inl (inl v)) = kept_one b v
-concerned plan meaning es means happens b (inl (inr h)) = in_tree b h
-concerned plan meaning es means happens b (inr (inl (inl h))) = of_nothing b h
-concerned plan meaning es means happens b (inr (inl (inr h))) = means b h
-concerned plan meaning es means happens b (inr (inr (inl (pair, (zero, lt, at), inl h)))) = of_gen b (subst (λ (z : ActionMeaning × Outcome). IsBlobOfAction z.0 b) (sym at) h)
-concerned plan meaning es means happens b (inr (inr (inl (pair, (zero, lt, at), inr h)))) = made_by_gen b (subst (λ (z : ActionMeaning × Outcome). IsBlobOfOutcome z.1 b) (sym at) h)
-concerned plan meaning es means happens b (inr (inr (inl (pair, (suc k, lt, at), h)))) = absurd (omega (arith, lt))
-concerned plan meaning es means happens b (inr (inr (inr h))) = happens b h
+-- what is concerned in a run in which only the action of `gen` is chosen, with an outcome
+concerned : (o : Outcome) → ((b : List ℕ) → IsBlobOfOutcome o b → Contains all_blobs b) → (plan : PlanValue) (meaning : Meaning) (es : List Event) → ((b : List ℕ) → IsBlobOfMeaning meaning b → Contains all_blobs b) → ((b : List ℕ) → IsBlobOfEvents plan meaning empty opening es b → Contains all_blobs b)
+    → (b : List ℕ) → IsConcerned two.blobs plan meaning empty ((two.gen.0, o) ∷ []) es b → Contains all_blobs b
+concerned o made plan meaning es means happens b (inl (inl v)) = kept_one b v
+concerned o made plan meaning es means happens b (inl (inr h)) = in_tree b h
+concerned o made plan meaning es means happens b (inr (inl (inl h))) = of_nothing b h
+concerned o made plan meaning es means happens b (inr (inl (inr h))) = means b h
+concerned o made plan meaning es means happens b (inr (inr (inl (pair, (zero, lt, at), inl h)))) = of_gen b (subst (λ (z : ActionMeaning × Outcome). IsBlobOfAction z.0 b) (sym at) h)
+concerned o made plan meaning es means happens b (inr (inr (inl (pair, (zero, lt, at), inr h)))) = made b (subst (λ (z : ActionMeaning × Outcome). IsBlobOfOutcome z.1 b) (sym at) h)
+concerned o made plan meaning es means happens b (inr (inr (inl (pair, (suc k, lt, at), h)))) = absurd (omega (arith, lt))
+concerned o made plan meaning es means happens b (inr (inr (inr h))) = happens b h
 
-no_clash : (plan : PlanValue) (meaning : Meaning) (es : List Event) → ((b : List ℕ) → IsBlobOfMeaning meaning b → Contains all_blobs b) → ((b : List ℕ) → IsBlobOfEvents plan meaning empty opening es b → Contains all_blobs b)
-    → NoClash (IsConcerned two.blobs plan meaning empty (two.gen ∷ []) es)
-no_clash plan meaning es means happens x y c d e = none_clash x y (concerned plan meaning es means happens x c) (concerned plan meaning es means happens y d) e
+pub no_clash : (o : Outcome) → ((b : List ℕ) → IsBlobOfOutcome o b → Contains all_blobs b) → (plan : PlanValue) (meaning : Meaning) (es : List Event) → ((b : List ℕ) → IsBlobOfMeaning meaning b → Contains all_blobs b) → ((b : List ℕ) → IsBlobOfEvents plan meaning empty opening es b → Contains all_blobs b)
+    → NoClash (IsConcerned two.blobs plan meaning empty ((two.gen.0, o) ∷ []) es)
+no_clash o made plan meaning es means happens x y c d e = none_clash x y (concerned o made plan meaning es means happens x c) (concerned o made plan meaning es means happens y d) e
 
-starts : (b : List ℕ) (o : Option ActionMeaning) (a : ActionMeaning) → o ≡ Some two.gen.0 → o ≡ Some a → IsBlobOfAction a b → Contains all_blobs b
+pub starts : (b : List ℕ) (o : Option ActionMeaning) (a : ActionMeaning) → o ≡ Some two.gen.0 → o ≡ Some a → IsBlobOfAction a b → Contains all_blobs b
 starts b o a own at h = of_gen b (subst (λ a. IsBlobOfAction a b) (one_answer o a two.gen.0 at own) h)
 
 clashing_events : (b : List ℕ) → IsBlobOfEvents two.clashing_plan two.meaning empty opening two.clashing_run.events b → Contains all_blobs b
@@ -144,7 +147,7 @@ unfolding merge
 happened = (tt, s1, refl, (obeys two.table two.gen s1 0 0 gen_inside refl, s4, refl, refl))
 
 pub clashing_runs : RunsFrom two.blobs two.results two.clashing_plan (take 1 two.recorded) empty two.clashing_run
-clashing_runs = record { fits = clashing_fits; table = table_valid; agrees = first_agrees; apart = no_clash two.clashing_plan two.meaning two.clashing_run.events of_meaning clashing_events; happened = happened }
+clashing_runs = record { fits = clashing_fits; table = table_valid; agrees = first_agrees; apart = no_clash two.gen.1 made_by_gen two.clashing_plan two.meaning two.clashing_run.events of_meaning clashing_events; happened = happened }
 
 -- ---- a root whose origin isn't there
 
@@ -194,16 +197,7 @@ other_frames e =
 
 pub other_frame : (A : Type 0) → IsVerdict {A = A} two.telling two.sources two.other_plan two.recorded two.claim (No (Step (codes "use")) FrameDiffers)
 unfolding ◌and_then◌
-other_frame A =
-    let gen = from_recorded A two.telling two.sources [] (record { name = codes "gen"; frame = two.gen_frame_digest; lines = [] }) two.gen_action_digest gen_outcome (gen_passes two.sources) in
-    inl (inr (
-      gen_outcome,
-      gen,
-      inl (
-        refl,
-        inr (with_input two.uses.0.frame two.input_digest, use_action_told, inr (tt, refl, inr (two.uses.0.command, use_command_told, inl ((λ e. other_frames (sym use_frame_named ∙ e)), refl)))),
-      ),
-    ))
+other_frame A = fails_at_use A One two.plan.root_lines two.gen_frame_digest [] FrameDiffers (inl ((λ e. other_frames (sym use_frame_named ∙ e)), refl))
 
 other_fits : MeaningFits two.other_plan two.other_run.meaning
 other_fits = record { steps = by }
@@ -240,6 +234,6 @@ other_runs = record {
   fits = other_fits;
   table = table_valid;
   agrees = first_agrees;
-  apart = no_clash two.other_plan two.other_run.meaning two.other_run.events other_meaning other_events;
+  apart = no_clash two.gen.1 made_by_gen two.other_plan two.other_run.meaning two.other_run.events other_meaning other_events;
   happened = other_happened;
 }

@@ -133,13 +133,13 @@ fits = record { steps = by }
         (two.uses.0.frame, two.uses.0.command, refl, refl, record { frame_valid = use_frame_valid; command_valid = use_command_valid; frame_digest = use_frame_named ∙ frame; command_digest = sym use_command_named })
     by (suc (suc i)) step at = absurd cc
 
-gen_valid : IsActionMeaning two.gen.0 × IsTreeOutcome two.gen.1
+pub gen_valid : IsActionMeaning two.gen.0 × IsTreeOutcome two.gen.1
 gen_valid = (
   record { frame = gen_frame_valid; command = gen_command_valid; named = sym gen_command_named; input = tt },
   record { apart = ((λ e. absurd cc), tt, tt); outputs = ((tt, tt), tt) },
 )
 
-use_valid : IsActionMeaning two.uses.0 × IsTreeOutcome two.uses.1
+pub use_valid : IsActionMeaning two.uses.0 × IsTreeOutcome two.uses.1
 use_valid = (
   record { frame = use_frame_valid; command = use_command_valid; named = sym use_command_named; input = (tt, (tt, tt), tt) },
   record { apart = ((λ e. absurd cc), tt, tt); outputs = (tt, tt) },

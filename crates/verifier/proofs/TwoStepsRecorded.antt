@@ -123,7 +123,7 @@ gen_result_valid = record {
   stderr = record { digest = tt };
 }
 
-use_result_valid : IsActionResult two.use_result
+pub use_result_valid : IsActionResult two.use_result
 use_result_valid = record {
   files = (record { path = res_path; digest = subst IsDigest newline_named (IsDigest-digest_of (10 ∷ [])) }, tt);
   directories = tt;
@@ -136,7 +136,7 @@ use_result_valid = record {
 
 -- ---- the results are read again
 
-bytes_fit : (bytes : List ℕ) → list_all (λ b. ltb b 256) bytes ≡ true → IsBytes bytes
+pub bytes_fit : (bytes : List ℕ) → list_all (λ b. ltb b 256) bytes ≡ true → IsBytes bytes
 bytes_fit [] e i = lit< tt
 bytes_fit (b ∷ bytes) e zero = ltb-true b 256 (both (ltb b 256) (list_all (λ c. ltb c 256) bytes) e).0
   where
@@ -153,7 +153,7 @@ gen_result_bytes : AreBytes (action_result_bytes two.gen_result)
 unfolding action_result_bytes output_directory_bytes varint groups two.tree_digest decode_pairs encode_with
 gen_result_bytes = (lit< tt, bytes_fit (action_result_bytes two.gen_result) refl)
 
-use_result_bytes : AreBytes (action_result_bytes two.use_result)
+pub use_result_bytes : AreBytes (action_result_bytes two.use_result)
 unfolding action_result_bytes output_file_bytes varint groups two.newline_digest decode_pairs encode_with
 use_result_bytes = (lit< tt, bytes_fit (action_result_bytes two.use_result) refl)
 
@@ -202,9 +202,9 @@ pub alone : (blobs : Blobs) (target : List (List ℕ)) (x : NodeWithin) → targ
 unfolding merged
 alone blobs target x some few = let apart : HaveApartTargets ((target, x) ∷ []) = (some, tt, tt) in graft_passes blobs 64 [] ((target, x) ∷ []) (all_named ((target, x) ∷ []) apart) (are_apart ((target, x) ∷ []) apart) (few, tt)
 
-nothing_merges : (merged two.blobs []).passes empty
+pub nothing_merges : (B : Blobs) → (merged B []).passes empty
 unfolding merged
-nothing_merges = graft_passes two.blobs 64 [] [] (all_named [] tt) (are_apart [] tt) tt
+nothing_merges B = graft_passes B 64 [] [] (all_named [] tt) (are_apart [] tt) tt
 
 abbrev pub made_file : NodeWithin
 made_file = record { node = nodes.File (digest_of (codes "123456789")) false; within = in_tree two.gen_tree }
@@ -243,7 +243,7 @@ gen_passes sources = record {
   frame = gen_frame_named;
   command_told = gen_command_told;
   resolved = refl;
-  put_together = nothing_merges;
+  put_together = nothing_merges two.blobs;
   input = sources_named;
   held = gen_result_held;
   exit_code = refl;

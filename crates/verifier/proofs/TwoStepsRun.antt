@@ -14,6 +14,7 @@ use Rattle.tree.specs.Merge.{merge}
 use Rattle.tree.specs.Form.{NodeValue}
 use Rattle.blob_source.specs.Source.{Blobs}
 use Rattle.blob_source.specs.Told.{IsTold}
+use Rattle.verifier.specs.Holding.{HoldsResult}
 use Rattle.verifier.specs.Build.{ActionMeaning, action_digest, Outcome, finish, State, opening, job_of, Obeys, IsRun, HasFinishedAll}
 use Rattle.verifier.specs.Recorded.{Agrees, IsRecordedAs, RecordsAt, entries_form}
 use Rattle.verifier.specs.TwoSteps as two
@@ -116,8 +117,8 @@ gen_recorded_as = record { result = two.gen_result; held = gen_result_held; exit
         let node = ap tree_node tree ∙ sym is in
         (0, omega arith, λ i. (paths i, node i))
 
-pub use_recorded_as : (B : Blobs) → IsRecordedAs B two.results two.use_action_digest two.uses.1
-use_recorded_as B = record { result = two.use_result; held = use_result_held; exit_code = refl; trees = tt; outputs = λ p x. (there p x, back p x) }
+pub use_recorded_as : (B C : Blobs) (d : DigestValue) → HoldsResult C d two.use_result → IsRecordedAs B C d two.uses.1
+use_recorded_as B C d held = record { result = two.use_result; held = held; exit_code = refl; trees = tt; outputs = λ p x. (there p x, back p x) }
   where
     there : (p : List Name) (x : NodeValue) → Contains (entries_form two.uses.1.outputs) (p, x) → RecordsAt B two.use_result p x
     there p x (zero, lt, e) =
@@ -155,5 +156,5 @@ agrees = record { each = refl; pairs = by }
     by (suc zero) digest pair d p =
         let digests : two.use_action_digest ≡ digest = cc in
         let pairs : two.uses ≡ pair = cc in
-        subst (λ d. IsPicked d pair) digests (subst (IsPicked two.use_action_digest) pairs (uses_inside, use_digest, use_recorded_as two.blobs))
+        subst (λ d. IsPicked d pair) digests (subst (IsPicked two.use_action_digest) pairs (uses_inside, use_digest, use_recorded_as two.blobs two.results two.use_action_digest use_result_held))
     by (suc (suc i)) digest pair d p = absurd cc

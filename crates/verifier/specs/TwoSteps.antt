@@ -331,6 +331,30 @@ other_run = record {
   now = record { done = []; jobs = (1, (1, gen.0)) ∷ (0, (0, gen.0)) ∷ [] };
 }
 
+-- ---- the same build where `gen` came to something else: it failed, or made what `use` does, which
+-- its command doesn't list
+
+abbrev pub failed_result : ActionResultValue
+failed_result = record gen_result { directories = []; exit_code = pos 1 }
+
+abbrev pub failed : Outcome
+failed = record { exit_code = pos 1; outputs = [] }
+
+-- this was recorded of it, and nothing of `use`
+abbrev pub recording : ActionResultValue → Telling
+recording result =
+    record telling { results = keeping ((gen_action_digest, action_result_bytes result) ∷ []) }
+
+-- it has finished so
+abbrev pub ended_run : Outcome → PlanRun
+ended_run outcome = record {
+  meaning = meaning;
+  table = (gen.0, outcome) ∷ [];
+  chosen = (gen.0, outcome) ∷ [];
+  events = start 0 0 ∷ finish 0 outcome ∷ [];
+  now = record { done = (0, outcome) ∷ []; jobs = [] };
+}
+
 -- ---- a source that has told nothing
 
 abbrev pub silent : Telling

@@ -1,18 +1,20 @@
--- What a no says of builds: where lines put nothing together, that nobody can build the plan; and
--- where a recorded action isn't the plan's, that nobody who builds the plan runs it.
-use Rattle.std.specs.Prelude.{◌≡◌, ◌≢◌, ℕ, List, Some, None, slice_get, take, Contains}
+-- What a no says of builds: where lines put nothing together, that nobody can build the plan; where
+-- a recorded action isn't the plan's, that nobody who builds the plan runs it; and where it ended
+-- badly, that it does so for whoever builds the plan.
+use Rattle.std.specs.Prelude.{◌≡◌, ◌≢◌, ℕ, suc, ℤ, pos, List, Some, None, slice_get, take, Contains}
 use Rattle.blob_digest.specs.Digest.{DigestValue}
 use Rattle.plan.specs.Values.{StepValue, PlanValue}
-use Rattle.tree.specs.Tree.{Tree, Leaf, IsOrdered}
-use Rattle.tree.specs.Form.{form, root}
+use Rattle.tree.specs.Tree.{Name, Tree, Leaf, IsOrdered}
+use Rattle.tree.specs.Form.{NodeValue, form, root}
 use Rattle.blob_source.specs.Source.{Blobs}
 use Rattle.verifier.specs.declared.verdict.Cause.{Cause}
 use Rattle.verifier.specs.declared.verdict.Cause.TheVariants.{OriginMissing, InputConflict}
 use Rattle.verifier.specs.declared.verdict.Cause.TheVariants.{FrameDiffers, InputUnexplained}
 use Rattle.verifier.specs.declared.verdict.Cause.TheVariants.{InputAbsent, InputDiffers}
-use Rattle.verifier.specs.Build.{ActionMeaning, action_digest, start, job_of, happens}
-use Rattle.verifier.specs.Build.{HasFinishedAll, merge_of}
+use Rattle.verifier.specs.Build.{ActionMeaning, action_digest, Outcome, start, outcome_of, job_of}
+use Rattle.verifier.specs.Build.{happens, HasFinishedAll, merge_of}
 use Rattle.verifier.specs.Headline.{PlanRun, RunsFrom}
+use Rattle.verifier.specs.Recorded.{entries_form}
 
 -- The cause is that lines put nothing together: nothing stands at the origin of one, or what they
 -- give doesn't merge.
@@ -69,3 +71,36 @@ pub record NoRunHasAction (blobs results : Blobs) (sources : DigestValue) (plan 
       → RunsFrom blobs results plan (take index recorded) t run
       → (w : ℕ) (job : ℕ × ActionMeaning) → job_of w run.now ≡ Some job → job.0 ≡ index
       → action_digest job.1 ≢ digest
+
+-- an action ended with this exit code, which isn't 0
+abbrev pub FailsWith : ℤ → ActionMeaning → Outcome → Type 0
+FailsWith code a o = (o.exit_code ≡ code) × (code ≢ pos 0)
+
+-- it made something at this path, which its command doesn't list
+abbrev pub MakesUnlisted : List Name → ActionMeaning → Outcome → Type 0
+MakesUnlisted path a o = ((x : NodeValue) × Contains (entries_form o.outputs) (path, x))
+    × (Contains a.command.output_paths path → ⊥)
+
+-- In a run the jobs of a step are of the action with this digest, and where the step has finished,
+-- that action ended so.
+pub record EndsStep (run : PlanRun) (i : ℕ) (digest : DigestValue)
+    (So : ActionMeaning → Outcome → Type 0) : Type 0 where
+  pub jobs : (w : ℕ) (job : ℕ × ActionMeaning) → job_of w run.now ≡ Some job → job.0 ≡ i
+      → action_digest job.1 ≡ digest
+  pub ended : (o : Outcome) → outcome_of i run.now ≡ Some o → (a : ActionMeaning)
+      × (action_digest a ≡ digest) × Contains run.table (a, o) × So a o
+
+-- Every run runs what was recorded of the step with this name, and it ends so whenever it finishes.
+-- The premises are those of a yes, about what was recorded of this step and of those before it.
+pub record EveryRunEndsStep (blobs results : Blobs) (sources : DigestValue) (plan : PlanValue)
+    (recorded : List DigestValue) (name : List ℕ) (So : ActionMeaning → Outcome → Type 0)
+    : Type 0 where
+  pub index : ℕ
+  pub step : StepValue
+  pub digest : DigestValue
+  pub step_at : slice_get plan.steps index ≡ Some step
+  pub digest_at : slice_get recorded index ≡ Some digest
+  pub named : name ≡ step.name
+  pub of_run : (t : Tree Leaf) (run : PlanRun) → IsOrdered t → root (form t) ≡ sources
+      → RunsFrom blobs results plan (take (suc index) recorded) t run
+      → EndsStep run index digest So

@@ -1,5 +1,5 @@
 ghost use Rattle.std.specs.Prelude.{◌≡◌, ◌↔◌, ◌⊎◌, ℕ, List, [], length, ◌++◌, ◌∷◌, Some, Contains};
-ghost use Rattle.std.specs.Prelude.{codes, option_map, take};
+ghost use Rattle.std.specs.Prelude.{ℤ, codes, option_map, pos, take};
 ghost use Rattle.blob_digest.specs.Digest.{DigestValue, NoClash};
 ghost use Rattle.blob_digest.specs.DigestValue.{IsDigest};
 ghost use Rattle.plan.specs.Plan.{NoTargetsOverlap, IsPlan};
@@ -14,7 +14,8 @@ ghost use Rattle.tree.specs.Merging.{MergeLines, merged, nodes_in};
 ghost use Rattle.tree.specs.MergeLooks.{MergeLooksAt};
 ghost use Rattle.verifier.specs.declared.verdict.Cause.TheVariants.{BlobMissing, RootDiffers};
 ghost use Rattle.verifier.specs.declared.verdict.Cause.TheVariants.{OriginMissing, InputConflict};
-ghost use Rattle.verifier.specs.declared.verdict.Cause.TheVariants.{FrameDiffers};
+ghost use Rattle.verifier.specs.declared.verdict.Cause.TheVariants.{FrameDiffers, ExitCode};
+ghost use Rattle.verifier.specs.declared.verdict.Cause.TheVariants.{OutputUnlisted};
 ghost use Rattle.verifier.specs.declared.verdict.Place.TheVariants.{Root, Step};
 ghost use Rattle.verifier.specs.declared.verdict.Verdict.{Verdict};
 ghost use Rattle.verifier.specs.declared.verdict.Verdict.TheVariants.{Yes, No};
@@ -36,7 +37,8 @@ ghost use Rattle.verifier.specs.BuildStages.{EndsIn, RunInTurn};
 ghost use Rattle.verifier.specs.Recorded.{RecordsAt};
 ghost use Rattle.verifier.specs.TwoSteps as two;
 ghost use Rattle.verifier.specs.Unbuilt.{IsOfLines, NoRunStarts, NoRunHasRoot};
-ghost use Rattle.verifier.specs.Unbuilt.{IsOfAction, NoRunHasAction};
+ghost use Rattle.verifier.specs.Unbuilt.{IsOfAction, NoRunHasAction, EveryRunEndsStep};
+ghost use Rattle.verifier.specs.Unbuilt.{FailsWith, MakesUnlisted};
 ghost use Rattle.verifier.specs.Verdict.{IsVerdict, IsYes};
 
 use std::alloc::Allocator;
@@ -174,6 +176,24 @@ pub fn other_actions_are_never_run<A: Allocator>()
         → NoRunHasAction tells.blobs tells.results sources plan recorded name }
 {}
 
+/// Where the verdict is no since the recorded process of a step failed, or made what its command
+/// doesn't list, every run runs that action as this step, and it ends so whenever it finishes: with
+/// this exit code, or with an output at this path. A law: it does nothing.
+pub fn bad_ends_are_those_of_every_run<A: Allocator>()
+    ensures code { (tells : Telling) (sources : DigestValue) (plan : PlanValue)
+        (recorded : List DigestValue) (claim : DigestValue) (name : List ℕ) (code : ℤ)
+        → IsPlan plan
+        → IsVerdict {A = A} tells sources plan recorded claim (No (Step name) (ExitCode code))
+        → EveryRunEndsStep tells.blobs tells.results sources plan recorded name
+        (FailsWith code) }
+    ensures unlisted { (tells : Telling) (sources : DigestValue) (plan : PlanValue)
+        (recorded : List DigestValue) (claim : DigestValue) (name : List ℕ) (path : List Name)
+        → IsPlan plan
+        → IsVerdict {A = A} tells sources plan recorded claim (No (Step name) (OutputUnlisted path))
+        → EveryRunEndsStep tells.blobs tells.results sources plan recorded name
+        (MakesUnlisted path) }
+{}
+
 /// Every valid plan with as many recorded digests has a verdict, whatever the source tells: it
 /// can't be that none is one. A law: it does nothing.
 pub fn plans_have_verdicts<A: Allocator>()
@@ -269,6 +289,15 @@ pub fn a_no_meets_the_premises<A: Allocator>()
         two.other_plan two.recorded two.claim (No (Step (codes "use")) FrameDiffers) }
     ensures running { RunsFrom two.blobs two.results two.other_plan (take 1 two.recorded)
         two.tree two.other_run }
+    // Where the first step failed, or made what its command doesn't list, after a run of it.
+    ensures failed { IsVerdict {A = A} (two.recording two.failed_result) two.sources two.plan
+        two.recorded two.claim (No (Step (codes "gen")) (ExitCode (pos 1))) }
+    ensures fails { RunsFrom two.blobs (two.recording two.failed_result).results two.plan
+        (take 1 two.recorded) two.tree (two.ended_run two.failed) }
+    ensures unlisted { IsVerdict {A = A} (two.recording two.use_result) two.sources two.plan
+        two.recorded two.claim (No (Step (codes "gen")) (OutputUnlisted (codes "res" ∷ []))) }
+    ensures makes { RunsFrom two.blobs (two.recording two.use_result).results two.plan
+        (take 1 two.recorded) two.tree (two.ended_run two.uses.1) }
 {}
 
 /// What the words of a record and of outcomes come to. A law: it does nothing.

@@ -1,4 +1,5 @@
 use Rattle.verifier.proofs.TwoNoes.{clashing_valid, clashes, clashing_runs, rootless_valid, no_root, rootless_runs, other_valid, other_frame, other_runs}
+use Rattle.verifier.proofs.TwoEnds.{fails, failed_runs, unlisted, unlisted_runs}
 use Rattle.verifier.proofs.TwoStages.{nothing_told, other_claimed}
 use Rattle.verifier.proofs.TwoStepsRun.{is_complete}
 use Rattle.verifier.proofs.laws.a_no_meets_the_premises.Goals as goal
@@ -26,3 +27,15 @@ returns-clause-other g c = (other_valid, other_frame g.row.A.Denot)
 
 pub returns-clause-running : goal.returns-clause-running
 returns-clause-running g c = other_runs
+
+pub returns-clause-failed : goal.returns-clause-failed
+returns-clause-failed g c = fails g.row.A.Denot
+
+pub returns-clause-fails : goal.returns-clause-fails
+returns-clause-fails g c = failed_runs
+
+pub returns-clause-unlisted : goal.returns-clause-unlisted
+returns-clause-unlisted g c = unlisted g.row.A.Denot
+
+pub returns-clause-makes : goal.returns-clause-makes
+returns-clause-makes g c = unlisted_runs
