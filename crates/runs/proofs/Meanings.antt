@@ -13,10 +13,13 @@ use Rattle.blob_source.specs.Told.{IsTold, Fault, IsFault}
 use Rattle.tree.specs.declared.error.TreeError.{TreeError}
 use Rattle.tree.specs.declared.error.TreeError.TheVariants as tree
 use Rattle.tree.proofs.Descent.{told_still}
+use Rattle.tree.proofs.Leaving.{others_then}
+use Rattle.tree.specs.Memo.{Asked, AsksNoOther}
 use Rattle.tree.proofs.LookupOnce.{told_or_fault}
 use Rattle.runs.specs.declared.error.OpenError.{OpenError}
 use Rattle.runs.specs.declared.error.OpenError.TheVariants as opening
 use Rattle.runs.specs.Calls.{TellsStep, AreToldBefore, IsUntold, IsOpeningFault, IsOpenFault, StopsAtFrame, opening_calls}
+use Rattle.runs.specs.LooksAt.{MeaningLooksAt, OpeningLooksAt}
 use Rattle.verifier.proofs.FreshRuns.{one_answer}
 use Rattle.runs.proofs.Places.{element_at, has_one}
 
@@ -149,3 +152,19 @@ stops_here steps n fs cs s old mid new lt is so g first step frame = record {
             omega (arith, first, own, same)
       ];
 }
+
+-- ---- what is asked for
+
+meaning_still : {B C : Blobs} (s : StepValue) (a : Asked) → Grows B C → MeaningLooksAt B s a → MeaningLooksAt C s a
+meaning_still s a g (inl h) = inl h
+meaning_still {B} {C} s a g (inr (f, told, cached, h)) = inr (f, frame_still B C s.frame f g told, cached, h)
+
+opening_still : {B C : Blobs} (steps : List StepValue) (a : Asked) → Grows B C → OpeningLooksAt B steps a → OpeningLooksAt C steps a
+opening_still {B} {C} steps a g (i, s, at, before, h) =
+    (i, s, at, λ k r lt here. let told = before k r lt here in (told.0, told.1, step_still B C r told.0 told.1 g told.2, told.3), meaning_still s a g h)
+
+-- what the next step looks at, after those so far
+pub opening_next : {A B C : Blobs} (steps : List StepValue) (i : ℕ) (fs : List FrameValue) (cs : List CommandValue) (s : StepValue) → i < length steps → s ≡ get_or steps i s → ToldSoFar B steps i fs cs → Grows B C
+    → AsksNoOther (OpeningLooksAt B steps) A B → AsksNoOther (MeaningLooksAt C s) B C → AsksNoOther (OpeningLooksAt C steps) A C
+opening_next {A} {B} {C} steps i fs cs s lt is so g first next =
+    others_then (λ a h. opening_still steps a g h) (λ a h. (i, s, element_at steps i s lt is, told_before B C steps i fs cs so g, h)) first next

@@ -1,12 +1,26 @@
--- What a start and the root of a build look at: Directories of the sources, by their digests.
-use Rattle.std.specs.Prelude.{◌≡◌, ℕ, List, Some, slice_get}
+-- What an opening, a start and the root of a build look at: frames and commands, and Directories
+-- of the sources, by their digests.
+use Rattle.std.specs.Prelude.{◌≡◌, ◌⊎◌, ℕ, false, List, Some, slice_get}
+use Rattle.action_messages.specs.Frame.{FrameValue, IsFrame, frame_bytes}
 use Rattle.plan.specs.Values.{LineValue, StepValue}
-use Rattle.tree.specs.Memo.{Asked}
+use Rattle.tree.specs.Memo.{Asked, LooksAtBlob}
 use Rattle.blob_source.specs.Source.{Blobs}
+use Rattle.blob_source.specs.Told.{IsTold}
 use Rattle.verifier.specs.Together.{TogetherLooksAt}
 use Rattle.runs.specs.Engine.{EngineValue}
 use Rattle.runs.specs.Looking.{outcomes_in}
-use Rattle.runs.specs.Calls.{IsReady, HasRoomForJob, HaveAllFinished}
+use Rattle.runs.specs.Calls.{AreToldBefore, IsReady, HasRoomForJob, HaveAllFinished}
+
+-- the frame of a step, and where that is told and may be cached, the command that it names
+abbrev pub MeaningLooksAt : Blobs → StepValue → Asked → Type 0
+MeaningLooksAt B s a = LooksAtBlob s.frame a
+    ⊎ ((f : FrameValue) × IsTold IsFrame frame_bytes B s.frame f × (f.do_not_cache ≡ false)
+    × LooksAtBlob f.command a)
+
+-- an opening, one step after another, as far as each has a meaning
+abbrev pub OpeningLooksAt : Blobs → List StepValue → Asked → Type 0
+OpeningLooksAt B steps a = (i : ℕ) × (s : StepValue) × (slice_get steps i ≡ Some s)
+    × AreToldBefore B steps i × MeaningLooksAt B s a
 
 -- the Directories on the ways to the origins of lines, and those that are read where lines meet
 abbrev pub LinesNeed : Blobs → EngineValue → List LineValue → Asked → Type 0

@@ -8,6 +8,8 @@ ghost use Rattle.blob_source.specs.Called.{Called};
 ghost use Rattle.blob_source.specs.Told.{IsTold, Fault, IsFault};
 ghost use Rattle.runs.specs.Calls.{TellsStep, AreTold, IsUntold, IsOpeningFault, IsOpened};
 ghost use Rattle.runs.specs.Calls.{IsOpenFault, StopsAtFrame, opening_calls};
+ghost use Rattle.runs.specs.LooksAt.{MeaningLooksAt, OpeningLooksAt};
+ghost use Rattle.tree.specs.Memo.{AsksNoOther, LooksAtBlob};
 
 use crate::engine::{Engine, Finished};
 use crate::error::OpenError;
@@ -32,6 +34,8 @@ fn read_message<A: Allocator + Copy, S: BlobSource<A>, M: Message<A>>(
     ensures called { Called (S.tells source.old) (S.tells source.new)
         ((i : ℕ) × IsErrOf result (OpenError.Source i TreeError.Fetch)) }
     ensures few { (S.tells source.new).calls ≤ (S.tells source.old).calls + 1 }
+    ensures only { AsksNoOther (LooksAtBlob digest.now)
+        (S.tells source.old).blobs (S.tells source.new).blobs }
 {
     match fetch_message(alloc, source, digest) {
         Ok(message) => Ok(message),
@@ -67,6 +71,8 @@ fn read_step<A: Allocator + Copy, S: BlobSource<A>>(
     ensures untold { (f : Fault)
         → IsFault IsFrame frame_bytes (S.tells source.new).blobs step.now.frame f
         → (S.tells source.new).calls ≤ (S.tells source.old).calls + 1 }
+    ensures only { AsksNoOther (MeaningLooksAt (S.tells source.new).blobs step.now)
+        (S.tells source.old).blobs (S.tells source.new).blobs }
 {
     let frame: Frame<A> = read_message(alloc, number, &step.frame, source)?;
     if frame.do_not_cache() {
@@ -99,6 +105,8 @@ fn read_steps<A: Allocator + Copy, S: BlobSource<A>>(
     ensures last { IfErr result (λ e. (S.tells source.new).calls
         ≤ (S.tells source.old).calls + opening_calls (length steps.now) e) }
     ensures frame { StopsAtFrame steps.now (S.tells source.old) (S.tells source.new) }
+    ensures only { AsksNoOther (OpeningLooksAt (S.tells source.new).blobs steps.now)
+        (S.tells source.old).blobs (S.tells source.new).blobs }
 {
     let mut frames = Vec::new(alloc);
     let mut commands = Vec::new(alloc);
@@ -148,6 +156,9 @@ impl<'p, A: Allocator + Copy> Engine<'p, A> {
         ensures last { IfErr result (λ e. (S.tells source.new).calls
             ≤ (S.tells source.old).calls + opening_calls (length plan.now.steps) e) }
         ensures frame { StopsAtFrame plan.now.steps (S.tells source.old) (S.tells source.new) }
+        // And for no other blob.
+        ensures only { AsksNoOther (OpeningLooksAt (S.tells source.new).blobs plan.now.steps)
+            (S.tells source.old).blobs (S.tells source.new).blobs }
     {
         let meanings = read_steps(alloc, plan.steps(), source)?;
         let finished = none_finished(alloc, plan.steps().len())?;

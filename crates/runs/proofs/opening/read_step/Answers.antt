@@ -1,9 +1,11 @@
-use Rattle.std.proofs.Common.{subst, inr, rules}
+use Rattle.std.proofs.Common.{◌≡◌, false, subst, inl, inr, rules}
 use Rattle.std.proofs.lemmas.Result.{err_from_is_err_and}
 use Rattle.action_messages.specs.Command.{IsCommand, command_bytes}
 use Rattle.action_messages.specs.Frame.{IsFrame, frame_bytes}
 use Rattle.plan.specs.Values.{StepValue}
 use Rattle.blob_source.specs.Told.{IsTold, IsFault}
+use Rattle.tree.specs.Memo.{AsksNoOther, LooksAtBlob}
+use Rattle.tree.proofs.Leaving.{others_then}
 use Rattle.tree.proofs.LookupOnce.{told_or_fault}
 use Rattle.runs.proofs.Meanings.{frame_still}
 use Rattle.blob_source.proofs.Asking.{ok_no_error}
@@ -41,3 +43,25 @@ returns-in_err-command-clause-untold g c f fault = absurd (told_or_fault IsFrame
 pub returns-clause-untold : goal.returns-clause-untold
 returns-clause-untold g c f fault = absurd (told_or_fault IsFrame frame_bytes (g.S.BlobSource.tells c.read_message-2.new.source).blobs c.args.step.now.frame c.in_ok-frame.frame f
     (frame_still (g.S.BlobSource.tells c.read_message.new.source).blobs (g.S.BlobSource.tells c.read_message-2.new.source).blobs c.args.step.now.frame c.in_ok-frame.frame c.read_message-2.ensures.called.asked.blobs (subst (λ (s : StepValue). IsTold IsFrame frame_bytes (g.S.BlobSource.tells c.read_message.new.source).blobs s.frame c.in_ok-frame.frame) c.step.view_is c.in_ok-frame.ensures.told)) fault)
+
+pub returns-in_err-command-clause-only : goal.returns-in_err-command-clause-only
+returns-in_err-command-clause-only g c =
+    let tells = g.S.BlobSource.tells in
+    let mid = (tells c.read_message.new.source).blobs in
+    let new = (tells c.read_message-2.new.source).blobs in
+    let told = subst (λ (s : StepValue). IsTold IsFrame frame_bytes mid s.frame c.in_ok-frame.frame) c.step.view_is c.in_ok-frame.ensures.told in
+    let cached : c.in_ok-frame.frame.do_not_cache ≡ false = search rules in
+    others_then (λ a h. inl h) (λ a h. inr (c.in_ok-frame.frame, frame_still mid new c.args.step.now.frame c.in_ok-frame.frame c.read_message-2.ensures.called.asked.blobs told, cached, h))
+    (subst (λ (s : StepValue). AsksNoOther (LooksAtBlob s.frame) (tells c.args.source.now).blobs mid) c.step.view_is c.read_message.ensures.only)
+    (subst (λ d. AsksNoOther (LooksAtBlob d) mid new) c.command_digest.ensures.value c.read_message-2.ensures.only)
+
+pub returns-clause-only : goal.returns-clause-only
+returns-clause-only g c =
+    let tells = g.S.BlobSource.tells in
+    let mid = (tells c.read_message.new.source).blobs in
+    let new = (tells c.read_message-2.new.source).blobs in
+    let told = subst (λ (s : StepValue). IsTold IsFrame frame_bytes mid s.frame c.in_ok-frame.frame) c.step.view_is c.in_ok-frame.ensures.told in
+    let cached : c.in_ok-frame.frame.do_not_cache ≡ false = search rules in
+    others_then (λ a h. inl h) (λ a h. inr (c.in_ok-frame.frame, frame_still mid new c.args.step.now.frame c.in_ok-frame.frame c.read_message-2.ensures.called.asked.blobs told, cached, h))
+    (subst (λ (s : StepValue). AsksNoOther (LooksAtBlob s.frame) (tells c.args.source.now).blobs mid) c.step.view_is c.read_message.ensures.only)
+    (subst (λ d. AsksNoOther (LooksAtBlob d) mid new) c.command_digest.ensures.value c.read_message-2.ensures.only)

@@ -1,10 +1,10 @@
-use Rattle.std.proofs.Common.{◌≡◌, ◌+◌, ◌∷◌, [], ◌++◌, ap, rules, arith}
+use Rattle.std.proofs.Common.{refl, ◌≡◌, ◌+◌, ◌∷◌, [], ◌++◌, ap, rules, arith}
 use Rattle.std.specs.Prelude.{Err}
 use Rattle.std.proofs.lemmas.Result.{err_from_is_err_and}
 use Rattle.blob_source.proofs.Asking.{ok_no_error}
 use Rattle.blob_source.proofs.Calling.{called_none, called_no, called_on}
 use Rattle.runs.proofs.Fetching.{opening_on, opening_exit, opening_memory}
-use Rattle.runs.proofs.Meanings.{told_none, told_next, open_fault, opening_last, stops_here, stops_behind}
+use Rattle.runs.proofs.Meanings.{told_none, told_next, open_fault, opening_next, opening_last, stops_here, stops_behind}
 use Rattle.runs.proofs.opening.read_steps.Goals as goal
 
 pub returns-in_err-meaning-clause-faulty : goal.returns-in_err-meaning-clause-faulty
@@ -18,6 +18,7 @@ pub loop-number-init : goal.loop-number-init
 loop-number-init g c = record {
   called = called_none (λ n. n);
   few = omega arith;
+  only = record { same = λ d not. refl };
   told = rw (c.new-frames.ensures.items, c.new-commands.ensures.items) (told_none (g.S.BlobSource.tells c.args.source.now).blobs c.args.steps.now);
 }
 
@@ -42,6 +43,7 @@ loop-number-preserved g c =
     record {
       called = opening_on c.loop-number.invariant.called c.in_ok-meaning.ensures.called;
       few = omega (arith, c.loop-number.invariant.few, c.in_ok-meaning.ensures.few);
+      only = opening_next c.args.steps.now c.loop-number.number c.loop-number.frames.items c.loop-number.commands.items c.index-steps-number.result c.loop-number-test.true c.index-steps-number.is c.loop-number.invariant.told c.read_step.ensures.called.asked.blobs c.loop-number.invariant.only c.read_step.ensures.only;
       told = rw (frames, commands) (told_next old.blobs tells.blobs c.args.steps.now c.loop-number.number c.loop-number.frames.items c.loop-number.commands.items c.index-steps-number.result c.in_ok-meaning.meaning.frame c.in_ok-meaning.meaning.command c.loop-number-test.true c.index-steps-number.is c.loop-number.invariant.told c.read_step.ensures.called.asked.blobs (c.in_ok-meaning.ensures).told c.in_ok-meaning.ensures.cached);
     }
 
@@ -77,3 +79,18 @@ pub returns-clause-frame : goal.returns-clause-frame
 returns-clause-frame g c =
     let tells = g.S.BlobSource.tells in
     stops_behind c.args.steps.now c.loop-number.number c.loop-number.frames.items c.loop-number.commands.items (tells c.args.source.now) (tells c.loop-number.source) c.loop-number.invariant.told c.loop-number.invariant.few
+
+pub returns-in_err-meaning-clause-only : goal.returns-in_err-meaning-clause-only
+returns-in_err-meaning-clause-only g c =
+    opening_next c.args.steps.now c.loop-number.number c.loop-number.frames.items c.loop-number.commands.items c.index-steps-number.result c.loop-number-test.true c.index-steps-number.is c.loop-number.invariant.told c.read_step.ensures.called.asked.blobs c.loop-number.invariant.only c.read_step.ensures.only
+
+pub returns-in_err-push-clause-only : goal.returns-in_err-push-clause-only
+returns-in_err-push-clause-only g c =
+    opening_next c.args.steps.now c.loop-number.number c.loop-number.frames.items c.loop-number.commands.items c.index-steps-number.result c.loop-number-test.true c.index-steps-number.is c.loop-number.invariant.told c.read_step.ensures.called.asked.blobs c.loop-number.invariant.only c.read_step.ensures.only
+
+pub returns-in_err-push-2-clause-only : goal.returns-in_err-push-2-clause-only
+returns-in_err-push-2-clause-only g c =
+    opening_next c.args.steps.now c.loop-number.number c.loop-number.frames.items c.loop-number.commands.items c.index-steps-number.result c.loop-number-test.true c.index-steps-number.is c.loop-number.invariant.told c.read_step.ensures.called.asked.blobs c.loop-number.invariant.only c.read_step.ensures.only
+
+pub returns-clause-only : goal.returns-clause-only
+returns-clause-only g c = c.loop-number.invariant.only
