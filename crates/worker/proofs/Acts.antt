@@ -32,10 +32,10 @@ no_job js w j none at = let one = running_set js w j at in omega (arith, one, no
 no_step : (o : Option FinishedValue) (f : FinishedValue) → o ≡ None → o ≡ Some f → ⊥
 no_step o f e h = cc
 
-same_build : (e : EngineValue) → IsSameBuild e e
+pub same_build : (e : EngineValue) → IsSameBuild e e
 same_build e = record { plan = refl; sources = refl; frames = refl; commands = refl; finished = λ i f at. at }
 
-same_then : {old mid new : EngineValue} → IsSameBuild old mid → IsSameBuild mid new → IsSameBuild old new
+pub same_then : {old mid new : EngineValue} → IsSameBuild old mid → IsSameBuild mid new → IsSameBuild old new
 same_then h k = record {
   plan = k.plan ∙ h.plan;
   sources = k.sources ∙ h.sources;
@@ -44,7 +44,7 @@ same_then h k = record {
   finished = λ i f at. k.finished i f (h.finished i f at);
 }
 
-only_jobs : (old new : EngineValue) (js : List (Option JobValue)) → new ≡ record old { jobs = js } → IsSameBuild old new
+pub only_jobs : (old new : EngineValue) (js : List (Option JobValue)) → new ≡ record old { jobs = js } → IsSameBuild old new
 only_jobs old new js is = record {
   plan = ap (λ (e : EngineValue). e.plan) is;
   sources = ap (λ (e : EngineValue). e.sources) is;
@@ -53,7 +53,7 @@ only_jobs old new js is = record {
   finished = λ i f at. ap (λ (e : EngineValue). finished_in i e) is ∙ at;
 }
 
-finishing : {id : ℕ} {v : OutcomeValue} {old new : EngineValue} → IsFinished id v old new → IsSameBuild old new
+pub finishing : {id : ℕ} {v : OutcomeValue} {old new : EngineValue} → IsFinished id v old new → IsSameBuild old new
 finishing h = record {
   plan = ap (λ (e : EngineValue). e.plan) h.after;
   sources = ap (λ (e : EngineValue). e.sources) h.after;

@@ -1,5 +1,5 @@
 -- A build goes on.
-use Rattle.std.proofs.Common.{◌≡◌, ℕ, ◌+◌, ◌<◌, ◌≤◌, true, List, [], ◌∷◌, ◌++◌, append_assoc, append-nil, length, map, length-append, set, Some, None, refl, ap, sym, ◌∙◌, subst, arith, inl, inr}
+use Rattle.std.proofs.Common.{◌≡◌, ℕ, ◌<◌, ◌≤◌, true, List, [], ◌∷◌, ◌++◌, append_assoc, append-nil, length, length-append, set, Some, None, refl, ap, sym, ◌∙◌, subst, arith, inl, inr}
 use Rattle.std.specs.Prelude.{◌⊎◌, IsSome, slice_get}
 use Rattle.std.proofs.lemmas.List.{map-append}
 use Rattle.blob_digest.specs.Digest.{DigestValue}
@@ -18,12 +18,14 @@ use Rattle.worker.specs.Values.{EndValue, made, StartValue, Starts, StartsOne, S
 use Rattle.worker.specs.Stored.{IsKept}
 use Rattle.worker.specs.Storing.{HasAt, IsKeptBut}
 use Rattle.worker.specs.Outcomes.{Yields, YieldsNoMore, IsYielded}
-use Rattle.worker.specs.Calls.{running, Call, started, launched, ran, taken, lost, CameTo, came_of, HasChild, children_of, IsResultFor, HasChildsResult, WasStarted, FinishedByChild, IsLost, Does, IsLeastStartable, IsNext, Leads, IsLed, ArePutFor, PutsOf, LeavesNone, TakesRecorded, IsBuiltWith}
+use Rattle.worker.specs.Calls.{running, Call, started, launched, ran, taken, lost, CameTo, came_of, HasChild, children_of, IsResultFor, HasChildsResult, WasStarted, FinishedByChild, IsLost, Does, IsLeastStartable, IsNext, Leads, IsLed, PutsOf, LeavesNone, TakesRecorded, IsBuiltWith}
 use Rattle.worker.specs.Going.{HasNoneToTake, IsJobOf, AreJobsOf, IsOwnJob, IsGoing, HasChildFor, IsBegun, IsLaunched, kept_job, EndedWell, GoesOnBy, IsTurn, AreOneTurn, jobs_with, one_if, taken_in}
 use Rattle.worker.specs.Watching.{FinishInOrder, taken_count, without_number, jobs_after}
 use Rattle.std.specs.List.{AllByRecursion}
 use Rattle.worker.proofs.Keeping.{kept_none, right_trans}
 use Rattle.worker.proofs.Telling.{SameSteps, layout_still, recorded_still, held_kept, end_still, yielded_still, owed_still, owed_ends}
+use Rattle.tree.proofs.Listings.{all_join}
+use Rattle.worker.proofs.Joins.{put_for_none, put_for_both, came_more, came_behind, children_join, child_either, jobs_join, finish_join}
 use Rattle.worker.proofs.Jobs.{least_within, jobs_added, jobs_back, jobs_count, jobs_map, first_goes, placed_goes}
 use Rattle.worker.proofs.Lefts.{finished_at, one_there}
 use Rattle.worker.proofs.Started.{job_of, after, least, job_is, one_more, was_started, started_value}
@@ -34,23 +36,6 @@ use Rattle.worker.proofs.Started.{job_of, after, least, job_is, one_more, was_st
 pub record Moves (t u : Telling) (more : List Call) : Type 0 where
   pub blobs : KeepsRight t.blobs u.blobs
   pub puts : PutsOf more t u
-
-put_for_none : (cs : List Call) → ArePutFor cs []
-put_for_none [] = refl
-put_for_none (started i id ∷ cs) = put_for_none cs
-put_for_none (launched id d x ∷ cs) = put_for_none cs
-put_for_none (ran id d v ∷ cs) = inl (put_for_none cs)
-put_for_none (taken id d v ∷ cs) = put_for_none cs
-put_for_none (lost id ∷ cs) = put_for_none cs
-
-put_for_both : (cs more : List Call) (ds es : List DigestValue) → ArePutFor cs ds → ArePutFor more es → ArePutFor (cs ++ more) (ds ++ es)
-put_for_both [] more ds es h k = rw h k
-put_for_both (started i id ∷ cs) more ds es h k = put_for_both cs more ds es h k
-put_for_both (launched id d x ∷ cs) more ds es h k = put_for_both cs more ds es h k
-put_for_both (ran id d v ∷ cs) more ds es (inl h) k = inl (put_for_both cs more ds es h k)
-put_for_both (ran id d v ∷ cs) more ds es (inr (rest, is, h)) k = inr (rest ++ es, ap (λ xs. xs ++ es) is, put_for_both cs more rest es h k)
-put_for_both (taken id d v ∷ cs) more ds es h k = put_for_both cs more ds es h k
-put_for_both (lost id ∷ cs) more ds es h k = put_for_both cs more ds es h k
 
 pub puts_none : (t u : Telling) (more : List Call) → IsKept t u → PutsOf more t u
 puts_none t u more k = record { put = []; are = k.puts ∙ sym (append-nil t.puts); once = put_for_none more; each = tt; others = λ e b at. inl (k.results e b at) }
@@ -71,23 +56,6 @@ moves_ran t u id d v k = record { blobs = k.blobs; puts = of k.puts }
     of : (u.puts ≡ t.puts) ⊎ ((u.puts ≡ t.puts ++ d ∷ []) × HasAt (IsResultFor v) u.results d) → PutsOf (ran id d v ∷ []) t u
     of (inl same) = record { put = []; are = same ∙ sym (append-nil t.puts); once = inl refl; each = tt; others = λ e b at. by e b (k.results e b at) }
     of (inr h) = record { put = d ∷ []; are = h.0; once = inr ([], refl, refl); each = (has h.1, tt); others = λ e b at. by e b (k.results e b at) }
-
-came_more : (d : DigestValue) (v : OutcomeValue) (cs more : List Call) → CameTo cs d v → CameTo (cs ++ more) d v
-came_more d v [] more h = absurd h
-came_more d v (ran id e w ∷ cs) more (inl is) = inl is
-came_more d v (ran id e w ∷ cs) more (inr h) = inr (came_more d v cs more h)
-came_more d v (started i id ∷ cs) more h = came_more d v cs more h
-came_more d v (launched id e x ∷ cs) more h = came_more d v cs more h
-came_more d v (taken id e w ∷ cs) more h = came_more d v cs more h
-came_more d v (lost id ∷ cs) more h = came_more d v cs more h
-
-pub came_behind : (d : DigestValue) (v : OutcomeValue) (cs more : List Call) → CameTo more d v → CameTo (cs ++ more) d v
-came_behind d v [] more h = h
-came_behind d v (ran id e w ∷ cs) more h = inr (came_behind d v cs more h)
-came_behind d v (started i id ∷ cs) more h = came_behind d v cs more h
-came_behind d v (launched id e x ∷ cs) more h = came_behind d v cs more h
-came_behind d v (taken id e w ∷ cs) more h = came_behind d v cs more h
-came_behind d v (lost id ∷ cs) more h = came_behind d v cs more h
 
 childs_behind : (cs more : List Call) (C : Blobs) (d : DigestValue) → HasChildsResult more C d → HasChildsResult (cs ++ more) C d
 childs_behind cs more C d h = record { outcome = h.outcome; came = came_behind d h.outcome cs more h.came; bytes = h.bytes; held = h.held; is = h.is }
@@ -141,10 +109,6 @@ all_behind : (cs more : List Call) (C : Blobs) (put : List DigestValue) → AllB
 all_behind cs more C [] h = tt
 all_behind cs more C (d ∷ put) h = (childs_behind cs more C d h.0, all_behind cs more C put h.1)
 
-all_join : (Is : DigestValue → Type 0) (xs ys : List DigestValue) → AllByRecursion Is xs → AllByRecursion Is ys → AllByRecursion Is (xs ++ ys)
-all_join Is [] ys h k = k
-all_join Is (x ∷ xs) ys h k = (h.0, all_join Is xs ys h.1 k)
-
 pub puts_moved : (s t u : Telling) (cs more : List Call) → PutsOf cs s t → PutsOf more t u → PutsOf (cs ++ more) s u
 puts_moved s t u cs more p m = record {
   put = p.put ++ m.put;
@@ -162,14 +126,6 @@ puts_moved s t u cs more p m = record {
         next (inl is) = inl is
         next (inr h) = inr (childs_behind cs more u.results d h)
 
-pub came_join : (cs more : List Call) → came_of (cs ++ more) ≡ came_of cs ++ came_of more
-came_join [] more = refl
-came_join (ran id d v ∷ cs) more = ap (λ ds. d ∷ ds) (came_join cs more)
-came_join (started i id ∷ cs) more = came_join cs more
-came_join (launched id d x ∷ cs) more = came_join cs more
-came_join (taken id d v ∷ cs) more = came_join cs more
-came_join (lost id ∷ cs) more = came_join cs more
-
 -- a child's job ended, well or lost
 abbrev pub Ends : {J : Type 0} → (J → EndValue → Type 0) → Telling → Telling → Child J → EngineValue → EngineValue → Type 0
 Ends may s t c old new = EndedWell may s t c old new ⊎ (IsLost c.id old new × IsKept s t)
@@ -178,27 +134,6 @@ pub puts_kept : {t u : Telling} → IsKept t u → PutsOf [] t u
 puts_kept {t} {u} k = puts_none t u [] k
 
 -- ---- children that are started
-
-children_join : (cs more : List Call) → children_of (cs ++ more) ≡ children_of cs ++ children_of more
-children_join [] more = refl
-children_join (launched id d x ∷ cs) more = ap (λ xs. x ∷ xs) (children_join cs more)
-children_join (started i id ∷ cs) more = children_join cs more
-children_join (ran id d v ∷ cs) more = children_join cs more
-children_join (taken id d v ∷ cs) more = children_join cs more
-children_join (lost id ∷ cs) more = children_join cs more
-
-child_either : (cs more : List Call) (d : DigestValue) (x : StartValue) → HasChild (cs ++ more) d x → HasChild cs d x ⊎ HasChild more d x
-child_either [] more d x h = inr h
-child_either (launched id e y ∷ cs) more d x (inl is) = inl (inl is)
-child_either (launched id e y ∷ cs) more d x (inr h) = by (child_either cs more d x h)
-  where
-    by : HasChild cs d x ⊎ HasChild more d x → HasChild (launched id e y ∷ cs) d x ⊎ HasChild more d x
-    by (inl here) = inl (inr here)
-    by (inr later) = inr later
-child_either (started i id ∷ cs) more d x h = child_either cs more d x h
-child_either (ran id e v ∷ cs) more d x h = child_either cs more d x h
-child_either (taken id e v ∷ cs) more d x h = child_either cs more d x h
-child_either (lost id ∷ cs) more d x h = child_either cs more d x h
 
 all_starts : (xs ys : List StartValue) (from mid to : Starts) → StartsAll xs from mid → StartsAll ys mid to → StartsAll (xs ++ ys) from to
 all_starts xs ys from mid to f g before h = subst to (append_assoc before xs ys) (g (before ++ xs) (f before h))
@@ -233,36 +168,6 @@ built_moved A y from mid to s t u more m starts none most old now new h rest = r
   blobs = right_trans h.blobs m.blobs;
   takes = takes_moved s t h.built.led.calls more h.blobs h.built.puts h.takes none;
 }
-
--- ---- what is counted
-
-pub taken_join : (cs more : List Call) → taken_count (cs ++ more) ≡ taken_count cs + taken_count more
-taken_join [] more = omega arith
-taken_join (taken id d v ∷ cs) more = let rest = taken_join cs more in omega (arith, rest)
-taken_join (started i id ∷ cs) more = taken_join cs more
-taken_join (launched id d x ∷ cs) more = taken_join cs more
-taken_join (ran id d v ∷ cs) more = taken_join cs more
-taken_join (lost id ∷ cs) more = taken_join cs more
-
-jobs_join : (js : List (ℕ × ℕ)) (cs more : List Call) → jobs_after js (cs ++ more) ≡ jobs_after (jobs_after js cs) more
-jobs_join js [] more = refl
-jobs_join js (started i id ∷ cs) more = jobs_join (js ++ (id, i) ∷ []) cs more
-jobs_join js (launched id d x ∷ cs) more = jobs_join js cs more
-jobs_join js (ran id d v ∷ cs) more = jobs_join (without_number id js) cs more
-jobs_join js (taken id d v ∷ cs) more = jobs_join (without_number id js) cs more
-jobs_join js (lost id ∷ cs) more = jobs_join (without_number id js) cs more
-
-pub finish_join : (js : List (ℕ × ℕ)) (cs more : List Call) → FinishInOrder js cs → FinishInOrder (jobs_after js cs) more → FinishInOrder js (cs ++ more)
-finish_join js [] more h k = k
-finish_join js (started i id ∷ cs) more h k = finish_join (js ++ (id, i) ∷ []) cs more h k
-finish_join js (launched id d x ∷ cs) more h k = finish_join js cs more h k
-finish_join js (ran id d v ∷ cs) more h k = (h.0, finish_join (without_number id js) cs more h.1 k)
-finish_join js (taken id d v ∷ cs) more h k = finish_join (without_number id js) cs more h k
-finish_join js (lost id ∷ cs) more h k = finish_join (without_number id js) cs more h k
-
-pub lost_in_order : (js : List (ℕ × ℕ)) (ids : List ℕ) → FinishInOrder js (map lost ids)
-lost_in_order js [] = tt
-lost_in_order js (id ∷ ids) = lost_in_order (without_number id js) ids
 
 -- ---- what is owed
 
@@ -494,8 +399,8 @@ module _ (A J : Type 0) (y : Yields) (may : J → EndValue → Type 0) (from : S
       none_lost id mid w gone = sym (none_in (ap (λ (e : EngineValue). finished_in i e) gone ∙ mid_none id mid w))
 
 -- the children's jobs
-pub own_jobs : {J : Type 0} (A : Type 0) (y : Yields) (may : J → EndValue → Type 0) (from to : Starts) (s t : Telling) (most : ℕ) (old now : EngineValue) (cs : List (Child J)) → IsGoing A y may from to s t most old now cs → AreJobsOf IsJobOf now.jobs cs
-own_jobs A y may from to s t most old now cs g = jobs_map (IsOwnJob y may t.blobs now) IsJobOf (λ c j h. h.of_child) cs now.jobs g.jobs
+pub own_jobs : {A J : Type 0} {y : Yields} {may : J → EndValue → Type 0} {from to : Starts} {s t : Telling} {most : ℕ} {old now : EngineValue} {cs : List (Child J)} → IsGoing A y may from to s t most old now cs → AreJobsOf IsJobOf now.jobs cs
+own_jobs {A} {J} {y} {may} {from} {to} {s} {t} {most} {old} {now} {cs} g = jobs_map (IsOwnJob y may t.blobs now) IsJobOf (λ c j h. h.of_child) cs now.jobs g.jobs
 
 -- ---- a step that is started, or refused
 

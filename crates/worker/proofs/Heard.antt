@@ -1,12 +1,12 @@
 -- What a watcher is told.
-use Rattle.std.proofs.Common.{suc, ◌≡◌, ◌+◌, ℕ, List, [], ◌∷◌, ◌++◌, append_assoc, append-nil, length, length-append, Option, Some, None, refl, ap, sym, ◌∙◌, subst, arith, inl, inr}
+use Rattle.std.proofs.Common.{suc, ◌≡◌, ◌+◌, ℕ, List, [], ◌∷◌, ◌++◌, append_assoc, append-nil, length, length-append, Option, Some, None, refl, ap, sym, ◌∙◌, subst, arith}
 use Rattle.blob_source.specs.Sink.{KeepsRight}
 use Rattle.blob_source.specs.Source.{Telling}
 use Rattle.runs.specs.Engine.{EngineValue}
 use Rattle.worker.specs.declared.watching.Progress.{Progress}
 use Rattle.worker.specs.Calls.{Call, started, launched, ran, taken, lost, AreTurns, IsLed, PutsOf}
 use Rattle.worker.specs.Outcomes.{Yields}
-use Rattle.worker.specs.Watching.{Hears, AreAfterTurns, IsWatched, IsProgressOf, IsProgress, IsUpToDate, turns_in}
+use Rattle.worker.specs.Watching.{Hears, AreAfterTurns, IsWatched, IsProgressOf, IsProgress, turns_in}
 use Rattle.worker.proofs.Goes.{puts_kept, puts_moved}
 use Rattle.worker.proofs.Keeping.{kept_none, right_trans}
 
@@ -64,35 +64,19 @@ module _ (A : Type 0) (y : Yields) (most : ℕ) (first : EngineValue) where
 
   -- ---- while turns are taken
 
-  -- what was told was told after each turn, and the last of it now
-  abbrev pub IsHeard : Telling → EngineValue → List Call → Option (List Progress) → Option (List Progress) → Type 0
-  IsHeard t now calls a b = IsWatched (IsProgress A y t most first calls) (turns_in calls) a b × IsUpToDate A y t most first now calls a b
+  pub heard_none : (t : Telling) (a : Option (List Progress)) → IsWatched (IsProgress A y t most first []) 0 a a
+  heard_none t a = record { told = []; heard = hears_none a; count = refl; each = tt }
 
-  up_none : (t : Telling) (a : Option (List Progress)) → IsUpToDate A y t most first first [] a a
-  up_none t None = tt
-  up_none t (Some ps) = inl (refl, refl)
-
-  pub heard_none : (t : Telling) (a : Option (List Progress)) → IsHeard t first [] a a
-  heard_none t a = (record { told = []; heard = hears_none a; count = refl; each = tt }, up_none t a)
-
-  up_more : {Is : ℕ → Progress → Type 0} {n : ℕ} (u : Telling) (now : EngineValue) (all : List Call) (a b c : Option (List Progress)) (p : Progress) → IsWatched Is n a b → Hears b c (p ∷ []) → (q : IsProgress A y u most first all (turns_in all) p) → q.now ≡ now → IsUpToDate A y u most first now all a c
-  up_more u now all None b c p w heard q is = tt
-  up_more u now all (Some xs) None c p w heard q is = absurd w.heard
-  up_more u now all (Some xs) (Some ys) None p w heard q is = absurd heard
-  up_more u now all (Some xs) (Some ys) (Some zs) p w heard q is = inr (ys, p, heard, (q, is))
-
-  pub heard_more : (t u : Telling) (old now : EngineValue) (calls more : List Call) (a b c : Option (List Progress)) (p : Progress) → IsHeard t old calls a b → turns_in more ≡ 1 → PutsOf more t u → KeepsRight t.blobs u.blobs → Hears b c (p ∷ [])
-      → (led : IsLed A y u most first now) → led.calls ≡ calls ++ more → AreTurns led.calls → IsProgressOf led.calls now p → IsHeard u now led.calls a c
+  pub heard_more : (t u : Telling) (now : EngineValue) (calls more : List Call) (a b c : Option (List Progress)) (p : Progress) → IsWatched (IsProgress A y t most first calls) (turns_in calls) a b → turns_in more ≡ 1 → PutsOf more t u → KeepsRight t.blobs u.blobs → Hears b c (p ∷ [])
+      → (led : IsLed A y u most first now) → led.calls ≡ calls ++ more → AreTurns led.calls → IsProgressOf led.calls now p → IsWatched (IsProgress A y u most first led.calls) (turns_in led.calls) a c
   unfolding watched_moved
-  heard_more t u old now calls more a b c p h one m keeps heard led are whole is =
-      let w = watched_moved t u calls led.calls more are m keeps h.0 in
+  heard_more t u now calls more a b c p h one m keeps heard led are whole is =
+      let w = watched_moved t u calls led.calls more are m keeps h in
       let q : IsProgress A y u most first led.calls (turns_in led.calls) p = record { told = u; now = now; led = led; whole = whole; count = refl; is = is; later = []; rest = append-nil led.calls; since = puts_kept kept_none; still = λ e b at right. at } in
-      let count : turns_in led.calls ≡ suc (length h.0.told) = ap turns_in are ∙ (let all = turns_join calls more in let was = h.0.count in omega (arith, all, was, one)) in (
-        record {
-          told = h.0.told ++ p ∷ [];
-          heard = hears_more a b c h.0.told (p ∷ []) h.0.heard heard;
-          count = (let n = length-append h.0.told (p ∷ []) in let all = count in omega (arith, n, all));
-          each = all_more (IsProgress A y u most first led.calls) 0 (turns_in led.calls) h.0.told p (let n = count in omega (arith, n)) w.each q;
-        },
-        up_more u now led.calls a b c p h.0 heard q refl,
-      )
+      let count : turns_in led.calls ≡ suc (length h.told) = ap turns_in are ∙ (let all = turns_join calls more in let was = h.count in omega (arith, all, was, one)) in
+      record {
+        told = h.told ++ p ∷ [];
+        heard = hears_more a b c h.told (p ∷ []) h.heard heard;
+        count = (let n = length-append h.told (p ∷ []) in let all = count in omega (arith, n, all));
+        each = all_more (IsProgress A y u most first led.calls) 0 (turns_in led.calls) h.told p (let n = count in omega (arith, n)) w.each q;
+      }

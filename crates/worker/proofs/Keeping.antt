@@ -19,7 +19,7 @@ use Rattle.worker.specs.Stored.{IsKept, PutsNoOther}
 use Rattle.worker.specs.Storing.{HasAt, IsKeptBut}
 use Rattle.worker.specs.Outcomes.{HasAllRight}
 
-grown_same : (B C : Blobs) → C ≡ B → Grows B C
+pub grown_same : (B C : Blobs) → C ≡ B → Grows B C
 grown_same B C same e b at = subst (λ (D : Blobs). D e ≡ Some b) (sym same) at
 
 right_same : (B C : Blobs) → C ≡ B → KeepsRight B C
@@ -45,6 +45,9 @@ kept_blob {t} {u} {bytes} {F} p = record { blobs = p.asked.right; results = grow
 
 pub kept_result : {t u : Telling} {d : DigestValue} {F : Type 0} → Calls (AsksResult d) t u F → IsKept t u
 kept_result {t} {u} {d} {F} a = let k = a.asked.results.kept in record { blobs = right_same t.blobs u.blobs a.asked.blobs; results = λ e b at. k e b at; puts = a.asked.puts }
+
+pub result_grows : {t u : Telling} {d : DigestValue} {F : Type 0} → Calls (AsksResult d) t u F → Grows t.blobs u.blobs
+result_grows {t} {u} a = grown_same t.blobs u.blobs a.asked.blobs
 
 pub kept_but : {t u : Telling} {d : DigestValue} {Is : List ℕ → Type 0} → IsKept t u → IsKeptBut d Is t u
 kept_but {t} {u} {d} {Is} k = record { blobs = k.blobs; results = λ e b at. inl (k.results e b at); puts = inl k.puts }

@@ -8,6 +8,7 @@ pub mod Gathering
 pub mod Layouts
 pub mod Jobs
 pub mod Started
+pub mod Joins
 pub mod Goes
 pub mod Taking
 pub mod Lefts
@@ -20,5 +21,6 @@ pub mod Heard
 pub mod Failures
 pub mod Steps
 pub mod Acts
+pub mod Blobs
 pub mod TwoStepsBuilt
 pub mod ChildBuilt

@@ -13,7 +13,7 @@ use Rattle.worker.specs.Outcomes.{Yields}
 use Rattle.worker.specs.Steps.{CameOfChild, IsSameBuild, WasTaken}
 use Rattle.worker.specs.Stored.{HasNoneFinished}
 use Rattle.worker.proofs.Acts.{calls_same}
-use Rattle.worker.proofs.Goes.{came_behind}
+use Rattle.worker.proofs.Joins.{came_behind}
 use Rattle.worker.proofs.Keeping.{same_digest}
 use Rattle.worker.proofs.Storing.{which}
 use Rattle.worker.proofs.Telling.{yielded_still}

@@ -23,9 +23,9 @@ use Rattle.runs.specs.Results.{result_of}
 use Rattle.runs.specs.Served.{Keeps, HoldsTrees, IsKeptOf}
 use Rattle.runs.proofs.Places.{set_other}
 use Rattle.verifier.proofs.FreshRuns.{one_answer}
-use Rattle.worker.specs.Storing.{HasAt, IsKeptBut, HasResultOf, IsResultOfStep, IsForForm, StoresStep, StoresSteps, IsHeldWhole, tree_blobs}
+use Rattle.worker.specs.Storing.{HasAt, IsKeptBut, HasResultOf, IsResultOfStep, IsForForm, StoresStep, StoresSteps, IsHeldWhole}
 use Rattle.worker.specs.Calls.{IsResultFor}
-use Rattle.worker.specs.Outcomes.{HasTree, HasTrees, directories_of}
+use Rattle.worker.specs.Outcomes.{HasTree, HasTrees, directories_of, tree_blobs}
 use Rattle.worker.specs.Stored.{IsKept, IsToldOrTree, IsStored}
 use Rattle.worker.proofs.Keeping.{all_split, right_still, same_bytes, same_digest}
 use Rattle.worker.proofs.Telling.{recorded_still, trees_still}

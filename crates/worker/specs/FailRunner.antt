@@ -56,8 +56,8 @@ yields_of yields r l c = BesidesOwn (yields (inner_of r) l c) (program_of c)
 abbrev pub may_give_of : {J A : Type 0} → (J → EndValue → Type 0) → FailJob J A → EndValue → Type 0
 may_give_of may j = BesidesOwn (may j.job) (program_in j)
 
--- One call, by which that number goes down. The call that fails tells of that failure, and every
--- other one as the other runner tells it, while the count of failures isn't full.
+-- One call, by which that number goes down. The call that fails tells of that failure. Every other
+-- one tells of a failure where the other runner counted one, while the own count isn't full.
 pub record FailsRun {N T A : Type 0} (failures : N → ℕ) (program : List ℕ) (old new : FailRunner N)
     (result : Result T (RunError A)) : Type 0 where
   pub counted : until_failure_of new ≡ until_failure_of old - 1

@@ -1,7 +1,7 @@
 -- A build that goes on, its children and its turns: words of private functions.
 use Rattle.std.specs.Prelude.{zero, suc, ◌≡◌, ◌≢◌, ◌⊎◌, ◌+◌, ◌*◌, ◌<◌, ◌≤◌, ℕ, List, [], ◌∷◌, ◌++◌}
 use Rattle.std.specs.Prelude.{◌-◌, Bool, true, false, length, map, set, slice_get, Option, Some}
-use Rattle.std.specs.Prelude.{None, IsSome}
+use Rattle.std.specs.Prelude.{None, IsSome, Contains}
 use Rattle.blob_digest.specs.Digest.{DigestValue, digest_of}
 use Rattle.action_messages.specs.Action.{action_bytes}
 use Rattle.action_messages.specs.Command.{CommandValue}
@@ -22,10 +22,10 @@ use Rattle.worker.specs.Values.{LayoutValue, ProducedValue, EndValue, made, Star
 use Rattle.worker.specs.Values.{StartsNone}
 use Rattle.tree.specs.Folded.{items_of}
 use Rattle.worker.specs.Storing.{IsKeptBut, HasFewTrees, HasResultOf, IsHeldWhole, not_put}
-use Rattle.worker.specs.Storing.{tree_blobs}
 use Rattle.worker.specs.declared.remembering.Remembered.{Remembered}
 use Rattle.worker.specs.Outcomes.{Yields, YieldsFor, HasAllRight, HasOwnAction, HasTrees, IsHeld}
-use Rattle.worker.specs.Outcomes.{CanBeTaken}
+use Rattle.worker.specs.Outcomes.{CanBeTaken, tree_blobs}
+use Rattle.worker.specs.Steps.{IsOfToldTree, blobs_of_job}
 use Rattle.worker.specs.Calls.{running, Call, WasStarted, IsBuiltWith, IsResultFor}
 use Rattle.worker.specs.Calls.{IsLeastStartable, HasNoneStartable, AreTurns}
 use Rattle.worker.specs.Watching.{FinishInOrder, taken_count, turns_in, jobs_after}
@@ -120,6 +120,10 @@ pub record IsBegun (A : Type 0) {J : Type 0} (yields : Yields) (may : J → EndV
   pub job : JobValue
   pub is : job_in id mid ≡ Some job
   pub goes : IsLaunched yields may from to s t id job mid new before after
+
+-- a blob that is put as a job goes on: for the job, or of a Tree that is told
+abbrev pub IsForJob : {A : Type 0} → Job A → Blobs → List ℕ → Type 0
+IsForJob job B b = Contains (blobs_of_job job) b ⊎ IsOfToldTree B b
 
 -- ---- how often the store is called
 

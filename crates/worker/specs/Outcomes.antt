@@ -1,5 +1,5 @@
 -- Where what a job comes to is from.
-use Rattle.std.specs.Prelude.{◌≡◌, ℕ, pos, List, ◌∷◌, map, Some, slice_get}
+use Rattle.std.specs.Prelude.{◌≡◌, ℕ, pos, List, [], ◌∷◌, ◌++◌, map, Some, slice_get}
 use Rattle.std.specs.List.{AllByRecursion}
 use Rattle.blob_digest.specs.Digest.{DigestValue, digest_of}
 use Rattle.messages.specs.Directory.{directory_bytes}
@@ -57,6 +57,17 @@ HasAllRight B = AllByRecursion (λ b. HasRight B (digest_of b))
 -- the encodings of the Directories of a Tree
 abbrev pub directories_of : TreeValue → List (List ℕ)
 directories_of t = map directory_bytes (t.root ∷ t.children)
+
+-- the Trees among outputs and their Directories, as blobs
+abbrev pub tree_blobs : List (List Name × OutputValue) → List (List ℕ)
+tree_blobs [] = []
+tree_blobs ((p, outputs.File d executable) ∷ es) = tree_blobs es
+tree_blobs ((p, outputs.Link target) ∷ es) = tree_blobs es
+tree_blobs ((p, outputs.Tree t) ∷ es) = (tree_bytes t ∷ directories_of t) ++ tree_blobs es
+
+-- what a child came to, as blobs: its own, and its Trees with their Directories
+abbrev pub blobs_made : ProducedValue → List (List ℕ)
+blobs_made p = p.blobs ++ tree_blobs p.outcome.outputs
 
 -- bytes with the digest of a Tree stand under it, and with those of its Directories
 abbrev pub HasTree : Blobs → List Name × OutputValue → Type 0

@@ -1,17 +1,22 @@
--- Where what each step of a build came to is from.
-use Rattle.std.specs.Prelude.{◌≡◌, ◌⊎◌, ℕ, List, Some, Contains}
+-- Where what each step of a build came to is from, and the blobs that a build puts.
+use Rattle.std.specs.Prelude.{◌≡◌, ◌⊎◌, ℕ, List, ◌∷◌, Some, Contains}
 use Rattle.blob_digest.specs.Digest.{DigestValue}
+use Rattle.messages.specs.Tree.{IsTree, TreeValue, tree_bytes}
+use Rattle.action_messages.specs.Action.{action_bytes}
 use Rattle.action_messages.specs.ActionResult.{ActionResultValue}
 use Rattle.action_messages.specs.Reads.{Reads}
 use Rattle.actions.specs.Outcome.{OutcomeValue}
 use Rattle.actions.specs.Recorded.{IsRecorded}
 use Rattle.blob_source.specs.Source.{Blobs, Telling}
 use Rattle.blob_source.specs.Sink.{KeepsRight}
+use Rattle.blob_source.specs.Told.{IsTold}
+use Rattle.tree.specs.Folded.{items_of}
 use Rattle.runs.specs.Calls.{IsPrepared}
 use Rattle.runs.specs.Engine.{FinishedValue, JobValue, EngineValue, finished_in}
 use Rattle.runs.specs.declared.starting.Job.{Job}
 use Rattle.worker.specs.Calls.{Call, CameTo}
-use Rattle.worker.specs.Outcomes.{Yields, IsYielded}
+use Rattle.worker.specs.Outcomes.{Yields, MayComeTo, IsYielded, blobs_made, directories_of}
+use Rattle.worker.specs.Values.{ProducedValue, made}
 
 -- a child of the step's action yielded what the step came to
 abbrev pub CameOfChild : Yields → Blobs → EngineValue → FinishedValue → Type 0
@@ -48,3 +53,23 @@ pub record IsActionOf (A : Type 0) (B : Blobs) (e : EngineValue) (i : ℕ) (d : 
   pub job : Job A
   pub prepared : IsPrepared told at i job.id job
   pub digest : job.digest ≡ d
+
+-- ---- which blobs a build puts
+
+-- the action of a job, and the Directories of its input
+abbrev pub blobs_of_job : {A : Type 0} → Job A → List (List ℕ)
+blobs_of_job job = action_bytes job.action ∷ items_of job.input.directories.items
+
+-- a Tree that is told, or a Directory of it
+abbrev pub IsOfToldTree : Blobs → List ℕ → Type 0
+IsOfToldTree B b = (d : DigestValue) × (t : TreeValue) × IsTold IsTree tree_bytes B d t
+    × Contains (tree_bytes t ∷ directories_of t) b
+
+-- A blob that a build puts: for the job of a step, as it was prepared; or of what a job's child may
+-- come to; or of a Tree that the store tells, as a result that is taken names it.
+abbrev pub IsOfBuild : (A : Type 0) → Yields → Blobs → EngineValue → List ℕ → Type 0
+IsOfBuild A yields B e b =
+    ((i : ℕ) × (d : DigestValue) × (o : IsActionOf A B e i d) × Contains (blobs_of_job o.job) b)
+    ⊎ (((j : JobValue) × (p : ProducedValue) × MayComeTo yields B e j (made p)
+    × Contains (blobs_made p) b)
+    ⊎ IsOfToldTree B b)

@@ -18,7 +18,7 @@ use Rattle.worker.specs.Layout.{IsLayoutOf}
 use Rattle.worker.specs.Outcomes.{Yields, MayComeTo, IsYielded, CanBeTakenFor}
 use Rattle.worker.specs.Refusals.{IsLayoutFault}
 use Rattle.worker.specs.Values.{LayoutValue, IsAbsolute, bad_at, failed}
-use Rattle.worker.specs.Watching.{FinishInOrder, IsProgress, IsUpToDate, IsWatched, first_step}
+use Rattle.worker.specs.Watching.{FinishInOrder, IsProgress, IsWatched, first_step}
 use Rattle.worker.specs.Watching.{jobs_after, turns_in}
 
 -- what a job finishes with: what the runner yields for it, or what is taken from the store for it
@@ -121,9 +121,8 @@ pub record EndsBuild {T : Type 0} (A : Type 0) (yields : Yields) (before t : Tel
   -- for each that finished in a whole turn
   pub in_order : FinishInOrder [] calls
   pub put : (more : List DigestValue) × (t.puts ≡ (before.puts ++ came_of whole) ++ more)
-  -- the watcher was told the numbers after each whole turn, and in the end after all
+  -- the watcher was told the numbers after each whole turn
   pub watched : IsWatched (IsProgress A yields t most old calls) (turns_in whole) heard hears
-  pub up_to_date : OnOk result (IsUpToDate A yields t most old new calls heard hears)
 
 -- the store failed, or memory ran out
 abbrev pub IsStoreFault : {A : Type 0} → Refusal A → Type 0

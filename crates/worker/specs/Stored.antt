@@ -40,6 +40,11 @@ HasNoneFinished e = (i : ℕ) → finished_in i e ≡ None
 pub record PutsNoOther (bs : List (List ℕ)) (old new : Blobs) : Type 0 where
   pub same : (d : DigestValue) → AllByRecursion (λ b. digest_of b ≢ d) bs → new d ≡ old d
 
+-- what stands under other digests than those of such blobs stays
+pub record KeepsOthers (Is : List ℕ → Type 0) (old new : Blobs) : Type 0 where
+  pub stays : (d : DigestValue) (b : List ℕ) → old d ≡ Some b
+      → ((c : List ℕ) → Is c → digest_of c ≢ d) → new d ≡ Some b
+
 -- calls that put no result: results stay, and blobs that have their digests
 pub record IsKept (old new : Telling) : Type 0 where
   pub blobs : KeepsRight old.blobs new.blobs

@@ -5,11 +5,9 @@ use Rattle.std.specs.Prelude.{if◌then◌else◌}
 use Rattle.std.specs.List.{AllByRecursion}
 use Rattle.std.specs.BTreeSet.{BTreeSet, contains}
 use Rattle.blob_digest.specs.Digest.{DigestValue, digest_cmp, digest_of}
-use Rattle.messages.specs.Tree.{tree_bytes}
 use Rattle.action_messages.specs.ActionResult.{ActionResultValue}
 use Rattle.action_messages.specs.Reads.{Reads}
-use Rattle.actions.specs.declared.outcome.Output.TheVariants as outputs
-use Rattle.actions.specs.Outcome.{OutputValue, OutcomeValue}
+use Rattle.actions.specs.Outcome.{OutcomeValue}
 use Rattle.actions.specs.Recorded.{IsRecorded}
 use Rattle.blob_source.specs.Source.{Blobs, Telling, IsBlobUnder}
 use Rattle.blob_source.specs.Sink.{HasRight, KeepsRight}
@@ -19,8 +17,7 @@ use Rattle.runs.specs.Engine.{FinishedValue, EngineValue, finished_in}
 use Rattle.runs.specs.Results.{result_of}
 use Rattle.runs.specs.Served.{IsKeptOf}
 use Rattle.worker.specs.declared.remembering.Remembered.{Remembered}
-use Rattle.tree.specs.Tree.{Name}
-use Rattle.worker.specs.Outcomes.{HasTrees, IsHeld, directories_of}
+use Rattle.worker.specs.Outcomes.{HasTrees, IsHeld, blobs_made}
 use Rattle.worker.specs.Stored.{PutsNoOther}
 use Rattle.worker.specs.Values.{ProducedValue, EndValue, made}
 
@@ -73,17 +70,10 @@ abbrev pub AsksResultOnce : DigestValue → Telling → Telling → Type 0
 AsksResultOnce d old new =
     (most : ℕ) → HasFewTrees new d most → new.calls ≤ old.calls + 1 + most
 
--- the Trees among outputs and their Directories, as blobs
-abbrev pub tree_blobs : List (List Name × OutputValue) → List (List ℕ)
-tree_blobs [] = []
-tree_blobs ((p, outputs.File d executable) ∷ es) = tree_blobs es
-tree_blobs ((p, outputs.Link target) ∷ es) = tree_blobs es
-tree_blobs ((p, outputs.Tree t) ∷ es) = (tree_bytes t ∷ directories_of t) ++ tree_blobs es
-
--- No blob is put but those of what a child came to: its own, and its Trees with their Directories.
+-- no blob is put but those of what a child came to
 abbrev pub PutsMade : (EndValue → Type 0) → Blobs → Blobs → Type 0
-PutsMade may old new = (new ≡ old) ⊎ ((p : ProducedValue) × may (made p)
-    × PutsNoOther (p.blobs ++ tree_blobs p.outcome.outputs) old new)
+PutsMade may old new =
+    (new ≡ old) ⊎ ((p : ProducedValue) × may (made p) × PutsNoOther (blobs_made p) old new)
 
 -- how many of the blobs weren't put before
 abbrev pub not_put : BTreeSet DigestValue → List (List ℕ) → ℕ

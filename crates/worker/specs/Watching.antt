@@ -1,5 +1,5 @@
 -- How far a build is, what its watcher is told, and in which order children's jobs finish.
-use Rattle.std.specs.Prelude.{suc, ◌≡◌, ◌⊎◌, ◌++◌, ◌≤◌, ◌==◌, not, ℕ, List, [], ◌∷◌, length, filter}
+use Rattle.std.specs.Prelude.{suc, ◌≡◌, ◌++◌, ◌≤◌, ◌==◌, not, ℕ, List, [], ◌∷◌, length, filter}
 use Rattle.std.specs.Prelude.{Option, Some, None}
 use Rattle.blob_source.specs.Sink.{KeepsRight}
 use Rattle.blob_source.specs.Source.{Telling}
@@ -29,14 +29,6 @@ pub record IsWatched (Is : ℕ → Progress → Type 0) (turns : ℕ)
   pub heard : Hears before after told
   pub count : length told ≡ turns
   pub each : AreAfterTurns Is 0 told
-
--- what was told last is so; nothing was told, where this is so
-abbrev pub IsToldLast : (Progress → Type 0) → Type 0 → Option (List Progress)
-    → Option (List Progress) → Type 0
-IsToldLast Is none None after = Unit {0}
-IsToldLast Is none (Some before) None = ⊥
-IsToldLast Is none (Some before) (Some after) = ((after ≡ before) × none)
-    ⊎ ((ps : List Progress) × (p : Progress) × (after ≡ ps ++ p ∷ []) × Is p)
 
 -- ---- how far a build is
 
@@ -114,11 +106,3 @@ pub record IsProgress (A : Type 0) (yields : Yields) (t : Telling) (most : ℕ)
   pub rest : led.calls ++ later ≡ all
   pub since : PutsOf later told t
   pub still : KeepsRight told.blobs t.blobs
-
--- What was told last is after all turns, and of the engine to which all calls led; nothing was
--- told, where there was no turn.
-abbrev pub IsUpToDate : (A : Type 0) → Yields → Telling → ℕ → EngineValue → EngineValue
-    → List Call → Option (List Progress) → Option (List Progress) → Type 0
-IsUpToDate A yields t most first now all before after = IsToldLast
-    (λ p. (q : IsProgress A yields t most first all (turns_in all) p) × (q.now ≡ now))
-    (now ≡ first) before after

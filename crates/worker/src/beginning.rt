@@ -3,14 +3,16 @@ ghost use Rattle.std.specs.Prelude.{length};
 ghost use Rattle.worker.specs.Layout.{IsLayoutOf};
 ghost use Rattle.std.specs.Result.{IsErrAnd};
 ghost use Rattle.worker.specs.Counted.{Counts, IsDevice, IsFetch};
-ghost use Rattle.worker.specs.Stored.{IsKept};
+ghost use Rattle.blob_source.specs.Source.{Grows};
+ghost use Rattle.worker.specs.Steps.{IsOfBuild, IsSameBuild};
+ghost use Rattle.worker.specs.Stored.{IsKept, KeepsOthers};
 ghost use Rattle.worker.specs.Storing.{HasPutAll, Remembers, StaysPut, StaysRemembered, WerePut};
 ghost use Rattle.worker.specs.Calls.{IsStartable};
 ghost use Rattle.worker.specs.Outcomes.{YieldsFor, YieldsNoMore};
 ghost use Rattle.worker.specs.Values.{LayoutValue, EndValue, StartsNone, StartsOne};
 ghost use Rattle.tree.specs.Folded.{items_of};
 ghost use Rattle.worker.specs.Going.{CallsForJob, CallsForStart, IsJobIn, kept_job, IsBegun};
-ghost use Rattle.worker.specs.Going.{HasNoneToTake, IsLaunched};
+ghost use Rattle.worker.specs.Going.{HasNoneToTake, IsForJob, IsLaunched};
 ghost use Rattle.worker.specs.Stopping.{StopsChild, StopsBeginning};
 ghost use Rattle.worker.specs.Stopped.{IsOfChild, StopsStep};
 
@@ -36,6 +38,8 @@ fn start_child<A: Allocator + Copy, S: BlobSink<A>, N: Runner<A>>(
     job: &Job<A>,
 ) -> Result<N::Job, Refusal<A>>
     ensures kept { IsKept (S.tells sink.old) (S.tells sink.new) }
+    // The store is only asked.
+    ensures only { Grows (S.tells sink.old).blobs (S.tells sink.new).blobs }
     ensures owed { IfOk result (λ child. (l : LayoutValue)
         × IsLayoutOf (S.tells sink.new).blobs job.now.action.input l
         × ((e : EndValue) → N.may_give child e
@@ -78,6 +82,8 @@ fn launch<A: Allocator + Copy, S: BlobSink<A>, N: Runner<A>>(
     ensures once { OnOk result (CallsForJob job.now put.old (S.tells sink.new) engine.old
         engine.new (S.tells sink.old).calls (S.tells sink.new).calls) }
     ensures kept { IsKept (S.tells sink.old) (S.tells sink.new) }
+    ensures only { KeepsOthers (IsForJob job.now (S.tells sink.new).blobs)
+        (S.tells sink.old).blobs (S.tells sink.new).blobs }
     ensures launched { OnOk result (IsLaunched (N.yields runner.old) N.may_give
         (N.starts runner.old) (N.starts runner.new) (S.tells sink.old) (S.tells sink.new)
         job.now.id (kept_job job.now) engine.old engine.new children.old.items
@@ -130,6 +136,9 @@ pub(crate) fn begin<A: Allocator + Copy, S: BlobSink<A>, N: Runner<A>>(
     ensures knows { Remembers remembered.new (S.tells sink.new).blobs }
     ensures stays { StaysRemembered remembered.old remembered.new }
     ensures kept { IsKept (S.tells sink.old) (S.tells sink.new) }
+    ensures only { KeepsOthers (IsOfBuild A (N.yields runner.old) (S.tells sink.new).blobs
+        engine.new) (S.tells sink.old).blobs (S.tells sink.new).blobs }
+    ensures build { IsSameBuild engine.old engine.new }
     ensures begun { OnOk result (IsBegun A (N.yields runner.old) N.may_give
         (N.starts runner.old) (N.starts runner.new) (S.tells sink.old) (S.tells sink.new) step
         engine.old engine.new children.old.items children.new.items) }

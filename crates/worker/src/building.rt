@@ -9,7 +9,8 @@ ghost use Rattle.worker.specs.Storing.{Remembers, StaysRemembered, StoresSteps};
 ghost use Rattle.worker.specs.Calls.{running, IsBuiltWith};
 ghost use Rattle.worker.specs.Going.{AreJobsOf, IsJobOf, IsGoing};
 ghost use Rattle.worker.specs.Stopped.{EndsBuild, LosesRest};
-ghost use Rattle.worker.specs.Stored.{HasNoneFinished, IsStored};
+ghost use Rattle.worker.specs.Steps.{IsOfBuild};
+ghost use Rattle.worker.specs.Stored.{HasNoneFinished, IsStored, KeepsOthers};
 
 use crate::child::Child;
 use crate::counting::{before_turn, first_progress, progress_after};
@@ -79,6 +80,8 @@ fn take_turns<A: Allocator + Copy, S: BlobSink<A>, N: Runner<A>, W: Watcher>(
     ensures stored { OnOk result (StoresSteps (S.tells sink.old) engine.old
         → StoresSteps (S.tells sink.new) engine.new) }
     ensures right { KeepsRight (S.tells sink.old).blobs (S.tells sink.new).blobs }
+    ensures blobs { KeepsOthers (IsOfBuild A (N.yields runner.old) (S.tells sink.new).blobs
+        engine.new) (S.tells sink.old).blobs (S.tells sink.new).blobs }
     ensures stays { StaysRemembered remembered.old remembered.new }
     ensures alive { N.alive runner.new ≡ N.alive runner.old + length children.new.items }
     ensures fetched { Counts (S.tells sink.old).failures (S.tells sink.new).failures
@@ -131,6 +134,9 @@ pub fn build<A: Allocator + Copy, S: BlobSink<A>, N: Runner<A>, W: Watcher>(
     // Each child that was started was waited for.
     ensures alive { N.alive runner.new ≡ N.alive runner.old }
     ensures right { KeepsRight (S.tells sink.old).blobs (S.tells sink.new).blobs }
+    // What stands under the digest of no blob that the build has to put stays.
+    ensures blobs { KeepsOthers (IsOfBuild A (N.yields runner.old) (S.tells sink.new).blobs
+        engine.new) (S.tells sink.old).blobs (S.tells sink.new).blobs }
     // The store failed exactly where that is told, and the runner at least there. Other children
     // that are waited for after a refusal may fail too: there is none where `jobs` is 1.
     ensures fetched { Counts (S.tells sink.old).failures (S.tells sink.new).failures

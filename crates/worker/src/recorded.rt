@@ -1,6 +1,7 @@
 ghost use Rattle.std.specs.Prelude.{◌≡◌, ◌↔◌, ◌+◌, ◌-◌, ◌<◌, Some, None, IsTrue, IfSome, IfErr};
 ghost use Rattle.std.specs.Prelude.{IfOk, Contains};
 ghost use Rattle.std.specs.Result.{IsErrAnd};
+ghost use Rattle.blob_source.specs.Source.{Grows};
 ghost use Rattle.worker.specs.Counted.{Counts, IsFetch};
 ghost use Rattle.worker.specs.Stored.{IsKept};
 ghost use Rattle.worker.specs.Outcomes.{IsHeld, CanBeTaken};
@@ -41,13 +42,15 @@ fn lists_all<A: Allocator>(command: &Command<A>, outputs: &[(Path<A>, Output<A>)
 }
 
 /// The outcome that the store has for a job's action, if it is one that a build takes.
-#[tactic(auto, using(crate::proofs::Untaken::asked_once))]
+#[tactic(auto, using(crate::proofs::Untaken::asked_once, crate::proofs::Keeping::result_grows))]
 pub(crate) fn recorded_outcome<A: Allocator + Copy, S: BlobSink<A>>(
     alloc: A,
     sink: &mut S,
     job: &Job<A>,
 ) -> Result<Option<Outcome<A>>, Refusal<A>>
     ensures kept { IsKept (S.tells sink.old) (S.tells sink.new) }
+    // The store is only asked.
+    ensures only { Grows (S.tells sink.old).blobs (S.tells sink.new).blobs }
     ensures held { IfOk result (λ found.
         IfSome found (IsHeld (S.tells sink.new) job.now.digest)) }
     ensures fits { IfOk result (λ found. IfSome found (CanBeTaken job.now.command)) }

@@ -14,7 +14,9 @@ ghost use Rattle.worker.specs.Calls.{came_of};
 ghost use Rattle.worker.specs.Going.{AreJobsOf, IsJobOf, IsTurn, IsGoing, turns_left};
 ghost use Rattle.worker.specs.Going.{AreOneTurn, FinishesOnly, GoesOnBy, is_start, step_of};
 ghost use Rattle.worker.specs.Going.{taken_in};
+ghost use Rattle.worker.specs.Steps.{IsOfBuild, IsSameBuild};
 ghost use Rattle.worker.specs.Stopped.{IsRefusedBuild};
+ghost use Rattle.worker.specs.Stored.{KeepsOthers};
 
 use crate::beginning::begin;
 use crate::child::Child;
@@ -120,6 +122,13 @@ pub(crate) fn take_turn<A: Allocator + Copy, S: BlobSink<A>, N: Runner<A>>(
         engine.old children.old.items
         → StoresSteps (S.tells sink.old) engine.old
         → StoresSteps (S.tells sink.new) engine.new) }
+    ensures build { IsSameBuild engine.old engine.new }
+    ensures blobs { (entry : N) (before : Telling) (most : ℕ) (first : EngineValue)
+        → YieldsNoMore (N.yields runner.old) (N.yields entry)
+        → IsGoing A (N.yields entry) N.may_give (N.starts entry) (N.starts runner.old)
+        before (S.tells sink.old) most first engine.old children.old.items
+        → KeepsOthers (IsOfBuild A (N.yields entry) (S.tells sink.new).blobs engine.new)
+        (S.tells sink.old).blobs (S.tells sink.new).blobs }
     ensures only { OnOk result
         (FinishesOnly (step_of turn children.old.items) engine.old engine.new) }
     // Where it is refused, fewer children than may run at once are left.

@@ -1,5 +1,5 @@
 use Rattle.worker.proofs.Keeping.{kept_trans, kept_some}
-use Rattle.std.proofs.Common.{◌≡◌, ◌∙◌, Some, refl, ap, subst, sym, inl, inr}
+use Rattle.std.proofs.Common.{◌≡◌, ◌∙◌, Some, None, set, refl, ap, subst, sym, inl, inr}
 use Rattle.tree.specs.Memo.{WasRefused}
 use Rattle.runs.specs.Calls.{without_job}
 use Rattle.runs.specs.Engine.{EngineValue, job_in}
@@ -9,6 +9,9 @@ use Rattle.worker.proofs.Started.{started_in, started_value, was_started}
 use Rattle.std.specs.Prelude.{slice_get}
 use Rattle.worker.proofs.Telling.{held_kept}
 use Rattle.worker.proofs.Goes.{begun}
+use Rattle.worker.specs.Steps.{IsSameBuild}
+use Rattle.worker.proofs.Acts.{only_jobs, same_build, same_then}
+use Rattle.worker.proofs.Blobs.{launched_same, of_job_started, others_grown, others_more, others_then, started_same}
 use Rattle.worker.proofs.Knowing.{known_of, knows_still, knows_started}
 use Rattle.worker.proofs.PutOnce.{put_still}
 use Rattle.blob_source.proofs.Asking.{ok_no_error}
@@ -125,3 +128,25 @@ returns-clause-fetched g c = counts_from (c.in-Ok.ensures.called.unfailed ok_no_
 
 pub returns-clause-device : goal.returns-clause-device
 returns-clause-device g c = c.in-Err-launch.ensures.device
+
+pub returns-in-Err-clause-only : goal.returns-in-Err-clause-only
+returns-in-Err-clause-only g c = others_grown c.start.ensures.called.asked.blobs
+
+pub returns-in-Ok-launch-clause-build : goal.returns-in-Ok-launch-clause-build
+returns-in-Ok-launch-clause-build g c = same_then (started_same c.in-Ok.ensures.started) (launched_same c.in-Ok-launch.ensures.launched)
+
+pub returns-in-Ok-launch-clause-only : goal.returns-in-Ok-launch-clause-only
+returns-in-Ok-launch-clause-only g c = others_then (others_grown c.start.ensures.called.asked.blobs)
+    (others_more (of_job_started c.in-Ok.ensures.started c.launch.ensures.kept.blobs (returns-in-Ok-launch-clause-build g c)) c.launch.ensures.only)
+
+pub returns-in-Err-clause-build : goal.returns-in-Err-clause-build
+returns-in-Err-clause-build g c = subst (IsSameBuild c.args.engine.now) (sym c.in-Err.ensures.unchanged) (same_build c.args.engine.now)
+
+pub returns-clause-build : goal.returns-clause-build
+returns-clause-build g c =
+    let mid = c.start.new.self in
+    same_then (started_same c.in-Ok.ensures.started) (only_jobs mid _ (set mid.jobs c.in-Ok.job.id None) (c.lose.ensures ∙ ap (without_job c.in-Ok.job.id) c.in-Err-launch.ensures.unchanged))
+
+pub returns-clause-only : goal.returns-clause-only
+returns-clause-only g c = others_then (others_grown c.start.ensures.called.asked.blobs)
+    (others_more (of_job_started c.in-Ok.ensures.started c.launch.ensures.kept.blobs (returns-clause-build g c)) c.launch.ensures.only)

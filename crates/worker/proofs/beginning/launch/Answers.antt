@@ -1,13 +1,13 @@
 use Rattle.std.proofs.lemmas.Result.{err_from_is_err_and}
 use Rattle.std.proofs.Common.{arith, length, ◌+◌, refl, sym, subst, inl, inr, ap, ◌∙◌, ◌++◌, ◌∷◌, []}
-use Rattle.worker.specs.Storing.{tree_blobs}
 use Rattle.blob_source.specs.Sink.{HasRight}
 use Rattle.std.specs.Prelude.{IfSome}
 use Rattle.worker.specs.declared.child.Child.{Child}
-use Rattle.worker.specs.Outcomes.{IsHeld, CanBeTakenFor, CanBeTaken}
+use Rattle.worker.specs.Outcomes.{IsHeld, CanBeTakenFor, CanBeTaken, tree_blobs}
 use Rattle.worker.specs.Going.{kept_job}
 use Rattle.worker.proofs.Stopping.{store_stops, store_no_child, job_begun, child_stops}
-use Rattle.worker.proofs.Telling.{held_kept}
+use Rattle.worker.proofs.Telling.{held_kept, recorded_still}
+use Rattle.worker.proofs.Blobs.{others_grown, others_input, others_recorded, others_then}
 use Rattle.worker.proofs.Keeping.{kept_trans, right_still}
 use Rattle.worker.proofs.PutOnce.{put_still}
 use Rattle.worker.specs.Counted.{IsDevice, IsFetch}
@@ -221,3 +221,39 @@ returns-clause-once g c =
           let laid = owed.4 in
           omega (arith, put, asked, laid);
     }
+
+pub returns-in_err-put_input-clause-only : goal.returns-in_err-put_input-clause-only
+returns-in_err-put_input-clause-only g c = others_input c.args.job.now c.put_input.ensures.only
+
+pub returns-in_err-outcome-clause-only : goal.returns-in_err-outcome-clause-only
+returns-in_err-outcome-clause-only g c = others_then (others_input c.args.job.now c.put_input.ensures.only) (others_grown c.recorded_outcome.ensures.only)
+
+pub returns-in_err-put_trees-clause-only : goal.returns-in_err-put_trees-clause-only
+returns-in_err-put_trees-clause-only g c =
+    let t = g.S.BlobSource.tells c.recorded_outcome.new.sink in
+    let held : IsHeld t c.args.job.now.digest c.in-Some.outcome = subst (λ o. IfSome o (IsHeld t c.args.job.now.digest)) c.in-Some.is c.in_ok-outcome.ensures.held in
+    others_then (others_then (others_input c.args.job.now c.put_input.ensures.only) (others_grown c.recorded_outcome.ensures.only))
+    (others_recorded c.args.job.now held.result c.in-Some.outcome (recorded_still c.put_trees.ensures.kept.blobs held.result c.in-Some.outcome held.recorded) c.put_trees.ensures.only)
+
+pub returns-in_err-finish-clause-only : goal.returns-in_err-finish-clause-only
+returns-in_err-finish-clause-only g c =
+    let t = g.S.BlobSource.tells c.recorded_outcome.new.sink in
+    let held : IsHeld t c.args.job.now.digest c.in-Some.outcome = subst (λ o. IfSome o (IsHeld t c.args.job.now.digest)) c.in-Some.is c.in_ok-outcome.ensures.held in
+    others_then (others_then (others_input c.args.job.now c.put_input.ensures.only) (others_grown c.recorded_outcome.ensures.only))
+    (others_recorded c.args.job.now held.result c.in-Some.outcome (recorded_still c.put_trees.ensures.kept.blobs held.result c.in-Some.outcome held.recorded) c.put_trees.ensures.only)
+
+pub returns-in-Some-clause-only : goal.returns-in-Some-clause-only
+returns-in-Some-clause-only g c =
+    let t = g.S.BlobSource.tells c.recorded_outcome.new.sink in
+    let held : IsHeld t c.args.job.now.digest c.in-Some.outcome = subst (λ o. IfSome o (IsHeld t c.args.job.now.digest)) c.in-Some.is c.in_ok-outcome.ensures.held in
+    others_then (others_then (others_input c.args.job.now c.put_input.ensures.only) (others_grown c.recorded_outcome.ensures.only))
+    (others_recorded c.args.job.now held.result c.in-Some.outcome (recorded_still c.put_trees.ensures.kept.blobs held.result c.in-Some.outcome held.recorded) c.put_trees.ensures.only)
+
+pub returns-in_err-reserve-clause-only : goal.returns-in_err-reserve-clause-only
+returns-in_err-reserve-clause-only g c = others_then (others_input c.args.job.now c.put_input.ensures.only) (others_grown c.recorded_outcome.ensures.only)
+
+pub returns-in_err-child-clause-only : goal.returns-in_err-child-clause-only
+returns-in_err-child-clause-only g c = others_then (others_then (others_input c.args.job.now c.put_input.ensures.only) (others_grown c.recorded_outcome.ensures.only)) (others_grown c.start_child.ensures.only)
+
+pub returns-clause-only : goal.returns-clause-only
+returns-clause-only g c = others_then (others_then (others_input c.args.job.now c.put_input.ensures.only) (others_grown c.recorded_outcome.ensures.only)) (others_grown c.start_child.ensures.only)

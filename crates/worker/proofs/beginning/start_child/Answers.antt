@@ -48,3 +48,9 @@ returns-clause-fetched g c = counts_same (λ f. f) (c.in_ok-laid.ensures.called.
 
 pub returns-clause-device : goal.returns-clause-device
 returns-clause-device g c = counts_same (λ f. f) (c.in_ok-start.ensures.counted.unfailed (λ f. f))
+
+pub returns-in_err-start-clause-only : goal.returns-in_err-start-clause-only
+returns-in_err-start-clause-only g c = c.layout.ensures.called.asked.blobs
+
+pub returns-clause-only : goal.returns-clause-only
+returns-clause-only g c = c.layout.ensures.called.asked.blobs

@@ -1,7 +1,10 @@
 use Rattle.worker.specs.Calls.{lost}
 use Rattle.worker.specs.Watching.{FinishInOrder, jobs_after}
-use Rattle.worker.proofs.Goes.{finish_join, lost_in_order, own_jobs, puts_none}
+use Rattle.worker.proofs.Goes.{own_jobs, puts_none}
+use Rattle.worker.proofs.Joins.{finish_join, lost_in_order}
 use Rattle.worker.proofs.Heard.{watched_moved}
+use Rattle.worker.proofs.Acts.{calls_same}
+use Rattle.worker.proofs.Blobs.{of_build_moved, others_more}
 use Rattle.worker.proofs.Keeping.{kept_none}
 use Rattle.worker.proofs.Knowing.{knows_nothing}
 use Rattle.worker.proofs.PutOnce.{put_none}
@@ -13,11 +16,11 @@ use Rattle.worker.proofs.building.build.Goals as goal
 
 pub end_all-requires : goal.end_all-requires
 end_all-requires g c = record {
-  there = own_jobs g.row.A.Denot (g.N.Runner.yields c.args.runner.now) g.N.Runner.may_give (g.N.Runner.starts c.args.runner.now) (g.N.Runner.starts c.take_turns.new.runner) (g.S.BlobSource.tells c.args.sink.now) (g.S.BlobSource.tells c.take_turns.new.sink) c.args.jobs c.args.engine.now c.take_turns.new.engine c.take_turns.new.children.items c.take_turns.ensures.going.0;
+  there = own_jobs c.take_turns.ensures.going.0;
 }
 
 pub returns-in-Ok-clause-led : goal.returns-in-Ok-clause-led
-returns-in-Ok-clause-led g c = let going = c.in-Ok.ensures.going in let ends = going.1 in (going.0.led, record { whole = ends.whole; turns = ends.turns; all = ends.all; refused = tt; in_order = ends.in_order; put = ends.put; watched = ends.watched; up_to_date = ends.up_to_date })
+returns-in-Ok-clause-led g c = let going = c.in-Ok.ensures.going in let ends = going.1 in (going.0.led, record { whole = ends.whole; turns = ends.turns; all = ends.all; refused = tt; in_order = ends.in_order; put = ends.put; watched = ends.watched })
 
 pub returns-clause-led : goal.returns-clause-led
 returns-clause-led g c =
@@ -35,7 +38,6 @@ returns-clause-led g c =
         in_order = subst (FinishInOrder []) (sym lost_then.calls) (finish_join [] going.0.led.built.led.calls (map lost lost_then.ids) going.1.in_order (lost_in_order (jobs_after [] going.0.led.built.led.calls) lost_then.ids));
         put = going.1.put;
         watched = watched_moved g.row.A.Denot (g.N.Runner.yields c.args.runner.now) c.args.jobs c.args.engine.now t t going.0.led.built.led.calls rest.0.built.led.calls (map lost lost_then.ids) lost_then.calls (puts_none t t (map lost lost_then.ids) kept_none) (λ e b at right. at) going.1.watched;
-        up_to_date = tt;
       },
     )
 
@@ -71,3 +73,13 @@ returns-clause-alone g c one =
     let few = c.in-Err.ensures.few in
     let still = c.end_all.ensures.none (no_child c.take_turns.new.children.items c.args.jobs one few) in
     subst (λ n. Counts (g.N.Runner.failures c.args.runner.now) n (IsDevice c.in-Err.error.refusal)) (sym still) c.in-Err.ensures.device
+
+pub returns-in-Ok-clause-blobs : goal.returns-in-Ok-clause-blobs
+returns-in-Ok-clause-blobs g c = c.take_turns.ensures.blobs
+
+pub returns-clause-blobs : goal.returns-clause-blobs
+returns-clause-blobs g c =
+    let t = g.S.BlobSource.tells c.take_turns.new.sink in
+    let yields = g.N.Runner.yields c.args.runner.now in
+    let rest = c.end_all.ensures.led c.args.runner.now (g.S.BlobSource.tells c.args.sink.now) t c.args.jobs c.args.engine.now c.in-Err.ensures.going.0 in
+    others_more (of_build_moved (λ l d p h. h) (λ e b at right. at) (calls_same g.row.A.Denot yields t c.args.jobs (map lost rest.1.ids) _ _ rest.1.leads)) c.take_turns.ensures.blobs

@@ -2,13 +2,15 @@ use Rattle.std.proofs.Common.{◌≡◌, ◌+◌, [], ◌++◌, append-nil, appe
 use Rattle.std.proofs.lemmas.Result.{err_from_is_err_and}
 use Rattle.worker.specs.Calls.{AreTurns, came_of}
 use Rattle.worker.specs.Going.{AreJobsOf, FinishesOnly, IsJobOf, IsGoing, is_start, taken_in}
-use Rattle.worker.specs.Watching.{IsProgressOf, taken_count}
+use Rattle.worker.specs.Watching.{IsProgress, IsProgressOf, IsWatched, taken_count, turns_in}
 use Rattle.worker.proofs.Keeping.{right_trans}
 use Rattle.worker.proofs.PutOnce.{remembers_none, remembers_then}
 use Rattle.worker.proofs.Complete.{all_finished}
-use Rattle.worker.proofs.Goes.{came_join, going_none, own_jobs, taken_join}
+use Rattle.worker.proofs.Blobs.{of_build_moved, others_grown, others_more, others_then}
+use Rattle.worker.proofs.Goes.{going_none, own_jobs}
+use Rattle.worker.proofs.Joins.{came_join, taken_join}
 use Rattle.worker.proofs.Stopping.{turns_then}
-use Rattle.worker.proofs.Heard.{IsHeard, heard_none, heard_more, watched_moved}
+use Rattle.worker.proofs.Heard.{heard_none, heard_more, watched_moved}
 use Rattle.worker.specs.Counted.{IsDevice, IsFetch}
 use Rattle.worker.proofs.Failures.{counts_same, counts_from, counts_exit}
 use Rattle.worker.proofs.building.take_turns.Goals as goal
@@ -18,7 +20,7 @@ loop-turn-init g c =
     let t = g.S.BlobSource.tells c.args.sink.now in
     record {
       going = subst (λ xs. (h : IsGoing g.row.A.Denot (g.N.Runner.yields c.args.runner.now) g.N.Runner.may_give (g.N.Runner.starts c.args.runner.now) (g.N.Runner.starts c.args.runner.now) t t c.args.jobs c.args.engine.now c.args.engine.now xs) × IsProgressOf h.led.built.led.calls c.args.engine.now c.first_progress-progress.result
-          × IsHeard g.row.A.Denot (g.N.Runner.yields c.args.runner.now) c.args.jobs c.args.engine.now t c.args.engine.now h.led.built.led.calls (g.W.Watcher.told c.args.watcher.now) (g.W.Watcher.told c.args.watcher.now)
+          × IsWatched (IsProgress g.row.A.Denot (g.N.Runner.yields c.args.runner.now) t c.args.jobs c.args.engine.now h.led.built.led.calls) (turns_in h.led.built.led.calls) (g.W.Watcher.told c.args.watcher.now) (g.W.Watcher.told c.args.watcher.now)
           × AreTurns h.led.built.led.calls × (t.puts ≡ t.puts ++ came_of h.led.built.led.calls)) (sym c.requires.none) (
             going_none g.row.A.Denot g.row.N-Job.Denot (g.N.Runner.yields c.args.runner.now) g.N.Runner.may_give (g.N.Runner.starts c.args.runner.now) t c.args.jobs c.args.engine.now c.requires.idle,
             c.first_progress-progress.ensures,
@@ -28,6 +30,7 @@ loop-turn-init g c =
           );
       within = λ l d p h. h;
       right = λ e b at right. at;
+      blobs = others_grown (λ e b at. at);
       stored = λ h. h;
       fetched = refl;
       device = refl;
@@ -39,18 +42,17 @@ loop-turn-init g c =
 pub take_turn-requires : goal.take_turn-requires
 take_turn-requires g c = record {
   can = (c.args.jobs, c.in-Some.ensures.turn);
-  there = own_jobs g.row.A.Denot (g.N.Runner.yields c.args.runner.now) g.N.Runner.may_give (g.N.Runner.starts c.args.runner.now) (g.N.Runner.starts c.loop-turn.runner) (g.S.BlobSource.tells c.args.sink.now) (g.S.BlobSource.tells c.loop-turn.sink) c.args.jobs c.args.engine.now c.loop-turn.engine c.loop-turn.children.items c.loop-turn.invariant.going.0;
+  there = own_jobs c.loop-turn.invariant.going.0;
   knows = c.loop-turn.invariant.knows;
   alive = let all = c.loop-turn.invariant.alive in omega (arith, all);
 }
 
 pub before_turn-before-requires-clause-there : goal.before_turn-before-requires-clause-there
-before_turn-before-requires-clause-there g c = own_jobs g.row.A.Denot (g.N.Runner.yields c.args.runner.now) g.N.Runner.may_give (g.N.Runner.starts c.args.runner.now) (g.N.Runner.starts c.loop-turn.runner) (g.S.BlobSource.tells c.args.sink.now) (g.S.BlobSource.tells c.loop-turn.sink) c.args.jobs c.args.engine.now c.loop-turn.engine c.loop-turn.children.items c.loop-turn.invariant.going.0
+before_turn-before-requires-clause-there g c = own_jobs c.loop-turn.invariant.going.0
 
 pub progress_after-progress-requires-clause-there : goal.progress_after-progress-requires-clause-there
 progress_after-progress-requires-clause-there g c =
-    own_jobs g.row.A.Denot (g.N.Runner.yields c.args.runner.now) g.N.Runner.may_give (g.N.Runner.starts c.args.runner.now) (g.N.Runner.starts c.take_turn.new.runner) (g.S.BlobSource.tells c.args.sink.now) (g.S.BlobSource.tells c.take_turn.new.sink) c.args.jobs c.args.engine.now c.take_turn.new.engine c.take_turn.new.children.items
-    (c.take_turn.ensures.going c.args.runner.now (g.S.BlobSource.tells c.args.sink.now) c.args.jobs c.args.engine.now c.loop-turn.invariant.within c.in-Some.ensures.turn c.loop-turn.invariant.going.0).0.going
+    own_jobs (c.take_turn.ensures.going c.args.runner.now (g.S.BlobSource.tells c.args.sink.now) c.args.jobs c.args.engine.now c.loop-turn.invariant.within c.in-Some.ensures.turn c.loop-turn.invariant.going.0).0.going
 
 pub loop-turn-preserved : goal.loop-turn-preserved
 loop-turn-preserved g c =
@@ -70,12 +72,13 @@ loop-turn-preserved g c =
     let whole = subst AreTurns (sym on.are) (turns_then calls on.more was.3 turn.3.0.0) in
     let before = (g.S.BlobSource.tells c.args.sink.now).puts in
     let put = turn.3.1 ∙ ap (λ ds. ds ++ came_of on.more) was.4 ∙ append_assoc before (came_of calls) (came_of on.more) ∙ ap (λ ds. before ++ ds) (sym (came_join calls on.more) ∙ ap came_of (sym on.are)) in
-    let heard = heard_more g.row.A.Denot (g.N.Runner.yields c.args.runner.now) c.args.jobs c.args.engine.now (g.S.BlobSource.tells c.loop-turn.sink) (g.S.BlobSource.tells c.take_turn.new.sink) c.loop-turn.engine new calls on.more
+    let heard = heard_more g.row.A.Denot (g.N.Runner.yields c.args.runner.now) c.args.jobs c.args.engine.now (g.S.BlobSource.tells c.loop-turn.sink) (g.S.BlobSource.tells c.take_turn.new.sink) new calls on.more
     (told c.args.watcher.now) (told c.loop-turn.watcher) (told c.watch.new.self) c.progress_after-progress.result was.2 turn.3.0.1 turn.2 c.take_turn.ensures.right c.watch.ensures going.led.built.led on.are whole is in
     record {
       going = (going, is, heard, whole, put);
       within = λ l d p h. c.loop-turn.invariant.within l d p (c.take_turn.ensures.within l d p h);
       right = right_trans c.loop-turn.invariant.right c.take_turn.ensures.right;
+      blobs = others_then (others_more (of_build_moved (λ l d p h. h) c.take_turn.ensures.right c.take_turn.ensures.build) c.loop-turn.invariant.blobs) (c.take_turn.ensures.blobs c.args.runner.now (g.S.BlobSource.tells c.args.sink.now) c.args.jobs c.args.engine.now c.loop-turn.invariant.within was.0);
       stored = λ h. c.in_ok-take_turn.ensures.stored c.args.runner.now (g.S.BlobSource.tells c.args.sink.now) c.args.jobs c.args.engine.now c.loop-turn.invariant.going.0 (c.loop-turn.invariant.stored h);
       fetched = c.in_ok-take_turn.ensures.fetched.unfailed (λ f. f) ∙ c.loop-turn.invariant.fetched;
       device = c.in_ok-take_turn.ensures.device.unfailed (λ f. f) ∙ c.loop-turn.invariant.device;
@@ -89,11 +92,11 @@ returns-in_err-take_turn-clause-going g c =
     let p = err_from_is_err_and c.from_residual.result c.from_residual.ensures.1 in
     let was = c.loop-turn.invariant.going in
     let on = c.in_err-take_turn.ensures.going c.args.runner.now (g.S.BlobSource.tells c.args.sink.now) c.args.jobs c.args.engine.now c.loop-turn.invariant.within c.in-Some.ensures.turn was.0 in
-    let heard = watched_moved g.row.A.Denot (g.N.Runner.yields c.args.runner.now) c.args.jobs c.args.engine.now (g.S.BlobSource.tells c.loop-turn.sink) (g.S.BlobSource.tells c.take_turn.new.sink) was.0.led.built.led.calls on.0.going.led.built.led.calls on.0.more on.0.are on.2 c.take_turn.ensures.right was.2.0 in
-    rw (p.1, p.2) (on.0.going, record { whole = was.0.led.built.led.calls; turns = was.3; all = tt; refused = on.1; in_order = on.0.going.in_order; put = (on.2.put, on.2.are ∙ ap (λ ds. ds ++ on.2.put) was.4); watched = heard; up_to_date = tt })
+    let heard = watched_moved g.row.A.Denot (g.N.Runner.yields c.args.runner.now) c.args.jobs c.args.engine.now (g.S.BlobSource.tells c.loop-turn.sink) (g.S.BlobSource.tells c.take_turn.new.sink) was.0.led.built.led.calls on.0.going.led.built.led.calls on.0.more on.0.are on.2 c.take_turn.ensures.right was.2 in
+    rw (p.1, p.2) (on.0.going, record { whole = was.0.led.built.led.calls; turns = was.3; all = tt; refused = on.1; in_order = on.0.going.in_order; put = (on.2.put, on.2.are ∙ ap (λ ds. ds ++ on.2.put) was.4); watched = heard })
 
 pub returns-clause-going : goal.returns-clause-going
-returns-clause-going g c = let was = c.loop-turn.invariant.going in (was.0, record { whole = was.0.led.built.led.calls; turns = was.3; all = refl; refused = tt; in_order = was.0.in_order; put = ([], was.4 ∙ sym (append-nil _)); watched = was.2.0; up_to_date = was.2.1 })
+returns-clause-going g c = let was = c.loop-turn.invariant.going in (was.0, record { whole = was.0.led.built.led.calls; turns = was.3; all = refl; refused = tt; in_order = was.0.in_order; put = ([], was.4 ∙ sym (append-nil _)); watched = was.2 })
 
 pub returns-in_err-take_turn-clause-right : goal.returns-in_err-take_turn-clause-right
 returns-in_err-take_turn-clause-right g c = right_trans c.loop-turn.invariant.right c.take_turn.ensures.right
@@ -104,7 +107,7 @@ returns-in_err-take_turn-clause-stays g c = remembers_then c.loop-turn.invariant
 pub returns-clause-done : goal.returns-clause-done
 returns-clause-done g c =
     let empty = c.next_turn.ensures.none_runs c.in_default.is in
-    let jobs = own_jobs g.row.A.Denot (g.N.Runner.yields c.args.runner.now) g.N.Runner.may_give (g.N.Runner.starts c.args.runner.now) (g.N.Runner.starts c.loop-turn.runner) (g.S.BlobSource.tells c.args.sink.now) (g.S.BlobSource.tells c.loop-turn.sink) c.args.jobs c.args.engine.now c.loop-turn.engine c.loop-turn.children.items c.loop-turn.invariant.going.0 in
+    let jobs = own_jobs c.loop-turn.invariant.going.0 in
     all_finished c.loop-turn.engine c.next_turn.ensures.planned c.next_turn.ensures.valid (subst (AreJobsOf IsJobOf c.loop-turn.engine.jobs) empty jobs) (c.next_turn.ensures.none_starts c.in_default.is)
 
 pub returns-in_err-take_turn-clause-fetched : goal.returns-in_err-take_turn-clause-fetched
@@ -123,3 +126,10 @@ pub returns-in_err-take_turn-clause-few : goal.returns-in_err-take_turn-clause-f
 returns-in_err-take_turn-clause-few g c =
     let p = err_from_is_err_and c.from_residual.result c.from_residual.ensures.1 in
     rw p.1 (c.in_err-take_turn.ensures.room c.args.jobs c.in-Some.ensures.turn c.loop-turn.invariant.going.0.few)
+
+pub returns-in_err-take_turn-clause-blobs : goal.returns-in_err-take_turn-clause-blobs
+returns-in_err-take_turn-clause-blobs g c = others_then (others_more (of_build_moved (λ l d p h. h) c.take_turn.ensures.right c.take_turn.ensures.build) c.loop-turn.invariant.blobs)
+    (c.take_turn.ensures.blobs c.args.runner.now (g.S.BlobSource.tells c.args.sink.now) c.args.jobs c.args.engine.now c.loop-turn.invariant.within c.loop-turn.invariant.going.0)
+
+pub returns-clause-blobs : goal.returns-clause-blobs
+returns-clause-blobs g c = c.loop-turn.invariant.blobs

@@ -3,9 +3,8 @@ use Rattle.std.proofs.lemmas.Result.{err_from_is_err_and}
 use Rattle.worker.proofs.Stopping.{end_comes}
 use Rattle.worker.specs.Values.{ProducedValue}
 use Rattle.tree.specs.Folded.{items_of}
-use Rattle.worker.specs.Outcomes.{HasAllRight}
+use Rattle.worker.specs.Outcomes.{HasAllRight, tree_blobs}
 use Rattle.worker.specs.Stored.{PutsNoOther}
-use Rattle.worker.specs.Storing.{tree_blobs}
 use Rattle.worker.proofs.Keeping.{kept_trans, all_right_still, only_behind, only_front, only_then}
 use Rattle.std.proofs.Common.{◌∙◌}
 use Rattle.worker.specs.Counted.{IsDevice, IsFetch}

@@ -7,9 +7,8 @@ use Rattle.blob_source.specs.Sink.{HasRight}
 use Rattle.actions.specs.Outcome.{output_value}
 use Rattle.actions.specs.declared.outcome.Output.TheVariants as outputs
 use Rattle.worker.specs.Stored.{IsKept, PutsNoOther}
-use Rattle.worker.specs.Outcomes.{directories_of, HasTree}
+use Rattle.worker.specs.Outcomes.{directories_of, HasTree, tree_blobs}
 use Rattle.worker.proofs.Keeping.{kept_none, kept_trans, kept_blob, right_put, all_right_still, fetch_fault, only_one, only_then}
-use Rattle.worker.specs.Storing.{tree_blobs}
 use Rattle.worker.proofs.PutOnce.{call_counts}
 use Rattle.worker.proofs.Storing.{trees_taken, no_tree, tree_blobs_more, tree_so}
 use Rattle.blob_source.proofs.Asking.{ok_no_error}

@@ -2,8 +2,7 @@ use Rattle.std.proofs.Common.{◌≡◌, ◌+◌, ◌≤◌, length, take}
 use Rattle.std.specs.List.{AllByRecursion}
 use Rattle.actions.specs.Outcome.{outputs_in}
 use Rattle.worker.specs.Stored.{IsKept, PutsNoOther}
-use Rattle.worker.specs.Storing.{tree_blobs}
-use Rattle.worker.specs.Outcomes.{HasTree}
+use Rattle.worker.specs.Outcomes.{HasTree, tree_blobs}
 use Rattle.worker.proofs.putting.put_trees.Given as goal
 
 abbrev pub invariant-loop-output : goal.invariant-loop-output

@@ -1,7 +1,7 @@
 use Rattle.std.proofs.Common.{◌≡◌, true, false, ap, sym, ◌∙◌, subst}
 use Rattle.action_messages.specs.Reads.{Reads}
 use Rattle.blob_source.specs.Source.{bytes_of}
-use Rattle.worker.proofs.Keeping.{kept_trans, kept_asks, kept_result}
+use Rattle.worker.proofs.Keeping.{kept_trans, kept_asks, kept_result, result_grows}
 use Rattle.std.specs.Prelude.{Err}
 use Rattle.blob_source.proofs.Asking.{ok_no_error}
 use Rattle.worker.proofs.Failures.{counts_as, counts_no, counts_from, counts_calls}
@@ -82,3 +82,18 @@ returns-in-Memory-error-clause-once g c = asked_trees c.args.job.now.digest c.re
 
 pub returns-clause-once : goal.returns-clause-once
 returns-clause-once g c = asked_trees c.args.job.now.digest c.result.ensures.called.asked.counts (g.S.BlobSource.tells c.recorded.new.source) c.in-Ok.made c.recorded.ensures.called.asked c.in_ok-bytes.ensures.told c.in-Some.is c.deref.ensures.value c.in-Ok.ensures.found
+
+pub returns-then-fits-clause-only : goal.returns-then-fits-clause-only
+returns-then-fits-clause-only g c e b at = c.recorded.ensures.called.asked.some.blobs e b (result_grows c.result.ensures.called e b at)
+
+pub returns-in-Ok-recorded-clause-only : goal.returns-in-Ok-recorded-clause-only
+returns-in-Ok-recorded-clause-only g c e b at = c.recorded.ensures.called.asked.some.blobs e b (result_grows c.result.ensures.called e b at)
+
+pub returns-in-Fetch-clause-only : goal.returns-in-Fetch-clause-only
+returns-in-Fetch-clause-only g c e b at = c.recorded.ensures.called.asked.some.blobs e b (result_grows c.result.ensures.called e b at)
+
+pub returns-in-Memory-error-clause-only : goal.returns-in-Memory-error-clause-only
+returns-in-Memory-error-clause-only g c e b at = c.recorded.ensures.called.asked.some.blobs e b (result_grows c.result.ensures.called e b at)
+
+pub returns-clause-only : goal.returns-clause-only
+returns-clause-only g c e b at = c.recorded.ensures.called.asked.some.blobs e b (result_grows c.result.ensures.called e b at)

@@ -8,6 +8,8 @@ use Rattle.worker.proofs.Stopping.{start_goes, finish_goes, start_room, finish_r
 use Rattle.worker.proofs.Lefts.{start_less, finish_less}
 use Rattle.worker.proofs.Counts.{start_only, finish_only}
 use Rattle.worker.proofs.PutOnce.{remembers_none, remembers_still}
+use Rattle.worker.proofs.Acts.{same_build}
+use Rattle.worker.proofs.Blobs.{finish_others, finish_same, of_build_moved, others_more}
 use Rattle.worker.proofs.turns.take_turn.Goals as goal
 
 pub returns-in-Start-clause-going : goal.returns-in-Start-clause-going
@@ -48,9 +50,7 @@ returns-in-Finish-clause-fewer g c =
     c.finish_first.result c.args.children.now.items c.finish_first.new.children.items c.finish_first.ensures.ended
 
 pub returns-in-Finish-clause-right : goal.returns-in-Finish-clause-right
-returns-in-Finish-clause-right g c =
-    finish_right g.N.Runner.may_give (g.S.BlobSource.tells c.args.sink.now) (g.S.BlobSource.tells c.finish_first.new.sink) c.args.engine.now c.finish_first.new.engine c.args.children.now.items c.finish_first.new.children.items
-    c.finish_first.result c.finish_first.ensures.ended (ended_of g.N.Runner.may_give (g.S.BlobSource.tells c.args.sink.now) (g.S.BlobSource.tells c.finish_first.new.sink) c.args.engine.now c.finish_first.new.engine c.args.children.now.items c.finish_first.new.children.items c.finish_first.result c.finish_first.ensures.stopped)
+returns-in-Finish-clause-right g c = finish_right g.N.Runner.may_give (g.S.BlobSource.tells c.args.sink.now) (g.S.BlobSource.tells c.finish_first.new.sink) c.args.engine.now c.finish_first.new.engine c.args.children.now.items c.finish_first.new.children.items c.finish_first.result c.finish_first.ensures.ended (ended_of g.N.Runner.may_give (g.S.BlobSource.tells c.args.sink.now) (g.S.BlobSource.tells c.finish_first.new.sink) c.args.engine.now c.finish_first.new.engine c.args.children.now.items c.finish_first.new.children.items c.finish_first.result c.finish_first.ensures.stopped)
 
 pub returns-in-Finish-clause-knows : goal.returns-in-Finish-clause-knows
 returns-in-Finish-clause-knows g c = remembers_still (returns-in-Finish-clause-right g c) c.requires.knows
@@ -95,3 +95,12 @@ returns-in-Finish-clause-room g c = finish_room c.finish_first.result _ c.args.e
 
 pub returns-in-Finish-clause-stays : goal.returns-in-Finish-clause-stays
 returns-in-Finish-clause-stays g c = remembers_none
+
+pub returns-in-Start-clause-blobs : goal.returns-in-Start-clause-blobs
+returns-in-Start-clause-blobs g c entry s most first within going = others_more (of_build_moved within (λ e b at right. at) (same_build c.begin.new.engine)) c.begin.ensures.only
+
+pub returns-in-Finish-clause-build : goal.returns-in-Finish-clause-build
+returns-in-Finish-clause-build g c = finish_same g.N.Runner.may_give (g.S.BlobSource.tells c.args.sink.now) (g.S.BlobSource.tells c.finish_first.new.sink) c.args.engine.now c.finish_first.new.engine c.args.children.now.items c.finish_first.new.children.items c.finish_first.result c.finish_first.ensures.ended (ended_of g.N.Runner.may_give (g.S.BlobSource.tells c.args.sink.now) (g.S.BlobSource.tells c.finish_first.new.sink) c.args.engine.now c.finish_first.new.engine c.args.children.now.items c.finish_first.new.children.items c.finish_first.result c.finish_first.ensures.stopped)
+
+pub returns-in-Finish-clause-blobs : goal.returns-in-Finish-clause-blobs
+returns-in-Finish-clause-blobs g c entry s most first within going = finish_others (g.S.BlobSource.tells c.finish_first.new.sink) going (returns-in-Finish-clause-right g c) (returns-in-Finish-clause-build g c) c.finish_first.ensures.only
