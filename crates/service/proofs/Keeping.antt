@@ -6,13 +6,13 @@ use Rattle.std.proofs.lemmas.Bool.Decides.{eqb_tells}
 use Rattle.std.proofs.lemmas.List.{append-nil}
 use Rattle.cache_server.specs.Cache.{CacheValue}
 use Rattle.cache_server.specs.History.{HistoryEntry, End}
-use Rattle.std.specs.Prelude.{Ok, Err, option_map, ⊤}
+use Rattle.std.specs.Prelude.{Ok, Err, if◌then◌else◌, option_map, ⊤}
 use Rattle.cache_server.specs.Server.{ServerValue, ServerStands, IsOpenAt, session_at}
 use Rattle.cache_server.specs.declared.error.ConnError.TheVariants.{Memory, ReadFault}
 use Rattle.service.specs.Sockets.{Cause, EndsAs, Failed, Finished, Shut, Silent, Stays, Why}
 use Rattle.service.specs.Talks.{entry_number, AreOfOthers, IsShut, IsReason, OrCutOff, HasEnded, AreBelow, ServesEach}
 use Rattle.service.specs.Talks as talks
-use Rattle.service.specs.Member.{MemberValue, TalksOn, MayEndNow, AreOf, HasMovedOn, IsLetGo, new_member, marked_by}
+use Rattle.service.specs.Member.{MemberValue, TalksOn, MayEndNow, AreOf, HasMovedOn, IsLetGo, in_queue, marked_by, new_member, roused, tells_of}
 use Rattle.service.specs.Together.{member_at, TalksOrEnded, KeepsTogether, GoesOnTogether, AreSame, AreSameButHeld, AreMarkedBy, OthersAreSame, MovesOnAt, MayEndAt, EntersAt, EndsAt, EndsIfAny}
 use Rattle.service.specs.declared.sockets.Ready.{Ready}
 use Rattle.service.proofs.Talking.{apart_from_own, holds_apart, ended_before, answered_apart, may_end, talks_as}
@@ -62,12 +62,32 @@ pub held_alike : {S : Type 0} (spoke : ℕ → S → List ℕ → List ℕ → T
 held_alike spoke now o p (inl same) = subst (λ q. Alike spoke o q) (sym same) (same_alike spoke o)
 held_alike spoke now o p (inr free) = let_go_alike spoke now o p free
 
-marked_alike : {S : Type 0} (spoke : ℕ → S → List ℕ → List ℕ → Type 0) (events : List Ready) (k : ℕ) (o : Option (MemberValue S)) → Alike spoke o (option_map (marked_by events k) o)
-marked_alike spoke events k None = tt
-marked_alike spoke events k (Some m) = (λ k read sent said. said, refl, refl)
+marked_alike : {S : Type 0} (spoke : ℕ → S → List ℕ → List ℕ → Type 0) (events : List Ready) (k : ℕ) (m n : MemberValue S) → Alike spoke (Some m) (Some n) → Alike spoke (Some m) (Some (marked_by events k n))
+marked_alike spoke [] k m n alike = alike
+marked_alike spoke (event ∷ events) k m n alike = marked_alike spoke events k m (if tells_of k event then in_queue (roused event n) else n) (by (tells_of k event))
+  where
+    by : (own : Bool) → Alike spoke (Some m) (Some (if own then in_queue (roused event n) else n))
+    by true = alike
+    by false = alike
+
+all_marked_alike : {S : Type 0} (spoke : ℕ → S → List ℕ → List ℕ → Type 0) (events : List Ready) (k : ℕ) (o : Option (MemberValue S)) → Alike spoke o (option_map (marked_by events k) o)
+all_marked_alike spoke events k None = tt
+all_marked_alike spoke events k (Some m) = marked_alike spoke events k m m (same_alike spoke (Some m))
 
 told_alike : {S : Type 0} (spoke : ℕ → S → List ℕ → List ℕ → Type 0) (events : List Ready) (k : ℕ) (o p : Option (MemberValue S)) → p ≡ option_map (marked_by events k) o → Alike spoke o p
-told_alike spoke events k o p told = subst (λ q. Alike spoke o q) (sym told) (marked_alike spoke events k o)
+told_alike spoke events k o p told = subst (λ q. Alike spoke o q) (sym told) (all_marked_alike spoke events k o)
+
+-- one of them is queued for a turn
+pub queued_alike : {S : Type 0} (spoke : ℕ → S → List ℕ → List ℕ → Type 0) (k : ℕ) (l m : List (ℕ × MemberValue S)) → member_at m k ≡ option_map in_queue (member_at l k) → OthersAreSame k l m → (j : ℕ) → Alike spoke (member_at l j) (member_at m j)
+queued_alike {S} spoke k l m at others j = by_test (eqb_tells j k)
+  where
+    own : (o : Option (MemberValue S)) → Alike spoke o (option_map in_queue o)
+    own None = tt
+    own (Some n) = same_alike spoke (Some n)
+
+    by_test : ((eqb j k ≡ true) × (j ≡ k)) ⊎ ((eqb j k ≡ false) × (j ≡ k → ⊥)) → Alike spoke (member_at l j) (member_at m j)
+    by_test (inl (t, e)) = subst (λ (i : ℕ). Alike spoke (member_at l i) (member_at m i)) (sym e) (subst (λ o. Alike spoke (member_at l k) o) (sym at) (own (member_at l k)))
+    by_test (inr (f, n)) = subst (λ o. Alike spoke (member_at l j) o) (sym (others j n)) (same_alike spoke (member_at l j))
 
 -- ---- why a connection may end
 
@@ -136,6 +156,10 @@ module _ {S : Type 0} (cut : Bool) (spoke : ℕ → S → List ℕ → List ℕ 
   -- which of them wait for others makes no difference
   pub keeps_but_held : (now : ℕ) (members members' : List (ℕ × MemberValue S)) (accepted : ℕ) (server : ServerValue) → AreSameButHeld spoke now members members' → GoesOnTogether cut spoke ended lost members accepted server members' accepted server
   keeps_but_held now members members' accepted server same = keeps_alike members members' accepted server (λ k. held_alike spoke now (member_at members k) (member_at members' k) (same.0 k))
+
+  -- nor does who is queued
+  pub keeps_queued : (k : ℕ) (members members' : List (ℕ × MemberValue S)) (accepted : ℕ) (server : ServerValue) → member_at members' k ≡ option_map in_queue (member_at members k) → OthersAreSame k members members' → GoesOnTogether cut spoke ended lost members accepted server members' accepted server
+  keeps_queued k members members' accepted server at others = keeps_alike members members' accepted server (queued_alike spoke k members members' at others)
 
   -- nor does what the system tells
   pub keeps_told : (events : List Ready) (members members' : List (ℕ × MemberValue S)) (accepted : ℕ) (server : ServerValue) → AreMarkedBy events members members' → GoesOnTogether cut spoke ended lost members accepted server members' accepted server
@@ -319,7 +343,7 @@ module _ {S : Type 0} (cut : Bool) (spoke : ℕ → S → List ℕ → List ℕ 
     fresh = λ j above. enters.others j (λ (e : j ≡ accepted). absurd (omega arith)) ∙ keeps.fresh j (omega arith);
   }
     where
-      talks_on : TalksOn spoke prefix opening history keeps.entries accepted (new_member stream now)
+      talks_on : TalksOn spoke prefix opening history keeps.entries accepted (in_queue (new_member stream now))
       talks_on = record {
         read = [];
         sent = [];

@@ -9,10 +9,10 @@ use Rattle.std.specs.declared.cmp.Ordering.{Ordering}
 use Rattle.cache_server.specs.Server.{ServerValue}
 use Rattle.service.specs.Sockets.{Cause, Why, GivesPlace, KeepsPlaces, TakesPlace}
 use Rattle.std.specs.Prelude.{option_map}
-use Rattle.service.specs.Member.{MemberValue, marked_by}
+use Rattle.service.specs.Member.{MemberValue, in_queue, marked_by}
 use Rattle.service.specs.Together.{member_at, ArePlaced, StaysPlaced, AreSame, AreSameButHeld, AreMarkedBy, OthersAreSame, MovesOnAt, EntersAt}
 use Rattle.service.specs.declared.sockets.Ready.{Ready}
-use Rattle.service.proofs.Keeping.{held_alike, none_alike, none_is_some}
+use Rattle.service.proofs.Keeping.{held_alike, none_alike, none_is_some, queued_alike}
 
 none_left : {S : Type 0} (members : List (ℕ × MemberValue S)) → ((k : ℕ) → member_at members k ≡ None) → length members ≡ 0
 none_left [] gone = refl
@@ -64,6 +64,9 @@ module _ {N S : Type 0} {places : N → ℕ → Type 0} {all : ℕ} where
 
   pub placed_but_held : (spoke : ℕ → S → List ℕ → List ℕ → Type 0) (now : ℕ) (s : N) (l m : List (ℕ × MemberValue S)) (a : ℕ) → AreSameButHeld spoke now l m → StaysPlaced places all s l a s m a
   placed_but_held spoke now s l m a same = placed_alike s l m a (λ k. none_alike spoke (member_at l k) (member_at m k) (held_alike spoke now (member_at l k) (member_at m k) (same.0 k))) same.1
+
+  pub placed_queued : (spoke : ℕ → S → List ℕ → List ℕ → Type 0) (k : ℕ) (s : N) (l m : List (ℕ × MemberValue S)) (a : ℕ) → member_at m k ≡ option_map in_queue (member_at l k) → OthersAreSame k l m → length m ≡ length l → StaysPlaced places all s l a s m a
+  placed_queued spoke k s l m a at others many = placed_alike s l m a (λ j. none_alike spoke (member_at l j) (member_at m j) (queued_alike spoke k l m at others j)) many
 
   pub placed_told : (events : List Ready) (s : N) (l m : List (ℕ × MemberValue S)) (a : ℕ) → AreMarkedBy events l m → StaysPlaced places all s l a s m a
   placed_told events s l m a told = placed_alike s l m a (λ k none. told.0 k ∙ ap (option_map (marked_by events k)) none) told.1

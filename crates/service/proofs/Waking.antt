@@ -1,10 +1,11 @@
 -- When connections will have been silent for too long, and what they hold.
-use Rattle.std.proofs.Common.{◌≡◌, ℕ, ◌+◌, ◌<◌, ◌≤◌, ◌⊎◌, inl, inr, Bool, true, false, Option, Some, None, List, [], ◌∷◌, refl, sym, ◌∙◌, ap, subst, arith}
+use Rattle.std.proofs.Common.{◌≡◌, ℕ, ◌+◌, ◌<◌, ◌≤◌, ◌⊎◌, inl, inr, Bool, true, false, cond, Option, Some, None, List, [], ◌∷◌, refl, sym, ◌∙◌, ap, subst, arith}
 use Rattle.std.proofs.Math.Dec.{eqb}
 use Rattle.std.proofs.lemmas.Bool.{cases_lt, leb-true}
 use Rattle.std.proofs.lemmas.Bool.Decides.{eqb_tells}
 use Rattle.std.specs.Prelude.{min, nat_le, ◌&&◌, if◌then◌else◌, IfSome, IsTrue, length}
 use Rattle.std.specs.Option.{unwrap_or}
+use Rattle.std.specs.Ordering.{is_eq, nat_cmp}
 use Rattle.cache_server.specs.Answer.{AnswerValue}
 use Rattle.service.specs.Member.{MemberValue, HoldsAlone, IsDeadline, deadline_at, deadline_of, own_size, pressed_limit}
 use Rattle.service.specs.Together.{AreFull, AreHeavyInTime, HoldAlone, HoldLittle, IsInTime, OthersAreSame, SparesInTime, first_deadline, member_at}
@@ -56,6 +57,15 @@ heavy_later idle now left rest entry r Whole e heavy later whole others =
 pub wakes_first : {S : Type 0} (idle : Option ℕ) (members left : List (ℕ × MemberValue S)) → left ≡ members → min 18446744073709551615 (first_deadline idle left) ≡ first_deadline idle members
 wakes_first idle members left e = let b : first_deadline idle members ≤ 18446744073709551615 = first_below idle members in
     subst (λ ms. min 18446744073709551615 (first_deadline idle ms) ≡ first_deadline idle members) (sym e) (omega (arith, b))
+
+-- and to no later a time than the first of their deadlines
+pub first_at_most : {S : Type 0} (idle : Option ℕ) (members : List (ℕ × MemberValue S)) (k wake : ℕ) → wake ≤ first_deadline idle members → IfSome (member_at members k) (λ m. wake ≤ or_never (deadline_at m idle))
+first_at_most idle [] k wake h = tt
+first_at_most {S} idle (m ∷ members) k wake h = by (is_eq (nat_cmp k m.0)) (first_at_most idle members k wake)
+  where
+    by : (b : Bool) → (wake ≤ first_deadline idle members → IfSome (member_at members k) (λ m. wake ≤ or_never (deadline_at m idle))) → IfSome (cond b (Some m.1) (member_at members k)) (λ m. wake ≤ or_never (deadline_at m idle))
+    by true rest = omega (arith, h)
+    by false rest = rest (omega (arith, h))
 
 pub wakes_later : (now wake deadline least : ℕ) → least ≡ min wake deadline → (now < wake) ⊎ (wake ≡ 18446744073709551615) → now < deadline → (now < least) ⊎ (least ≡ 18446744073709551615)
 wakes_later now wake deadline least m (inl h) d = inl (omega (arith, m, h, d))

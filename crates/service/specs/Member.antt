@@ -1,9 +1,9 @@
 -- An open connection, one of many.
 use Rattle.std.specs.Prelude.{◌≡◌, ◌⊎◌, ℕ, ◌+◌, ◌-◌, ◌<◌, ◌≤◌, min, ⊤, Bool, true, false, List, []}
 use Rattle.std.specs.Prelude.{◌++◌, ◌==◌, ◌&&◌, ◌||◌, ◌/◌, length, nat_lt, if◌then◌else◌}
-use Rattle.std.specs.Prelude.{drop, Option, Some, None, option_map, Result, Ok, Err}
+use Rattle.std.specs.Prelude.{◌∷◌, drop, Option, Some, None, IsSome, option_map, Result, Ok, Err}
 use Rattle.std.specs.Option.{option_map_or, unwrap_or}
-use Rattle.std.specs.List.{AllByRecursion, list_any}
+use Rattle.std.specs.List.{AllByRecursion}
 use Rattle.std.specs.Duration.{as_nanos}
 use Rattle.std.specs.IoError.{error_kind}
 use Rattle.std.specs.declared.io.Error.{Error}
@@ -41,10 +41,12 @@ pub record MemberValue (S : Type 0) : Type 0 where
   pub moved : ℕ
   -- what is left to do after its last answer
   pub lingering : Option Lingering
-  -- there may be something to read
+  -- there may be something to read; and the system told that its peer sends no more
   pub readable : Bool
-  -- it waits for others
+  pub closed : Bool
+  -- it waits for others; and it is queued for a turn
   pub held : Bool
+  pub queued : Bool
 
 -- what isn't sent of an answer, of which so many bytes are
 abbrev pub unsent_of : Option AnswerValue → ℕ → List ℕ
@@ -72,7 +74,8 @@ abbrev pub own_size : Option AnswerValue → ℕ
 own_size None = 0
 own_size (Some answer) = if answer.shared then 0 else length answer.body
 
--- a new connection, at this time: nothing is left of what was read, and nothing unsent
+-- A new connection, at this time: nothing is left of what was read, and nothing unsent. It isn't
+-- queued yet.
 abbrev pub new_member : {S : Type 0} → S → ℕ → MemberValue S
 new_member stream now = record {
   stream = stream;
@@ -83,28 +86,39 @@ new_member stream now = record {
   moved = now;
   lingering = None;
   readable = true;
+  closed = false;
   held = false;
+  queued = false;
 }
 
--- it may have something to read
-abbrev pub roused : {S : Type 0} → MemberValue S → MemberValue S
-roused m = record m { readable = true }
+-- it is queued for a turn
+abbrev pub in_queue : {S : Type 0} → MemberValue S → MemberValue S
+in_queue m = record m { queued = true }
 
--- the event is that there may be something to read of the connection with the number
-abbrev pub tells_to_read : ℕ → Ready → Bool
-tells_to_read k event = option_map_or (λ number. number == k) event.number false && event.readable
+-- the event is of the connection with the number
+abbrev pub tells_of : ℕ → Ready → Bool
+tells_of k event = option_map_or (λ number. number == k) event.number false
 
--- what it is once these events are noted
+-- as the event tells there may be something to read, if only the end
+abbrev pub roused : {S : Type 0} → Ready → MemberValue S → MemberValue S
+roused event m = record m {
+  readable = m.readable || (event.readable || event.read_closed);
+  closed = m.closed || event.read_closed;
+}
+
+-- what it is once these events are noted: each of its own rouses it, and it is queued
 abbrev pub marked_by : {S : Type 0} → List Ready → ℕ → MemberValue S → MemberValue S
-marked_by events k m = record m { readable = m.readable || list_any (tells_to_read k) events }
+marked_by [] k m = m
+marked_by (event ∷ events) k m =
+    marked_by events k (if tells_of k event then in_queue (roused event m) else m)
 
 -- So many bytes of its answer nobody else holds: all, or none where others can hold them.
 abbrev pub HoldsAlone : {S : Type 0} → MemberValue S → ℕ → Type 0
 HoldsAlone m count = (count ≡ m.load.answers) ⊎ ((count ≡ 0) × (m.own ≡ 0))
 
--- it waits for others no more, and its silence counts from this time on
+-- it waits for others no more, its silence counts from this time on, and it is queued for a turn
 abbrev pub let_go : {S : Type 0} → ℕ → S → MemberValue S → MemberValue S
-let_go now stream m = record m { stream = stream; moved = now; held = false }
+let_go now stream m = record m { stream = stream; moved = now; held = false; queued = true }
 
 -- so one does, if there is one
 abbrev pub IsLetGo :
@@ -155,12 +169,19 @@ CountsRead end now old new before after =
     ⊎ (((after.reads ≡ before.reads + 1) × (new.moved ≡ now))
     ⊎ ((1024 ≤ before.reads) × (after.reads ≡ before.reads) × (end ≡ Some (Ok tt))))
 
--- Why it goes no further for now: some of an answer isn't sent, and its stream takes no more; or no
--- byte is at hand there; or it is held, for this.
+-- It waits for an event: some of an answer isn't sent, and its stream takes no more; or neither a
+-- byte nor the end is at hand there, and what was read has come to the server, up to its last
+-- answer.
+abbrev pub AwaitsEvent : {S : Type 0} → (full dry : S → Type 0) → MemberValue S → Type 0
+AwaitsEvent full dry m =
+    ((m.unsent ≡ [] → ⊥) × full m.stream)
+    ⊎ (dry m.stream × (m.closed ≡ false) × ((m.left ≡ []) ⊎ IsSome m.lingering))
+
+-- why it goes no further for now: it waits for an event, or is held, for this
 abbrev pub PausesFor :
     {S : Type 0} → (full dry : S → Type 0) → Type 0 → Turn → MemberValue S → Type 0
 PausesFor full dry held Again m = ⊤
-PausesFor full dry held Waits m = ((m.unsent ≡ [] → ⊥) × full m.stream) ⊎ dry m.stream
+PausesFor full dry held Waits m = AwaitsEvent full dry m
 PausesFor full dry held Held m = held
 PausesFor full dry held (Ends why) m = ⊤
 

@@ -1,6 +1,7 @@
 -- Open connections, each under its number, and a server.
-use Rattle.std.specs.Prelude.{◌≡◌, ℕ, ◌+◌, ◌<◌, ◌≤◌, ◌⊎◌, ◌&&◌, nat_le, min, Bool, true, false, List}
-use Rattle.std.specs.Prelude.{[], ◌∷◌, ◌++◌, length, Option, Some, None, option_map, IfSome, IsTrue}
+use Rattle.std.specs.Prelude.{◌≡◌, ℕ, ◌+◌, ◌-◌, ◌*◌, ◌<◌, ◌≤◌, ◌⊎◌, ◌&&◌, ◌||◌, ◌==◌, nat_le}
+use Rattle.std.specs.Prelude.{nat_lt, min, Bool, true, false, if◌then◌else◌, List, [], ◌∷◌, ◌++◌, length}
+use Rattle.std.specs.Prelude.{Option, Some, None, option_map, IfSome, IsTrue}
 use Rattle.std.specs.List.{AllByRecursion, Contains}
 use Rattle.std.specs.Option.{unwrap_or}
 use Rattle.std.specs.Ordering.{nat_cmp}
@@ -11,10 +12,12 @@ use Rattle.cache_server.specs.History.{HistoryEntry, End}
 use Rattle.cache_server.specs.Server.{ServerValue, ServerStands, LeadsTo, IsOpenAt, session_at}
 use Rattle.service.specs.Talks.{HasEnded, IsReason, AreBelow}
 use Rattle.service.specs.Sockets.{Cause, EndsAs, Why}
-use Rattle.service.specs.Member.{MemberValue, TalksOn, MovesOn, deadline_at, new_member}
-use Rattle.service.specs.Member.{HoldsAlone, IsDeadline, IsLetGo, marked_by, pressed_limit}
+use Rattle.service.specs.Member.{MemberValue, TalksOn, MovesOn, AwaitsEvent, HoldsAlone, IsDeadline}
+use Rattle.service.specs.Member.{IsLetGo, deadline_at, in_queue, marked_by, new_member}
+use Rattle.service.specs.Member.{pressed_limit}
 use Rattle.service.specs.declared.load.Load.{Load}
 use Rattle.service.specs.declared.sockets.Ready.{Ready}
+use Rattle.service.specs.declared.together.Together.{Together}
 
 -- the open connection with the number, if there is one
 abbrev pub member_at : {S : Type 0} → List (ℕ × MemberValue S) → ℕ → Option (MemberValue S)
@@ -97,14 +100,9 @@ AreSameButHeld spoke now old new =
     ⊎ IsLetGo spoke now (member_at old j) (member_at new j))
     × (length new ≡ length old)
 
--- it waits for no others, and its silence counts from this time on
+-- it waits for no others, its silence counts from this time on, and it is queued for a turn
 abbrev pub IsFree : {S : Type 0} → ℕ → Option (MemberValue S) → Type 0
-IsFree now member = IfSome member (λ m. (m.held ≡ false) × (m.moved ≡ now))
-
--- each that waits for others is listed
-abbrev pub HeldAreListed : {S : Type 0} → List ℕ → List (ℕ × MemberValue S) → Type 0
-HeldAreListed listed members =
-    (k : ℕ) → IfSome (member_at members k) (λ m. IsTrue m.held → Contains listed k)
+IsFree now member = IfSome member (λ m. (m.held ≡ false) × (m.moved ≡ now) × (m.queued ≡ true))
 
 -- the same connections, for which these events are noted
 abbrev pub AreMarkedBy :
@@ -132,11 +130,11 @@ pub record MovesOnAt
   pub many : length members' ≡ length members
   pub moves : MovesOn end spoke over k old before new after
 
--- a new connection, at this time
+-- a new connection, at this time, which is queued for a turn
 pub record EntersAt
     {S : Type 0} (k : ℕ) (stream : S) (now : ℕ)
     (old new : List (ℕ × MemberValue S)) : Type 0 where
-  pub at : member_at new k ≡ Some (new_member stream now)
+  pub at : member_at new k ≡ Some (in_queue (new_member stream now))
   pub others : OthersAreSame k old new
   pub more : member_at old k ≡ None → length new ≡ length old + 1
 
@@ -223,7 +221,42 @@ SparesInTime calm idle now old new =
     (k : ℕ) → IfSome (member_at old k)
     (λ m. IsInTime calm m idle now → member_at new k ≡ Some m)
 
--- The next wake comes after this time, if ever, and no later than the first of their deadlines.
+-- the next wake comes after this time, if ever
+abbrev pub WakesAfter : ℕ → ℕ → Type 0
+WakesAfter now wake = (now < wake) ⊎ (wake ≡ 18446744073709551615)
+
+-- and no later than the first of their deadlines
 abbrev pub WakesInTime : {S : Type 0} → Option ℕ → List (ℕ × MemberValue S) → ℕ → ℕ → Type 0
-WakesInTime idle members now wake =
-    ((now < wake) ⊎ (wake ≡ 18446744073709551615)) × (wake ≤ first_deadline idle members)
+WakesInTime idle members now wake = WakesAfter now wake × (wake ≤ first_deadline idle members)
+
+-- ---- who has a turn
+
+-- what comes into the queue with a number: itself, where its connection is open and isn't queued
+abbrev pub joining : {S : Type 0} → Option (MemberValue S) → ℕ → List ℕ
+joining None k = []
+joining (Some m) k = if m.queued then [] else k ∷ []
+
+-- The open connection with the number isn't forgotten. Queued, it stands in the queue, unless
+-- memory was wanting for that; held, it is listed; and else it waits for an event. It is looked at
+-- by its deadline.
+pub record IsSeenTo
+    {S : Type 0} (full dry : S → Type 0) (all : Together S) (k : ℕ) (m : MemberValue S)
+    : Type 0 where
+  pub queued : IsTrue m.queued → all.short ≡ false → Contains all.ready.items k
+  pub held : IsTrue m.held → Contains all.held.items k
+  pub goes : (IsTrue m.queued ⊎ IsTrue m.held) ⊎ AwaitsEvent full dry m
+  pub wakes : all.wake ≤ unwrap_or (deadline_at m all.idle) 18446744073709551615
+
+-- so it is with each of them, and each may be silent for some time
+pub record AreSeenTo {S : Type 0} (full dry : S → Type 0) (all : Together S) : Type 0 where
+  pub each : (k : ℕ) → IfSome (member_at all.members.entries k) (IsSeenTo full dry all k)
+  pub patient : IfSome all.idle (λ time. 0 < time)
+
+-- How many nanoseconds the system may be waited for at this time. Not at all while one is queued,
+-- or those that are held may go on, since less is held; else to the next wake, to when the line is
+-- due or to the next try to accept, and a millisecond more, as the time is whole milliseconds.
+abbrev pub pause_of : {S : Type 0} → Together S → ℕ → Option ℕ
+pause_of all now =
+    if nat_lt 0 (length all.ready.items) || all.scales.eased then Some 0
+    else (let wake = min (min all.wake all.line.due) all.retry in
+    if wake == 18446744073709551615 then None else Some ((wake - now + 1) * 1000000))

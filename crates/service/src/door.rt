@@ -1,10 +1,13 @@
 //! How connections come in.
 ghost use Rattle.std.specs.Prelude.{◌≡◌, ◌+◌, ◌<◌, ◌≤◌, ◌⊎◌, [], IfErr, IfNone, IfOk, IfSome};
-ghost use Rattle.std.specs.Prelude.{IsTrue, OnErr, OnOk, false, length};
+ghost use Rattle.std.specs.Prelude.{IsTrue, OnErr, OnOk, false, length, min};
+ghost use Rattle.std.specs.Option.{unwrap_or};
 ghost use Rattle.cache_server.specs.Server.{ServerValue};
+ghost use Rattle.service.specs.Member.{deadline_at, new_member};
 ghost use Rattle.service.specs.Sockets.{KeepsPlaces, TakesPlace};
 ghost use Rattle.service.specs.Talks.{AcceptsNone, FindsNone};
-ghost use Rattle.service.specs.Together.{AreSame, EntersAt, GoesOnTogether, StaysPlaced};
+ghost use Rattle.service.specs.Together.{AreSame, AreSeenTo, EntersAt, GoesOnTogether};
+ghost use Rattle.service.specs.Together.{StaysPlaced, WakesAfter};
 
 use crate::error::finds_none;
 use crate::member::Member;
@@ -16,18 +19,21 @@ use log::{Log, warn};
 use std::alloc::Global;
 use std::io;
 use std::net::SocketAddr;
-use std::time::Clock;
+
+/// How many milliseconds none is accepted after a fault.
+const PAUSE: u64 = 500;
 
 impl<S: Peer + Drop> Together<S> {
     /// Accepts the connections that wait, as long as fewer than `at_once` are open.
     #[tactic(auto, using(crate::proofs::Keeping::keeps_nowhere, crate::proofs::Keeping::keeps_further, crate::proofs::Keeping::keeps_same, crate::proofs::Keeping::keeps_entered, crate::proofs::Places::placed_nowhere, crate::proofs::Places::placed_further))]
-    pub(crate) fn accept_some<R: AllocGlobal + Clock + Log, N: Sockets<Stream = S>>(
+    pub(crate) fn accept_some<R: AllocGlobal + Log, N: Sockets<Stream = S>>(
         &mut self,
         rt: &R,
         sockets: &mut N,
         accepted: &mut u64,
         connections: u64,
         at_once: usize,
+        now: u64,
     ) -> io::Result<()>
         requires { accepted.old ≤ connections }
         ensures keeps { (server : ServerValue) → GoesOnTogether false S.spoke N.ended N.lost
@@ -39,26 +45,31 @@ impl<S: Peer + Drop> Together<S> {
         ensures within { accepted.new ≤ connections }
         ensures fails { IfErr result (AcceptsNone N.failed N.refused sockets.new) }
         ensures none { OnErr result (self.new.members.entries ≡ []) }
-        ensures again { IsTrue self.old.waits → self.new.waits ≡ false
-            → (self.new.members.entries ≡ [] → ⊥) ⊎ FindsNone N.refused sockets.new }
+        ensures again { (IsTrue self.old.waits ⊎ (self.old.retry ≤ now)) → self.new.waits ≡ false
+            → FindsNone N.refused sockets.new ⊎ (self.new.retry ≡ min (now + 500) u64.MAX) }
+        ensures seen { AreSeenTo S.full S.dry self.old → AreSeenTo S.full S.dry self.new }
+        ensures wake { AreSeenTo S.full S.dry self.old
+            → WakesAfter now self.old.wake → WakesAfter now self.new.wake }
     {
+        self.try_again(now);
         for _ in 0..u64::MAX {
             if !self.waits || *accepted >= connections || self.members.len() >= at_once {
                 return Ok(());
             }
-            self.accept_one(rt, sockets, accepted, connections, at_once)?;
+            self.accept_one(rt, sockets, accepted, connections, at_once, now)?;
         }
         Ok(())
     }
 
     /// Accepts a connection, if one waits. One for which memory is wanting is ended at once.
-    fn accept_one<R: AllocGlobal + Clock + Log, N: Sockets<Stream = S>>(
+    fn accept_one<R: AllocGlobal + Log, N: Sockets<Stream = S>>(
         &mut self,
         rt: &R,
         sockets: &mut N,
         accepted: &mut u64,
         connections: u64,
         at_once: usize,
+        now: u64,
     ) -> io::Result<()>
         requires more { accepted.old < connections }
         requires place { length self.old.members.entries < at_once }
@@ -72,10 +83,12 @@ impl<S: Peer + Drop> Together<S> {
         ensures fails { IfErr result (AcceptsNone N.failed N.refused sockets.new) }
         ensures none { OnErr result (self.new.members.entries ≡ []) }
         ensures again { IsTrue self.old.waits → self.new.waits ≡ false
-            → (self.new.members.entries ≡ [] → ⊥) ⊎ FindsNone N.refused sockets.new }
+            → FindsNone N.refused sockets.new ⊎ (self.new.retry ≡ min (now + 500) u64.MAX) }
+        ensures seen { AreSeenTo S.full S.dry self.old → AreSeenTo S.full S.dry self.new }
+        ensures wake { AreSeenTo S.full S.dry self.old
+            → WakesAfter now self.old.wake → WakesAfter now self.new.wake }
     {
         let number = *accepted;
-        let now = self.timer.now(rt);
         let Some((stream, peer)) = self.next(rt, sockets, number, now)? else {
             return Ok(());
         };
@@ -85,14 +98,15 @@ impl<S: Peer + Drop> Together<S> {
                 sockets.end(stream, Err(ConnError::Memory));
                 self.line.clear();
                 warn!(rt; "{number}: not accepted: out of memory");
-                self.waits = self.members.is_empty();
+                self.put_off(now);
             }
         }
         Ok(())
     }
 
     /// The next connection, if one waits, or the last of so many faults in a row, while none is
-    /// open. While one is open, it is tried again when one has ended. The log tells of each fault.
+    /// open. While one is open, it is tried again after a pause, or when one has ended. The log
+    /// tells of each fault.
     fn next<R: Log, N: Sockets<Stream = S>>(
         &mut self,
         rt: &R,
@@ -100,7 +114,6 @@ impl<S: Peer + Drop> Together<S> {
         number: u64,
         now: u64,
     ) -> io::Result<Option<(S, SocketAddr)>>
-        ensures same { self.new.members.entries ≡ self.old.members.entries }
         ensures said { IfOk result (λ found. IfSome found (λ it. S.spoke number it.0 [] [])) }
         ensures quiet { IfOk result (λ found. IfSome found (λ it. S.quiet it.0 now)) }
         ensures takes { IfOk result (λ found. IfSome found (λ it.
@@ -111,7 +124,12 @@ impl<S: Peer + Drop> Together<S> {
         ensures none { OnErr result (self.new.members.entries ≡ []) }
         ensures stays { OnErr result (KeepsPlaces N.places sockets.old sockets.new) }
         ensures again { IsTrue self.old.waits → self.new.waits ≡ false
-            → (self.new.members.entries ≡ [] → ⊥) ⊎ FindsNone N.refused sockets.new }
+            → FindsNone N.refused sockets.new ⊎ (self.new.retry ≡ min (now + 500) u64.MAX) }
+        ensures rest { self.new ≡ record self.old {
+          waits = self.new.waits;
+          retry = self.new.retry;
+          line = self.new.line;
+        } }
     {
         for failed in 0..TRIES {
             let fault = match sockets.accept(number, now) {
@@ -126,7 +144,7 @@ impl<S: Peer + Drop> Together<S> {
             self.line.clear();
             warn!(rt; "{number}: not accepted, try {tried}: {fault}");
             if !self.members.is_empty() {
-                self.waits = false;
+                self.put_off(now);
                 return Ok(None);
             }
             if tried == TRIES {
@@ -134,6 +152,27 @@ impl<S: Peer + Drop> Together<S> {
             }
         }
         Ok(None)
+    }
+
+    /// Once the pause after a fault is over, one may wait.
+    fn try_again(&mut self, now: u64)
+        ensures waits { (IsTrue self.old.waits ⊎ (self.old.retry ≤ now)) → IsTrue self.new.waits }
+        ensures rest { self.new
+            ≡ record self.old { waits = self.new.waits; retry = self.new.retry } }
+    {
+        if self.retry <= now {
+            self.retry = u64::MAX;
+            self.waits = true;
+        }
+    }
+
+    /// None is accepted until a pause is over.
+    fn put_off(&mut self, now: u64)
+        ensures { self.new
+            ≡ record self.old { waits = false; retry = min (now + 500) u64.MAX } }
+    {
+        self.waits = false;
+        self.retry = now.saturating_add(PAUSE);
     }
 
     /// A connection takes a place, or comes back where memory is wanting.
@@ -149,23 +188,30 @@ impl<S: Peer + Drop> Together<S> {
         ensures ok { OnOk result (EntersAt number stream now
             self.old.members.entries self.new.members.entries) }
         ensures err { OnErr result (AreSame self.old.members.entries self.new.members.entries) }
+        ensures still { OnErr result (self.new.wake ≡ self.old.wake) }
         ensures back { IfErr result (λ it. it ≡ stream) }
-        ensures wake { OnOk result (IfSome self.old.idle (λ idle. self.new.wake ≤ now + idle)) }
-        ensures waits { self.new.waits ≡ self.old.waits }
+        ensures wake { OnOk result (self.new.wake ≡ min self.old.wake
+            (unwrap_or (deadline_at (new_member stream now) self.old.idle) u64.MAX)) }
+        ensures seen { AreSeenTo S.full S.dry self.old → AreSeenTo S.full S.dry self.new }
+        ensures rest { self.new ≡ record self.old {
+          members = self.new.members;
+          ready = self.new.ready;
+          short = self.new.short;
+          wake = self.new.wake;
+        } }
     {
-        let idle = self.idle;
         let member = Member::new(alloc, stream, peer, now);
+        let deadline = member.deadline(self.idle, false);
         match self.members.insert(number, member) {
-            Ok(_) => self.queue(number),
+            Ok(_) => (),
             Err(refused) => {
                 let (_, member) = refused.value;
                 let (stream, _, _) = member.into_parts();
                 return Err(stream);
             }
         }
-        if let Some(idle) = idle {
-            self.wake = self.wake.min(now.saturating_add(idle));
-        }
+        self.wake = self.wake.min(deadline.unwrap_or(u64::MAX));
+        self.queue(number);
         Ok(())
     }
 }

@@ -35,9 +35,13 @@ impl<S: Peer + Drop> Together<S> {
             self.new.scales.load ≡ load_after self.old.scales.load m.load no_load) }
         ensures fewer { IsSome (member_at self.old.members.entries number)
             → length self.new.members.entries + 1 ≡ length self.old.members.entries }
-        ensures idle { self.new.idle ≡ self.old.idle }
         ensures eased { IsTrue self.old.scales.eased → IsTrue self.new.scales.eased }
-        ensures list { self.new.held.items ≡ self.old.held.items }
+        ensures rest { self.new ≡ record self.old {
+          members = self.new.members;
+          scales = self.new.scales;
+          waits = self.new.waits;
+          line = self.new.line;
+        } }
     {
         let Some(member) = self.take(number) else {
             return;

@@ -94,6 +94,8 @@ impl Sockets for Epoll {
 
     ghost broken = { λ _. Unit {0} };
 
+    ghost waited = { λ _ _ _. Unit {0} };
+
     fn accept(&mut self, number: u64, _now: u64) -> io::Result<(TcpStream, SocketAddr)> {
         let (stream, peer) = self.listener.accept()?;
         let mut stream = stream;

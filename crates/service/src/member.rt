@@ -1,12 +1,12 @@
-ghost use Rattle.std.specs.Prelude.{◌≡◌, ◌↔◌, ◌+◌, ◌-◌, ◌<◌, ◌≤◌, ◌⊎◌, [], drop};
-ghost use Rattle.std.specs.Prelude.{IfSome, IsSome, IsTrue, None, Some, false};
+ghost use Rattle.std.specs.Prelude.{◌≡◌, ◌↔◌, ◌-◌, ◌<◌, ◌≤◌, ◌⊎◌, [], drop};
+ghost use Rattle.std.specs.Prelude.{IfSome, IsSome, IsTrue, None, Ok, Some, false, true};
 ghost use Rattle.cache_server.specs.Server.{IsOpenAt, session_at};
 ghost use Rattle.std.specs.declared.io.ErrorKind.TheVariants.{WouldBlock};
 ghost use Rattle.service.specs.Member.{CountsRead, EndsWell, HasNoLeave, HoldsAlone, IsDeadline};
 ghost use Rattle.service.specs.Member.{MovesOn, PausesFor};
-ghost use Rattle.service.specs.Member.{answer_size, deadline_at, end_of, let_go, new_member};
+ghost use Rattle.service.specs.Member.{answer_size, deadline_at, end_of, new_member, own_size};
 ghost use Rattle.service.specs.Member.{pressed_limit, roused, unsent_of};
-ghost use Rattle.service.specs.Sockets.{Shut, Stays};
+ghost use Rattle.service.specs.Sockets.{Failed, Finished, Shut, Stays};
 ghost use Rattle.service.specs.Talks.{IsReason};
 
 mod sending;
@@ -15,7 +15,7 @@ use crate::desk::Desk;
 use crate::error::finds_none;
 use crate::lingering::{Lingering, deadline_of, limit_of};
 use crate::load::{Leave, Load};
-use crate::sockets::Peer;
+use crate::sockets::{Peer, Ready};
 use crate::telling::Traffic;
 use crate::turn::{Turn, after_fault};
 use crate::watched::Watched;
@@ -72,11 +72,13 @@ impl<S: Peer> Model for Member<S> {
       moved = m.stream.moved;
       lingering = m.lingering;
       readable = m.readable;
+      closed = m.read_closed;
       held = m.is_held;
+      queued = m.is_queued;
     } };
 
     ghost invariant = { λ m. (IsSome m.lingering → S.over m.stream.stream Shut)
-        × (m.readable ≡ false → S.dry m.stream.stream) };
+        × (m.readable ≡ false → S.dry m.stream.stream × (m.read_closed ≡ false)) };
 }
 
 impl<S: Peer + Drop> Member<S> {
@@ -142,9 +144,10 @@ impl<S: Peer + Drop> Member<S> {
         self.is_held
     }
 
-    /// Notes whether it is among those with something to do, and tells whether it was.
+    /// Notes whether it is queued for a turn, and tells whether it was.
     pub(crate) fn queue(&mut self, is_queued: bool) -> bool
-        ensures { self.new ≡ self.old }
+        ensures was { result ≡ self.old.queued }
+        ensures is { self.new ≡ record self.old { queued = is_queued } }
     {
         let was_queued = self.is_queued;
         self.is_queued = is_queued;
@@ -154,20 +157,19 @@ impl<S: Peer + Drop> Member<S> {
     /// It needn't wait for others any more: as long as it did, it wasn't silent.
     pub(crate) fn release(&mut self, now: u64)
         ensures stays { Stays S.spoke self.old.stream self.new.stream }
-        ensures free { self.new ≡ let_go now self.new.stream self.old }
+        ensures free { self.new
+            ≡ record self.old { stream = self.new.stream; moved = now; held = false } }
     {
         self.stream.hold(now);
         self.is_held = false;
     }
 
-    /// The system has something to read, or nothing more.
-    pub(crate) fn wake(&mut self, read_closed: bool)
-        ensures { self.new ≡ roused self.old }
+    /// The system may have something to read, or nothing more. The end is there to be read too.
+    pub(crate) fn wake(&mut self, event: &Ready)
+        ensures { self.new ≡ roused event.now self.old }
     {
-        self.readable = true;
-        if read_closed {
-            self.read_closed = true;
-        }
+        self.readable = self.readable || (event.readable || event.read_closed);
+        self.read_closed = self.read_closed || event.read_closed;
     }
 
     /// When it will have been silent for too long. Where others wait for memory, that is sooner for
@@ -198,6 +200,8 @@ impl<S: Peer + Drop> Member<S> {
         ensures reason { IfSome result (λ why. IsReason (S.over self.now.stream)
             (IsTrue is_open → ⊥) self.now.left self.now.unsent why) }
         ensures known { IfSome result (λ why. why ≡ Err ConnError.Memory → ⊥) }
+        ensures done { IsSome self.now.lingering → is_open ≡ false → self.now.unsent ≡ []
+            → IfSome result (λ why. why ≡ Ok tt) }
         ensures silent { IsSome result ↔ (deadline - self.now.moved ≤ now - self.now.moved) }
     {
         if !self.stream.was_silent(deadline, now) {
@@ -226,6 +230,7 @@ impl<S: Peer + Drop> Member<S> {
             server.old self.old server.new self.new }
         ensures pauses { PausesFor S.full S.dry (HasNoLeave leave self.new.load) result self.new }
         ensures held { IsTrue self.new.held ↔ (result ≡ Turn.Held) }
+        ensures queued { self.new.queued ≡ self.old.queued }
     {
         for _ in 0..STEPS {
             match self.step(number, server, desk, leave, now) {
@@ -262,6 +267,7 @@ impl<S: Peer + Drop> Member<S> {
         ensures bound { leave.answers ≡ false → server.new ≡ server.old }
         ensures share { self.old.left ≡ [] → leave.kept < self.old.load.requests
             → server.new ≡ server.old }
+        ensures queued { self.new.queued ≡ self.old.queued }
     {
         if !self.is_sent() {
             return self.send(desk, now);
@@ -286,12 +292,9 @@ impl<S: Peer + Drop> Member<S> {
 
     /// It waits for others.
     fn hold(&mut self, now: u64)
-        ensures left { self.new.left ≡ self.old.left }
-        ensures unsent { self.new.unsent ≡ self.old.unsent }
         ensures stays { Stays S.spoke self.old.stream self.new.stream }
-        ensures load { self.new.load ≡ self.old.load }
-        ensures held { IsTrue self.new.held }
-        ensures moved { self.new.moved ≡ now }
+        ensures held { self.new
+            ≡ record self.old { stream = self.new.stream; moved = now; held = true } }
     {
         self.stream.hold(now);
         self.is_held = true;
@@ -299,10 +302,12 @@ impl<S: Peer + Drop> Member<S> {
 
     /// Ends the writing side after the last answer.
     fn shut(&mut self, now: u64)
-        ensures left { self.new.left ≡ self.old.left }
-        ensures unsent { self.new.unsent ≡ self.old.unsent }
         ensures stays { Stays S.spoke self.old.stream self.new.stream }
-        ensures since { self.new.lingering ≡ Some (record { begun = now; reads = 0 }) }
+        ensures since { self.new ≡ record self.old {
+          stream = self.new.stream;
+          lingering = Some (record { begun = now; reads = 0 });
+          readable = true;
+        } }
     {
         self.stream.shut();
         self.lingering = Some(Lingering::begin(now));
@@ -316,10 +321,15 @@ impl<S: Peer + Drop> Member<S> {
         ensures end { EndsWell (S.over self.new.stream Shut) (end_of result) }
         ensures left { self.new.left ≡ self.old.left }
         ensures unsent { self.new.unsent ≡ self.old.unsent }
+        ensures queued { self.new.queued ≡ self.old.queued }
         ensures stays { Stays S.spoke self.old.stream self.new.stream }
         ensures begun { IfSome self.old.lingering (λ it.
             IfSome self.new.lingering (λ next. next.begun ≡ it.begun)) }
         ensures lingers { IsSome self.old.lingering → IsSome self.new.lingering }
+        ensures begins { self.old.lingering ≡ None → result ≡ Turn.Again }
+        ensures ends { IfSome self.old.lingering (λ it. IsSome (end_of result)
+            → (1024 ≤ it.reads) ⊎ (S.over self.new.stream Finished
+            ⊎ S.over self.new.stream (Failed ConnError.ReadFault))) }
         ensures reads { IfSome self.old.lingering (λ it. IfSome self.new.lingering (λ next.
             CountsRead (end_of result) now self.old self.new it next)) }
         ensures pauses { PausesFor S.full S.dry ⊥ result self.new }
@@ -343,6 +353,7 @@ impl<S: Peer + Drop> Member<S> {
             Err(fault) => match fault.kind() {
                 ErrorKind::WouldBlock => {
                     self.readable = false;
+                    self.read_closed = false;
                     Turn::Waits
                 }
                 ErrorKind::Interrupted => Turn::Again,
@@ -358,6 +369,7 @@ impl<S: Peer + Drop> Member<S> {
         ensures moves { MovesOn (end_of result) S.spoke S.over number
             server.old self.old server.new self.new }
         ensures pauses { PausesFor S.full S.dry ⊥ result self.new }
+        ensures queued { self.new.queued ≡ self.old.queued }
     {
         let input = mem::replace(&mut self.input, Vec::new(desk.alloc));
         let at = self.at.min(input.len());
@@ -388,12 +400,16 @@ impl<S: Peer + Drop> Member<S> {
         ensures moves { MovesOn (end_of result) S.spoke S.over number
             server.old self.old server.new self.new }
         ensures pauses { PausesFor S.full S.dry ⊥ result self.new }
+        ensures queued { self.new.queued ≡ self.old.queued }
     {
         let buffer = desk.buffer.as_mut_slice();
         let count = match self.stream.read(buffer, now) {
             Ok(count) => count,
             Err(fault) => {
-                self.readable = !finds_none(&fault);
+                // Where neither a byte nor the end is at hand, another event tells of them.
+                let finds_none = finds_none(&fault);
+                self.readable = !finds_none;
+                self.read_closed = self.read_closed && !finds_none;
                 return after_fault(&fault, ConnError::ReadFault);
             }
         };
@@ -429,10 +445,12 @@ impl<S: Peer + Drop> Member<S> {
         at: usize,
         kept: u64,
     )
-        ensures stream { self.new.stream ≡ self.old.stream }
-        ensures left { self.new.left ≡ drop at input.items }
-        ensures unsent { self.new.unsent ≡ unsent_of answer 0 }
-        ensures load { self.new.load ≡ record { answers = answer_size answer; requests = kept } }
+        ensures { self.new ≡ record self.old {
+          left = drop at input.items;
+          unsent = unsent_of answer 0;
+          load = record { answers = answer_size answer; requests = kept };
+          own = own_size answer;
+        } }
     {
         self.answer = answer;
         self.sent = 0;

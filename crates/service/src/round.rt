@@ -1,9 +1,9 @@
 //! A round: a turn of each that has something to do.
-ghost use Rattle.std.specs.Prelude.{◌≡◌, ◌==◌, ◌&&◌, ℕ, [], None, IfSome, IsTrue, min, nat_le, not};
-ghost use Rattle.std.specs.Prelude.{if◌then◌else◌, true};
+ghost use Rattle.std.specs.Prelude.{◌≡◌, ◌↔◌, ◌==◌, ◌&&◌, ℕ, [], None, IfSome, IsTrue, min, nat_le};
+ghost use Rattle.std.specs.Prelude.{false, if◌then◌else◌, not, true};
 ghost use Rattle.std.specs.Option.{option_map_or, unwrap_or};
-ghost use Rattle.service.specs.Member.{deadline_at, end_of, load_after};
-ghost use Rattle.service.specs.Together.{AreFull, HeldAreListed, AreSame, HoldAlone, LeavesPlaced};
+ghost use Rattle.service.specs.Member.{AwaitsEvent, deadline_at, end_of, load_after};
+ghost use Rattle.service.specs.Together.{AreFull, AreSame, AreSeenTo, HoldAlone, LeavesPlaced};
 ghost use Rattle.service.specs.Together.{LeavesTogether, MovesOnAt, member_at};
 
 use crate::load::{Leave, is_too_much};
@@ -14,7 +14,6 @@ use crate::turn::Turn;
 use cache_server::{ConnError, Server};
 use log::Log;
 use std::alloc::Global;
-use std::mem;
 use std::time::Clock;
 
 impl<S: Peer + Drop> Together<S> {
@@ -30,45 +29,41 @@ impl<S: Peer + Drop> Together<S> {
             (self.old.members.entries, server.old) (self.new.members.entries, server.new) }
         ensures places { LeavesPlaced N.places (sockets.old, self.old.members.entries)
             (sockets.new, self.new.members.entries) }
-        // Who waits for others is listed, and goes on once less is held.
-        ensures listed { HeldAreListed self.old.held.items self.old.members.entries
-            → HeldAreListed self.new.held.items self.new.members.entries }
+        ensures seen { AreSeenTo S.full S.dry self.old → AreSeenTo S.full S.dry self.new }
+        // Who waits for others goes on once less is held.
         ensures goes { IsTrue self.old.scales.eased → self.new.held.items ≡ [] }
     {
-        let spare = mem::replace(&mut self.spare, Vec::new(rt.alloc()));
-        let mut ready = mem::replace(&mut self.ready, spare);
-        for number in ready.iter() {
+        for _ in 0..self.ready.len() {
             // All turns together may take so long that a connection would seem to be silent.
             let now = self.timer.now(rt);
-            self.turn(rt, sockets, server, *number, now);
+            self.turn(rt, sockets, server, now);
         }
-        ready.clear();
-        self.spare = ready;
         if self.scales.eased {
             self.scales.eased = false;
             let now = self.timer.now(rt);
-            self.release(rt.alloc(), now);
+            self.release(now);
         }
     }
 
-    /// A turn of the member with the number.
+    /// A turn of the first member in the queue.
     #[tactic(auto, using(crate::proofs::Keeping::keeps_same, crate::proofs::Keeping::keeps_further, crate::proofs::Keeping::keeps_moved, crate::proofs::Keeping::keeps_left, crate::proofs::Keeping::keeps_lost, crate::proofs::Places::placed_still, crate::proofs::Places::placed_moved))]
     fn turn<R: AllocGlobal + Log, N: Sockets<Stream = S>>(
         &mut self,
         rt: &R,
         sockets: &mut N,
         server: &mut Server<Global>,
-        number: u64,
         now: u64,
     )
         ensures keeps { LeavesTogether S.spoke N.ended N.lost
             (self.old.members.entries, server.old) (self.new.members.entries, server.new) }
         ensures places { LeavesPlaced N.places (sockets.old, self.old.members.entries)
             (sockets.new, self.new.members.entries) }
-        ensures listed { HeldAreListed self.old.held.items self.old.members.entries
-            → HeldAreListed self.new.held.items self.new.members.entries }
+        ensures seen { AreSeenTo S.full S.dry self.old → AreSeenTo S.full S.dry self.new }
         ensures eased { IsTrue self.old.scales.eased → IsTrue self.new.scales.eased }
     {
+        let Some(number) = self.ready.pop_front() else {
+            return;
+        };
         let Some((turn, was_held)) = self.advance(server, number, now) else {
             return;
         };
@@ -85,6 +80,7 @@ impl<S: Peer + Drop> Together<S> {
     }
 
     /// What the member with the number can do after its turn, and whether it was held before.
+    #[tactic(auto, using(crate::proofs::Pausing::pauses_waits))]
     fn advance(
         &mut self,
         server: &mut Server<Global>,
@@ -99,15 +95,26 @@ impl<S: Peer + Drop> Together<S> {
         ensures load { IfSome (member_at self.old.members.entries number) (λ before.
             IfSome (member_at self.new.members.entries number) (λ after.
             self.new.scales.load ≡ load_after self.old.scales.load before.load after.load)) }
+        ensures queued { IfSome result (λ out. IfSome (member_at self.new.members.entries number)
+            (λ m. m.queued ≡ false)) }
         ensures held { IfSome result (λ out. IfSome (member_at self.new.members.entries number)
-            (λ m. IsTrue m.held → out.0 ≡ Turn.Held)) }
+            (λ m. IsTrue m.held ↔ (out.0 ≡ Turn.Held))) }
+        ensures waits { IfSome result (λ out. IfSome (member_at self.new.members.entries number)
+            (λ m. out.0 ≡ Turn.Waits → AwaitsEvent S.full S.dry m)) }
         ensures was { IfSome result (λ out. IfSome (member_at self.old.members.entries number)
             (λ m. out.1 ≡ m.held)) }
         ensures eased { IsTrue self.old.scales.eased → IsTrue self.new.scales.eased }
-        ensures list { self.new.held.items ≡ self.old.held.items }
+        ensures rest { self.new ≡ record self.old {
+          members = self.new.members;
+          wake = self.new.wake;
+          scales = self.new.scales;
+          desk = self.new.desk;
+        } }
         ensures server { result ≡ None → server.new ≡ server.old }
         ensures members { result ≡ None
             → AreSame self.old.members.entries self.new.members.entries }
+        ensures none { result ≡ None → member_at self.old.members.entries number ≡ None }
+        ensures still { result ≡ None → self.new.wake ≡ self.old.wake }
     {
         let leave = self.leave(number);
         let (turn, was_held, before, after, deadline) = {

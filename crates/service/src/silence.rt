@@ -2,9 +2,9 @@
 ghost use Rattle.std.specs.Prelude.{◌≡◌, ◌+◌, ◌<◌, ◌≤◌, ◌⊎◌, IfErr, IfOk, IfSome, IsSome, Some};
 ghost use Rattle.std.specs.Prelude.{Bool, IsTrue, OnOk, false, length, nat_le, true};
 ghost use Rattle.service.specs.Member.{IsDeadline};
-ghost use Rattle.service.specs.Together.{AreFull, AreHeavyInTime, HoldLittle, LeavesPlaced};
-ghost use Rattle.service.specs.Together.{LeavesTogether, MayEndAt, OthersAreSame};
-ghost use Rattle.service.specs.Together.{SparesInTime, WakesInTime};
+ghost use Rattle.service.specs.Together.{AreFull, AreHeavyInTime, AreSeenTo, HoldLittle};
+ghost use Rattle.service.specs.Together.{LeavesPlaced, LeavesTogether, MayEndAt, OthersAreSame};
+ghost use Rattle.service.specs.Together.{SparesInTime, WakesAfter, WakesInTime};
 ghost use Rattle.service.specs.Together.{first_deadline, member_at};
 
 use crate::load::is_too_much;
@@ -29,6 +29,8 @@ impl<S: Peer + Drop> Together<S> {
             (self.old.members.entries, server.old) (self.new.members.entries, server.new) }
         ensures places { LeavesPlaced N.places (sockets.old, self.old.members.entries)
             (sockets.new, self.new.members.entries) }
+        ensures seen { AreSeenTo S.full S.dry self.old → AreSeenTo S.full S.dry self.new }
+        ensures later { WakesAfter now self.new.wake }
         ensures wake { (now < self.old.wake)
             ⊎ WakesInTime self.old.idle self.new.members.entries now self.new.wake }
         ensures spares { (calm : Bool) → (calm ≡ true → HoldLittle self.old.scales.load)
@@ -110,6 +112,7 @@ impl<S: Peer + Drop> Together<S> {
         ensures fewer { length self.new.members.entries + 1 ≡ length self.old.members.entries }
         ensures others { OthersAreSame number self.old.members.entries self.new.members.entries }
         ensures idle { self.new.idle ≡ self.old.idle }
+        ensures seen { AreSeenTo S.full S.dry self.old → AreSeenTo S.full S.dry self.new }
         ensures little { HoldLittle self.old.scales.load → HoldLittle self.new.scales.load }
     {
         if let Some(why) = self.silence(server, number, deadline, now) {

@@ -1,15 +1,17 @@
 ghost use Rattle.std.specs.Prelude.{◌≡◌, ◌-◌, ◌<◌, ◌≤◌, ◌↔◌, ℕ, List, [], length, take, IfErr};
-ghost use Rattle.std.specs.Prelude.{IfOk, IsTrue, OnErr, OnOk};
+ghost use Rattle.std.specs.Prelude.{IfOk, IsTrue, OnErr, OnOk, Option, option_map};
+ghost use Rattle.std.specs.Duration.{as_nanos};
 ghost use Rattle.cache_server.specs.declared.error.ConnError.{ConnError};
 ghost use Rattle.std.specs.Io.{ReadsAtMost, WritesAtMost};
 ghost use Rattle.std.specs.IoError.{error_kind};
 ghost use Rattle.std.specs.declared.io.Error.{Error};
-ghost use Rattle.std.specs.declared.io.ErrorKind.TheVariants.{WouldBlock};
+ghost use Rattle.std.specs.declared.io.ErrorKind.TheVariants.{Interrupted, WouldBlock};
 ghost use Rattle.service.specs.Sockets.{Cause, EndsAs, Failed, Finished, GivesPlace, IsBroken};
 ghost use Rattle.service.specs.Sockets.{IsQuietAfter, KeepsPlaces, ReadsFrom, SendsTo, Shut};
 ghost use Rattle.service.specs.Sockets.{Silent, Stays, StaysDry, StaysQuiet, StaysShut};
 ghost use Rattle.service.specs.Sockets.{TakesPlace, Why};
 ghost use Rattle.service.specs.Turns.{FailsAfter};
+ghost use Rattle.service.specs.declared.sockets.Ready.{Ready};
 
 use cache_server::ConnError;
 use std::alloc::Global;
@@ -35,7 +37,7 @@ pub trait Peer {
     /// That it is over, and why. Only the calls that found it so, or made it so, say it.
     ghost over: { Self → Cause → Type 0 };
 
-    /// That no byte is at hand there, until an event tells of some.
+    /// That no byte is at hand there, until an event tells of some. The end may be.
     ghost dry: { Self → Type 0 };
 
     /// That it takes no more bytes, until an event tells that it does.
@@ -96,13 +98,16 @@ pub trait Peer {
         ensures still { StaysQuiet quiet self.old self.new }
         ensures shut { over self.new Shut };
 
-    /// Drops some of what still comes, none only at the end or with no room.
+    /// Drops some of what still comes, none only at the end.
     fn discard(&mut self, buffer: &mut [u8], now: u64) -> io::Result<usize>
         ensures stays { Stays spoke self.old self.new }
         ensures moved { IfOk result (IsQuietAfter quiet now self.old self.new) }
         ensures still { OnErr result (StaysQuiet quiet self.old self.new) }
         ensures shut { StaysShut over self.old self.new }
-        ensures nothing { IfErr result (λ e. error_kind e ≡ WouldBlock → dry self.new) };
+        ensures end { IfOk result (λ count. count ≡ 0 → over self.new Finished) }
+        ensures nothing { IfErr result (λ e. error_kind e ≡ WouldBlock → dry self.new) }
+        ensures broken { IfErr result (λ e. (error_kind e ≡ WouldBlock → ⊥)
+            → (error_kind e ≡ Interrupted → ⊥) → over self.new (Failed ConnError.ReadFault)) };
 }
 
 /// Where connections come from.
@@ -128,6 +133,10 @@ pub trait Sockets {
     /// That a wait failed so.
     ghost broken: { Error → Type 0 };
 
+    /// That the last wait was for so many nanoseconds at most, if not without end, and this is what
+    /// the system told.
+    ghost waited: { Self → Option ℕ → List Ready → Type 0 };
+
     /// The next connection, under this number, or `WouldBlock` where none waits.
     fn accept(&mut self, number: u64, now: u64) -> io::Result<(Self::Stream, SocketAddr)>
         ensures said { IfOk result (λ accepted. Self.Stream.spoke number accepted.0 [] []) }
@@ -143,8 +152,11 @@ pub trait Sockets {
         ensures ends { EndsAs Self.Stream.spoke Self.Stream.over stream why ended lost }
         ensures gives { GivesPlace places self.old self.new };
 
-    /// Waits until the system has something, for so long at most, and adds it to what is ready.
+    /// Waits until the system has something, for so long at most, and tells of it.
     fn wait(&mut self, timeout: Option<Duration>, ready: &mut Vec<Ready, Global>) -> io::Result<()>
+        requires { ready.old.items ≡ [] }
+        ensures told { OnOk result
+            (waited self.new (option_map as_nanos timeout) ready.new.items) }
         ensures fails { IfErr result broken }
         ensures keeps { KeepsPlaces places self.old self.new };
 }

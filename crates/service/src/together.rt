@@ -1,25 +1,30 @@
-ghost use Rattle.std.specs.Prelude.{◌≡◌, ◌+◌, ◌-◌, ◌*◌, ◌/◌, ◌==◌, ◌<◌, ◌≤◌, ℕ, [], None, Some};
-ghost use Rattle.std.specs.Prelude.{IfErr, IfOk};
-ghost use Rattle.std.specs.Prelude.{IsTrue, OnOk, false, min, option_map, true, if◌then◌else◌};
+ghost use Rattle.std.specs.Prelude.{◌≡◌, ◌/◌, ◌<◌, ◌≤◌, ◌⊎◌, ◌||◌, ℕ, List, [], None, IfErr, IfOk};
+ghost use Rattle.std.specs.Prelude.{IsTrue, OnOk, false, max, option_map, true};
 ghost use Rattle.std.specs.Duration.{as_nanos};
 ghost use Rattle.std.specs.IoError.{error_kind};
+ghost use Rattle.std.specs.List.{list_any};
+ghost use Rattle.std.specs.Option.{is_none};
 ghost use Rattle.std.specs.declared.io.ErrorKind.TheVariants.{OutOfMemory};
+ghost use Rattle.cache_server.specs.Server.{ServerValue};
 ghost use Rattle.service.specs.Member.{millis_of, no_load};
 ghost use Rattle.service.specs.Talks.{LedByConnections, ServesConnections, Stops};
-ghost use Rattle.service.specs.Together.{AreSame, GoesOnTogether, StaysPlaced, member_at};
+ghost use Rattle.service.specs.Together.{AreMarkedBy, AreSeenTo, GoesOnTogether, LeavesPlaced};
+ghost use Rattle.service.specs.Together.{LeavesTogether, StaysPlaced, WakesAfter, member_at};
+ghost use Rattle.service.specs.Together.{pause_of};
+ghost use Rattle.service.specs.declared.sockets.Ready.{Ready};
 
 use crate::desk::Desk;
 use crate::epoll::{EVENTS, Epoll};
 use crate::error::NotAccepted;
 use crate::load::{GREATEST, Scales};
 use crate::member::Member;
-use crate::sockets::{Peer, Sockets};
+use crate::sockets::{Peer, Ready, Sockets};
 use crate::status::{ErrorTerminal, Status, StatusLine};
 use crate::timer::{Timer, millis};
 use cache_server::Server;
 use log::Log;
 use std::alloc::Global;
-use std::collections::BTreeMap;
+use std::collections::{BTreeMap, VecDeque};
 use std::io::{ErrorKind, Stderr};
 use std::net::Net;
 use std::time::{Clock, Duration};
@@ -30,16 +35,17 @@ use std::{io, net};
 pub(crate) struct Together<S: Peer> {
     // The open ones, each under its number.
     pub(crate) members: BTreeMap<u64, Member<S>, Global>,
-    // Those with something to do, each once; and room for as many, which the next are put into.
-    pub(crate) ready: Vec<u64, Global>,
-    pub(crate) spare: Vec<u64, Global>,
+    // Those with something to do, each once; and whether memory was wanting to queue one there.
+    pub(crate) ready: VecDeque<u64, Global>,
+    pub(crate) short: bool,
     // Those that wait until others hold less.
-    pub(crate) held: Vec<u64, Global>,
+    pub(crate) held: VecDeque<u64, Global>,
     pub(crate) scales: Scales,
     // How many bytes of a request each may keep, where all together hold too much.
     pub(crate) share: u64,
-    // A connection may wait to be accepted.
+    // A connection may wait to be accepted; and when it is tried again after a fault.
     pub(crate) waits: bool,
+    pub(crate) retry: u64,
     pub(crate) idle: Option<u64>,
     pub(crate) timer: Timer,
     // When a member may have been silent for too long.
@@ -139,24 +145,28 @@ impl<S: Peer + Drop> Together<S> {
     ) -> io::Result<Together<S>>
         ensures ok { IfOk result (λ together. together.members.entries ≡ []) }
         ensures waits { IfOk result (λ together. IsTrue together.waits) }
-        ensures idle { IfOk result (λ together. together.idle ≡ option_map millis_of idle) }
+        ensures idle { IfOk result (λ together. together.idle
+            ≡ option_map (λ time. max 1 (millis_of time)) idle) }
         ensures share { IfOk result (λ together. 0 < at_once
             → together.share ≡ 268435456 / at_once) }
         ensures scales { IfOk result (λ together. (together.scales.load ≡ no_load)
-            × (together.scales.senior ≡ None) × (together.wake ≡ u64.MAX)) }
+            × (together.scales.senior ≡ None) × (together.wake ≡ u64.MAX)
+            × (together.short ≡ false)) }
+        ensures seen { IfOk result (AreSeenTo S.full S.dry) }
         ensures err { IfErr result (λ e. error_kind e ≡ OutOfMemory) }
     {
         let alloc = rt.alloc();
         Ok(Together {
             members: BTreeMap::new(alloc),
-            ready: Vec::with_capacity(alloc, at_once)?,
-            spare: Vec::with_capacity(alloc, at_once)?,
-            held: Vec::new(alloc),
+            ready: VecDeque::with_capacity(alloc, at_once)?,
+            short: false,
+            held: VecDeque::new(alloc),
             scales: Scales::new(),
             share: GREATEST / (at_once as u64).max(1),
             waits: true,
+            retry: u64::MAX,
             idle: match &idle {
-                Some(time) => Some(millis(time)),
+                Some(time) => Some(millis(time).max(1)),
                 None => None,
             },
             timer: Timer::begin(rt),
@@ -170,21 +180,47 @@ impl<S: Peer + Drop> Together<S> {
     /// more, since the time is whole milliseconds; not at all while one has something to do, or
     /// those that were held may have, since less is held.
     fn timeout(&self, now: u64) -> Option<Duration>
-        ensures ready { (self.now.ready.items ≡ [] → ⊥) → option_map as_nanos result ≡ Some 0 }
-        ensures eased { IsTrue self.now.scales.eased → option_map as_nanos result ≡ Some 0 }
-        ensures wake { self.now.ready.items ≡ [] → self.now.scales.eased ≡ false
-            → option_map as_nanos result
-            ≡ (let wake = min self.now.wake self.now.line.due in
-            if wake == u64.MAX then None else Some ((wake - now + 1) * 1000000)) }
+        ensures { option_map as_nanos result ≡ pause_of self.now now }
     {
         if !self.ready.is_empty() || self.scales.eased {
             return Some(Duration::from_secs(0));
         }
-        let wake = self.wake.min(self.line.due());
+        let wake = self.wake.min(self.line.due()).min(self.retry);
         if wake == u64::MAX {
             return None;
         }
         Some(Duration::from_millis(wake.saturating_sub(now) + 1))
+    }
+
+    /// Waits until the system has something, or to the next wake, and notes what it tells. All were
+    /// looked at by this time.
+    fn pause<N: Sockets<Stream = S>>(
+        &mut self,
+        sockets: &mut N,
+        events: &mut Vec<Ready, Global>,
+        now: u64,
+    ) -> io::Result<()>
+        requires seen { AreSeenTo S.full S.dry self.old }
+        requires swept { WakesAfter now self.old.wake }
+        ensures told { OnOk result ((told : List Ready)
+            × N.waited sockets.new (pause_of self.old now) told
+            × AreMarkedBy told self.old.members.entries self.new.members.entries
+            × (self.new.waits ≡ (self.old.waits || list_any (λ e. is_none e.number) told))) }
+        ensures seen { AreSeenTo S.full S.dry self.new }
+        ensures keeps { (server : ServerValue) → LeavesTogether S.spoke N.ended N.lost
+            (self.old.members.entries, server) (self.new.members.entries, server) }
+        ensures places { LeavesPlaced N.places (sockets.old, self.old.members.entries)
+            (sockets.new, self.new.members.entries) }
+        ensures stops { IfErr result (λ e. N.broken e
+            ⊎ ((self.old.short ≡ true) × (error_kind e ≡ OutOfMemory))) }
+    {
+        if self.short {
+            return Err(io::Error::from(ErrorKind::OutOfMemory));
+        }
+        events.clear();
+        sockets.wait(self.timeout(now), events)?;
+        self.mark(events.as_slice());
+        Ok(())
     }
 
     /// Serves so many connections, up to `at_once` at a time, to the end of each, or as many as can
@@ -199,7 +235,8 @@ impl<S: Peer + Drop> Together<S> {
         at_once: usize,
         server: &mut Server<Global>,
     ) -> io::Result<()>
-        requires { accepted.old ≤ connections }
+        requires few { accepted.old ≤ connections }
+        requires seen { AreSeenTo S.full S.dry self.old }
         ensures keeps { GoesOnTogether false S.spoke N.ended N.lost
             self.old.members.entries accepted.old server.old
             self.new.members.entries accepted.new server.new }
@@ -214,29 +251,26 @@ impl<S: Peer + Drop> Together<S> {
     {
         let mut events = Vec::with_capacity(rt.alloc(), EVENTS)?;
         for _ in 0..u64::MAX {
-            self.accept_some(rt, sockets, accepted, connections, at_once)?;
+            let now = self.timer.now(rt);
+            self.sweep(rt, sockets, server, now);
+            self.accept_some(rt, sockets, accepted, connections, at_once, now)?;
             if *accepted >= connections && self.members.is_empty() {
                 return Ok(());
             }
-            self.show(rt, server);
-            events.clear();
-            sockets.wait(self.timeout(self.timer.now(rt)), &mut events)?;
-            self.mark(events.as_slice());
+            self.show(server, now);
+            self.pause(sockets, &mut events, now)?;
             self.run(rt, sockets, server);
-            let now = self.timer.now(rt);
-            self.sweep(rt, sockets, server, now);
         }
         Err(io::Error::from(ErrorKind::OutOfMemory))
     }
 
     /// Shows on the terminal how many are open, and the hits so far.
-    fn show<C: Clock>(&mut self, clock: &C, server: &Server<Global>)
-        ensures { AreSame self.old.members.entries self.new.members.entries }
+    fn show(&mut self, server: &Server<Global>, now: u64)
+        ensures { self.new ≡ record self.old { line = self.new.line } }
     {
         if !self.line.has_terminal() {
             return;
         }
-        let now = self.timer.now(clock);
         let status = Status {
             open: self.members.len(),
             hits: server.counts().hits,

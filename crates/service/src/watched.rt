@@ -2,7 +2,7 @@ ghost use Rattle.std.specs.Prelude.{◌≡◌, ◌-◌, ◌<◌, ◌≤◌, ◌�
 ghost use Rattle.std.specs.Prelude.{OnErr};
 ghost use Rattle.std.specs.Io.{ReadsAtMost, WritesAtMost};
 ghost use Rattle.std.specs.IoError.{error_kind};
-ghost use Rattle.std.specs.declared.io.ErrorKind.TheVariants.{WouldBlock};
+ghost use Rattle.std.specs.declared.io.ErrorKind.TheVariants.{Interrupted, WouldBlock};
 ghost use Rattle.cache_server.specs.declared.error.ConnError.{ConnError};
 ghost use Rattle.service.specs.Sockets.{Failed, Finished, IsBroken, ReadsFrom, SendsTo, Shut};
 ghost use Rattle.service.specs.Sockets.{Silent, Stays, StaysDry, StaysShut};
@@ -91,8 +91,12 @@ impl<S: Peer> Watched<S> {
     pub(crate) fn discard(&mut self, buffer: &mut [u8], now: u64) -> io::Result<usize>
         ensures stays { Stays S.spoke self.old.stream self.new.stream }
         ensures shut { StaysShut S.over self.old.stream self.new.stream }
+        ensures end { IfOk result (λ count. count ≡ 0 → S.over self.new.stream Finished) }
         ensures nothing { IfErr result (λ e. error_kind e ≡ WouldBlock → S.dry self.new.stream) }
         ensures moved { self.new.moved ≡ moved_by result self.old.moved now }
+        ensures broken { IfErr result (λ e. (error_kind e ≡ WouldBlock → ⊥)
+            → (error_kind e ≡ Interrupted → ⊥)
+            → S.over self.new.stream (Failed ConnError.ReadFault)) }
     {
         let called = self.stream.discard(buffer, now);
         self.moved = moved_by(&called, self.moved, now);
@@ -102,6 +106,7 @@ impl<S: Peer> Watched<S> {
     pub(crate) fn shut(&mut self)
         ensures stays { Stays S.spoke self.old.stream self.new.stream }
         ensures shut { S.over self.new.stream Shut }
+        ensures moved { self.new.moved ≡ self.old.moved }
     {
         self.stream.shut();
     }

@@ -21,6 +21,7 @@ impl<S: Peer + Drop> Member<S> {
         requires { self.old.unsent ≡ [] → ⊥ }
         ensures passes { Passes (end_of result) S.spoke S.over self.old self.new }
         ensures pauses { PausesFor S.full S.dry ⊥ result self.new }
+        ensures queued { self.new.queued ≡ self.old.queued }
     {
         match self.write_some(desk, now) {
             Ok(count) => self.pass(count),
@@ -30,8 +31,8 @@ impl<S: Peer + Drop> Member<S> {
 
     /// Writes some of what isn't sent.
     fn write_some(&mut self, desk: &mut Desk, now: u64) -> io::Result<usize>
-        ensures left { self.new.left ≡ self.old.left }
-        ensures unsent { self.new.unsent ≡ self.old.unsent }
+        ensures same { self.new
+            ≡ record self.old { stream = self.new.stream; moved = self.new.moved } }
         ensures sent { IfOk result (λ count.
             SendsTo S.spoke self.old.stream (take count self.old.unsent) self.new.stream) }
         ensures within { IfOk result (λ count. count ≤ length self.old.unsent) }
@@ -63,6 +64,7 @@ impl<S: Peer + Drop> Member<S> {
         ensures passes { PassesSent (end_of result) S.spoke S.over count self.old self.new }
         ensures none { count ≡ 0 → result ≡ Turn.Ends (Err ConnError.WriteFault) }
         ensures some { 0 < count → result ≡ Turn.Again }
+        ensures queued { self.new.queued ≡ self.old.queued }
     {
         if count == 0 {
             return Turn::Ends(Err(ConnError::WriteFault));
@@ -91,10 +93,11 @@ impl<S: Peer + Drop> Member<S> {
 
     /// The answer is sent.
     fn finish(&mut self)
-        ensures stream { self.new.stream ≡ self.old.stream }
-        ensures left { self.new.left ≡ self.old.left }
-        ensures unsent { self.new.unsent ≡ [] }
-        ensures load { self.new.load.answers ≡ 0 }
+        ensures { self.new ≡ record self.old {
+          unsent = [];
+          load = record self.old.load { answers = 0 };
+          own = 0;
+        } }
     {
         self.answer = None;
         self.sent = 0;

@@ -10,7 +10,7 @@ returns-in-Ok-clause-moves g c =
     let left : drop c.self.inside.at c.self.inside.input.items ≡ c.args.self.now.left = ap (λ (z : MemberValue g.row.S.Denot). z.left) c.self.view_is in
     let stream : c.self.inside.stream.stream ≡ c.args.self.now.stream = ap (λ (z : MemberValue g.row.S.Denot). z.stream) c.self.view_is in
     next_moves g.S.Peer.spoke g.S.Peer.over c.args.number c.args.server.now c.next.new.self c.args.self.now c.keep.new.self c.split_at.result.1.now c.in-Ok.taken c.in-Ok.answer
-    c.requires.more (grind (arith, common_steps, drop_min {X = ℕ})) c.requires.unsent (c.keep.ensures.stream ∙ stream) (grind (arith, common_steps, drop-drop {A = ℕ})) c.keep.ensures.unsent
+    c.requires.more (grind (arith, common_steps, drop_min {X = ℕ})) c.requires.unsent (ap (λ (z : MemberValue g.row.S.Denot). z.stream) c.keep.ensures ∙ stream) (grind (arith, common_steps, drop-drop {A = ℕ})) (ap (λ (z : MemberValue g.row.S.Denot). z.unsent) c.keep.ensures)
     c.in-Ok.ensures.prefix c.in-Ok.ensures.answers c.in-Ok.ensures.ok
 
 pub returns-in-Err-clause-moves : goal.returns-in-Err-clause-moves

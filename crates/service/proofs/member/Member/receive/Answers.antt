@@ -56,5 +56,5 @@ returns-else-is_err-clause-moves g c =
     (reads_moves g.S.Peer.spoke g.S.Peer.over None c.args.number c.args.server.now c.next.new.self _ mid c.keep.new.self
     (reads_pass g.S.Peer.spoke g.S.Peer.over _ mid (take c.in-Ok.count c.read.new.buffer) c.in-Ok.ensures.read left c.split_at.ensures.front (sym unsent))
     (next_moves g.S.Peer.spoke g.S.Peer.over c.args.number c.args.server.now c.next.new.self mid c.keep.new.self c.split_at.result.0.now c.in-Ok-next.taken c.in-Ok-next.answer c.requires.more refl refl
-    c.keep.ensures.stream (grind (arith, common_steps)) c.keep.ensures.unsent
+    (ap (λ (z : MemberValue g.row.S.Denot). z.stream) c.keep.ensures) (grind (arith, common_steps)) (ap (λ (z : MemberValue g.row.S.Denot). z.unsent) c.keep.ensures)
     c.next.ensures.prefix c.in-Ok-next.ensures.answers c.in-Ok-next.ensures.ok))

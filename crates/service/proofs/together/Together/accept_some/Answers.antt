@@ -1,7 +1,9 @@
 use Rattle.std.specs.Prelude.{false}
-use Rattle.std.proofs.Common.{rules}
-use Rattle.service.proofs.Keeping.{keeps_further}
-use Rattle.service.proofs.Places.{placed_further}
+use Rattle.std.proofs.Common.{◌≡◌, true, length, sym, ◌∙◌, ap, subst, rules}
+use Rattle.service.specs.Together.{AreSame, WakesAfter, member_at}
+use Rattle.service.proofs.Keeping.{keeps_further, keeps_same}
+use Rattle.service.proofs.Places.{placed_further, placed_still}
+use Rattle.service.proofs.Seeing.{seen_same}
 use Rattle.service.proofs.together.Together.accept_some.Goals as goal
 
 pub returns-in_err-accept_one-clause-keeps : goal.returns-in_err-accept_one-clause-keeps
@@ -21,4 +23,21 @@ loop-preserved g c = record {
   places = placed_further c.loop.invariant.places c.accept_one.ensures.places;
   within = c.accept_one.ensures.within;
   again = λ was. c.accept_one.ensures.again (search rules);
+  seen = λ seen. c.accept_one.ensures.seen (c.loop.invariant.seen seen);
+  wake = λ seen later. c.accept_one.ensures.wake (c.loop.invariant.seen seen) (c.loop.invariant.wake seen later);
 }
+
+pub loop-init : goal.loop-init
+loop-init g c =
+    let f = c.args.self.now.members.entries in
+    let t = c.try_again.new.self.members.entries in
+    let rest = c.try_again.ensures.rest in
+    let same : AreSame f t = (λ j. ap (λ z. member_at z.members.entries j) rest, ap (λ z. length z.members.entries) rest) in
+    record {
+      keeps = λ server. keeps_same false g.S.Peer.spoke g.N.Sockets.ended g.N.Sockets.lost f t c.args.accepted.now server same;
+      places = placed_still c.args.sockets.now f t c.args.accepted.now same;
+      within = c.requires;
+      again = λ was shut. let z : false ≡ true = sym shut ∙ c.try_again.ensures.waits was in absurd cc;
+      seen = seen_same g.S.Peer.full g.S.Peer.dry c.args.self.now c.try_again.new.self rest;
+      wake = λ seen later. subst (λ w. WakesAfter c.args.now w) (sym (ap (λ z. z.wake) rest)) later;
+    }

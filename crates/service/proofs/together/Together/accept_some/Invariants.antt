@@ -1,8 +1,8 @@
-use Rattle.std.specs.Prelude.{true, false}
-use Rattle.std.proofs.Common.{◌≡◌, ◌≤◌, ◌⊎◌, []}
+use Rattle.std.specs.Prelude.{IsTrue, false, min}
+use Rattle.std.proofs.Common.{◌≡◌, ◌+◌, ◌≤◌, ◌⊎◌}
 use Rattle.cache_server.specs.Server.{ServerValue}
 use Rattle.service.specs.Talks.{FindsNone}
-use Rattle.service.specs.Together.{GoesOnTogether, StaysPlaced}
+use Rattle.service.specs.Together.{AreSeenTo, GoesOnTogether, StaysPlaced, WakesAfter}
 use Rattle.service.proofs.together.Together.accept_some.Given as goal
 
 abbrev pub invariant-loop : goal.invariant-loop
@@ -10,5 +10,7 @@ invariant-loop g l = record {
   keeps : (server : ServerValue) → GoesOnTogether false g.S.Peer.spoke g.N.Sockets.ended g.N.Sockets.lost l.fn.self.members.entries l.fn.accepted server l.self.members.entries l.accepted server;
   places : StaysPlaced g.N.Sockets.places l.fn.at_once l.fn.sockets l.fn.self.members.entries l.fn.accepted l.sockets l.self.members.entries l.accepted;
   within : l.accepted ≤ l.fn.connections;
-  again : l.fn.self.waits ≡ true → l.self.waits ≡ false → (l.self.members.entries ≡ [] → ⊥) ⊎ FindsNone g.N.Sockets.refused l.sockets;
+  again : IsTrue l.fn.self.waits ⊎ (l.fn.self.retry ≤ l.fn.now) → l.self.waits ≡ false → FindsNone g.N.Sockets.refused l.sockets ⊎ (l.self.retry ≡ min (l.fn.now + 500) 18446744073709551615);
+  seen : AreSeenTo g.S.Peer.full g.S.Peer.dry l.fn.self → AreSeenTo g.S.Peer.full g.S.Peer.dry l.self;
+  wake : AreSeenTo g.S.Peer.full g.S.Peer.dry l.fn.self → WakesAfter l.fn.now l.fn.self.wake → WakesAfter l.fn.now l.self.wake;
 }

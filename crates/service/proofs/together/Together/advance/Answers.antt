@@ -1,5 +1,9 @@
-use Rattle.std.proofs.Common.{rules, subst}
-use Rattle.service.specs.Member.{MemberValue, MovesOn, end_of}
+use Rattle.std.proofs.Common.{◌≡◌, Some, false, rules, sym, subst}
+use Rattle.std.specs.Prelude.{IfSome}
+use Rattle.service.specs.Member.{AwaitsEvent, MemberValue, MovesOn, end_of}
+use Rattle.service.specs.Together.{member_at}
+use Rattle.service.specs.declared.turn.Turn.TheVariants.{Waits}
+use Rattle.service.proofs.Pausing.{moves_queued}
 use Rattle.service.proofs.together.Together.advance.Goals as goal
 
 pub returns-clause-some : goal.returns-clause-some
@@ -10,5 +14,6 @@ returns-clause-some g c = record {
   at = search rules;
   others = λ j n. search rules;
   many = search rules;
-  moves = subst (λ (z : MemberValue g.row.S.Denot). MovesOn (end_of c.turn-turn.result) g.S.Peer.spoke g.S.Peer.over c.args.number c.args.server.now z c.turn-turn.new.server c.turn-turn.new.self) c.queue.ensures c.turn-turn.ensures.moves;
+  moves = moves_queued g.S.Peer.spoke g.S.Peer.over (end_of c.turn-turn.result) c.args.number c.args.server.now c.turn-turn.new.server c.in-Some.member.now c.turn-turn.new.self false
+      (subst (λ (z : MemberValue g.row.S.Denot). MovesOn (end_of c.turn-turn.result) g.S.Peer.spoke g.S.Peer.over c.args.number c.args.server.now z c.turn-turn.new.server c.turn-turn.new.self) c.queue.ensures.is c.turn-turn.ensures.moves);
 }

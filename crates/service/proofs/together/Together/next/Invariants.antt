@@ -7,6 +7,5 @@ abbrev pub invariant-loop-failed : goal.invariant-loop-failed
 invariant-loop-failed g l = record {
   tried : FailsAfter g.N.Sockets.failed 0 l.failed l.fn.sockets l.sockets;
   places : KeepsPlaces g.N.Sockets.places l.fn.sockets l.sockets;
-  same : l.self.members ≡ l.fn.self.members;
-  waits : l.self.waits ≡ l.fn.self.waits;
+  same : l.self ≡ record l.fn.self { line = l.self.line };
 }

@@ -1,11 +1,12 @@
-use Rattle.std.proofs.Common.{◌≡◌, [], drop}
-use Rattle.service.specs.Together.{AreSameButHeld}
+use Rattle.std.proofs.Common.{◌≡◌, ◌+◌, length}
+use Rattle.service.specs.Together.{AreSameButHeld, AreSeenTo}
 use Rattle.service.proofs.Marking.{AreFreeBut}
 use Rattle.service.proofs.together.Together.release.Given as goal
 
-abbrev pub invariant-loop-number : goal.invariant-loop-number
-invariant-loop-number g l = record {
+abbrev pub invariant-loop : goal.invariant-loop
+invariant-loop g l = record {
   same : AreSameButHeld g.S.Peer.spoke l.fn.now l.fn.self.members.entries l.self.members.entries;
-  free : AreFreeBut l.fn.now l.fn.self.held.items (drop l.number-index l.fn.self.held.items) l.self.members.entries;
-  none : l.self.held.items ≡ [];
+  free : AreFreeBut l.fn.now l.fn.self.held.items l.self.held.items l.self.members.entries;
+  seen : AreSeenTo g.S.Peer.full g.S.Peer.dry l.fn.self → AreSeenTo g.S.Peer.full g.S.Peer.dry l.self;
+  many : l.counter + length l.self.held.items ≡ length l.fn.self.held.items;
 }

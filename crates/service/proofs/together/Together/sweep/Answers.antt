@@ -1,7 +1,11 @@
-use Rattle.std.proofs.Common.{false, ◌∙◌, arith}
+use Rattle.std.proofs.Common.{false, ◌≤◌, sym, ◌∙◌, subst, arith}
+use Rattle.std.specs.Prelude.{IfSome}
+use Rattle.service.specs.Member.{deadline_at}
 use Rattle.service.proofs.Keeping.{keeps_further}
 use Rattle.service.proofs.Places.{placed_further}
-use Rattle.service.proofs.Waking.{is_calm, spares_on}
+use Rattle.service.proofs.Seeing.{seen_wake}
+use Rattle.service.proofs.Waking.{first_at_most, is_calm, or_never, spares_on}
+use Rattle.service.proofs.Whole.{none_open}
 use Rattle.service.proofs.together.Together.sweep.Goals as goal
 
 pub loop-preserved : goal.loop-preserved
@@ -10,6 +14,7 @@ loop-preserved g c = record {
       accepted accepted accepted c.args.server.now c.loop.server c.give_up.new.server
       (c.loop.invariant.keeps accepted) (c.give_up.ensures.keeps accepted);
   places = λ all accepted. placed_further (c.loop.invariant.places all accepted) (c.give_up.ensures.places all accepted);
+  seen = λ seen. c.give_up.ensures.seen (c.loop.invariant.seen seen);
   idle = c.give_up.ensures.idle ∙ c.loop.invariant.idle;
   spares = λ calm few. spares_on calm c.args.self.now.idle c.loop.self.idle c.is_pressed-pressed.result c.args.now c.in-Err.number c.in-Err.deadline
       c.args.self.now.members.entries c.loop.self.members.entries c.give_up.new.self.members.entries
@@ -18,3 +23,11 @@ loop-preserved g c = record {
   little = λ few. c.give_up.ensures.little (c.loop.invariant.little few);
   fewer = omega (arith, c.give_up.ensures.fewer, c.loop.invariant.fewer);
 }
+
+pub returns-in-Ok-clause-seen : goal.returns-in-Ok-clause-seen
+returns-in-Ok-clause-seen g c seen =
+    seen_wake g.S.Peer.full g.S.Peer.dry c.loop.self c.in-Ok.wake (λ k. first_at_most c.loop.self.idle c.loop.self.members.entries k c.in-Ok.wake c.in-Ok.ensures.wake.1) (c.loop.invariant.seen seen)
+
+pub returns-clause-seen : goal.returns-clause-seen
+returns-clause-seen g c seen =
+    seen_wake g.S.Peer.full g.S.Peer.dry c.loop.self 18446744073709551615 (λ k. subst (λ o. IfSome o (λ m. 18446744073709551615 ≤ or_never (deadline_at m c.loop.self.idle))) (sym (none_open c.loop.self.members.entries (omega arith) k)) tt) (c.loop.invariant.seen seen)

@@ -1,12 +1,13 @@
 use Rattle.std.specs.Prelude.{Bool, false, true}
 use Rattle.std.proofs.Common.{◌≡◌, ℕ, ◌+◌, length}
-use Rattle.service.specs.Together.{GoesOnTogether, HoldLittle, LeavesPlaced, SparesInTime}
+use Rattle.service.specs.Together.{AreSeenTo, GoesOnTogether, HoldLittle, LeavesPlaced, SparesInTime}
 use Rattle.service.proofs.together.Together.sweep.Given as goal
 
 abbrev pub invariant-loop : goal.invariant-loop
 invariant-loop g l = record {
   keeps : (accepted : ℕ) → GoesOnTogether false g.S.Peer.spoke g.N.Sockets.ended g.N.Sockets.lost l.fn.self.members.entries accepted l.fn.server l.self.members.entries accepted l.server;
   places : LeavesPlaced g.N.Sockets.places (l.fn.sockets, l.fn.self.members.entries) (l.sockets, l.self.members.entries);
+  seen : AreSeenTo g.S.Peer.full g.S.Peer.dry l.fn.self → AreSeenTo g.S.Peer.full g.S.Peer.dry l.self;
   idle : l.self.idle ≡ l.fn.self.idle;
   spares : (calm : Bool) → (calm ≡ true → HoldLittle l.fn.self.scales.load) → SparesInTime calm l.fn.self.idle l.fn.now l.fn.self.members.entries l.self.members.entries;
   little : HoldLittle l.fn.self.scales.load → HoldLittle l.self.scales.load;

@@ -1,77 +1,138 @@
-use Rattle.std.proofs.Common.{false, sym, ◌∙◌, ap, subst}
-use Rattle.std.specs.Prelude.{Err}
-use Rattle.std.specs.List.{Contains}
+use Rattle.std.proofs.Common.{◌≡◌, ◌∷◌, false, Option, Some, None, refl, sym, ◌∙◌, ap, subst, rules, arith}
+use Rattle.std.specs.Prelude.{Err, IfSome}
 use Rattle.cache_server.specs.declared.error.ConnError.TheVariants.{Memory}
-use Rattle.service.specs.Member.{end_of}
-use Rattle.service.specs.Together.{MovesOnAt}
-use Rattle.service.proofs.Keeping.{keeps_same, keeps_further, keeps_moved, keeps_left, keeps_lost}
-use Rattle.service.specs.declared.turn.Turn.TheVariants.{Again, Waits}
-use Rattle.service.proofs.Marking.{gone_listed, listed_but, listed_same, turn_listed}
+use Rattle.service.specs.Member.{AwaitsEvent, MemberValue, end_of}
+use Rattle.service.specs.Together.{MovesOnAt, member_at}
+use Rattle.service.specs.declared.turn.Turn.TheVariants.{Again, Held, Waits}
+use Rattle.service.proofs.Keeping.{keeps_further, keeps_moved, keeps_left, keeps_lost, keeps_queued}
+use Rattle.service.proofs.Places.{placed_further, placed_moved, placed_queued}
+use Rattle.service.proofs.Seeing.{HadTurn, ended_keeps, first_keeps, had_turn, kept_after, keeps_on, list_keeps, seen_awaiting, seen_gone, seen_held, seen_queued}
 use Rattle.service.proofs.Whole.{none_stays, others_stay}
-use Rattle.service.proofs.Places.{placed_further, placed_moved, placed_still}
 use Rattle.service.proofs.together.Together.turn.Goals as goal
+
+-- so it is of the one that is open
+some_of : {S : Type 0} (o : Option (MemberValue S)) (R : Type 0) → R → (P : MemberValue S → Type 0) → IfSome o (λ m. R → P m) → IfSome o P
+some_of None R is P h = tt
+some_of (Some m) R is P h = h is
 
 pub returns-in-Again-clause-keeps : goal.returns-in-Again-clause-keeps
 returns-in-Again-clause-keeps g c accepted =
     keeps_further false g.S.Peer.spoke g.N.Sockets.ended g.N.Sockets.lost c.args.self.now.members.entries c.advance.new.self.members.entries c.queue.new.self.members.entries
     accepted accepted accepted c.args.server.now c.advance.new.server c.advance.new.server
-    (keeps_moved false g.S.Peer.spoke g.N.Sockets.ended g.N.Sockets.lost g.S.Peer.over c.args.self.now.members.entries c.advance.new.self.members.entries accepted c.args.server.now c.advance.new.server c.args.number
-    (subst (λ t. MovesOnAt (end_of t) g.S.Peer.spoke g.S.Peer.over c.args.number c.args.server.now c.args.self.now.members.entries c.advance.new.server c.advance.new.self.members.entries) c.in-Again.is c.in-Some.ensures.some))
-    (keeps_same false g.S.Peer.spoke g.N.Sockets.ended g.N.Sockets.lost c.advance.new.self.members.entries c.queue.new.self.members.entries accepted c.advance.new.server c.queue.ensures.same)
+    (keeps_moved false g.S.Peer.spoke g.N.Sockets.ended g.N.Sockets.lost g.S.Peer.over c.args.self.now.members.entries c.advance.new.self.members.entries accepted c.args.server.now c.advance.new.server c.in-Some.number
+    (subst (λ t. MovesOnAt (end_of t) g.S.Peer.spoke g.S.Peer.over c.in-Some.number c.args.server.now c.args.self.now.members.entries c.advance.new.server c.advance.new.self.members.entries) c.in-Again.is c.in-Some-advance.ensures.some))
+    (keeps_queued false g.S.Peer.spoke g.N.Sockets.ended g.N.Sockets.lost c.in-Some.number c.advance.new.self.members.entries c.queue.new.self.members.entries accepted c.advance.new.server c.queue.ensures.at c.queue.ensures.others)
 
 pub returns-then-is_err-clause-keeps : goal.returns-then-is_err-clause-keeps
 returns-then-is_err-clause-keeps g c accepted =
     keeps_lost false g.S.Peer.spoke g.N.Sockets.ended g.N.Sockets.lost g.S.Peer.over c.args.self.now.members.entries c.advance.new.self.members.entries c.end.new.self.members.entries
-    accepted c.args.server.now c.advance.new.server c.end.new.server c.args.number
-    (subst (λ t. MovesOnAt (end_of t) g.S.Peer.spoke g.S.Peer.over c.args.number c.args.server.now c.args.self.now.members.entries c.advance.new.server c.advance.new.self.members.entries) c.in-Held.is c.in-Some.ensures.some)
+    accepted c.args.server.now c.advance.new.server c.end.new.server c.in-Some.number
+    (subst (λ t. MovesOnAt (end_of t) g.S.Peer.spoke g.S.Peer.over c.in-Some.number c.args.server.now c.args.self.now.members.entries c.advance.new.server c.advance.new.self.members.entries) c.in-Held.is c.in-Some-advance.ensures.some)
     c.end.ensures.ends
 
 pub returns-in-Ends-clause-keeps : goal.returns-in-Ends-clause-keeps
 returns-in-Ends-clause-keeps g c accepted =
     keeps_left false g.S.Peer.spoke g.N.Sockets.ended g.N.Sockets.lost g.S.Peer.over c.in-Ends.end c.args.self.now.members.entries c.advance.new.self.members.entries c.end-in-Ends.new.self.members.entries
-    accepted c.args.server.now c.advance.new.server c.end-in-Ends.new.server c.args.number
-    (subst (λ t. MovesOnAt (end_of t) g.S.Peer.spoke g.S.Peer.over c.args.number c.args.server.now c.args.self.now.members.entries c.advance.new.server c.advance.new.self.members.entries) c.in-Ends.is c.in-Some.ensures.some)
+    accepted c.args.server.now c.advance.new.server c.end-in-Ends.new.server c.in-Some.number
+    (subst (λ t. MovesOnAt (end_of t) g.S.Peer.spoke g.S.Peer.over c.in-Some.number c.args.server.now c.args.self.now.members.entries c.advance.new.server c.advance.new.self.members.entries) c.in-Ends.is c.in-Some-advance.ensures.some)
     c.end-in-Ends.ensures.ends
 
 pub returns-in-Again-clause-places : goal.returns-in-Again-clause-places
 returns-in-Again-clause-places g c all accepted =
     placed_further
-    (placed_moved _ g.S.Peer.spoke g.S.Peer.over c.args.number c.args.server.now c.advance.new.server c.args.sockets.now c.args.self.now.members.entries c.advance.new.self.members.entries accepted c.in-Some.ensures.some)
-    (placed_still c.args.sockets.now c.advance.new.self.members.entries c.queue.new.self.members.entries accepted c.queue.ensures.same)
+    (placed_moved _ g.S.Peer.spoke g.S.Peer.over c.in-Some.number c.args.server.now c.advance.new.server c.args.sockets.now c.args.self.now.members.entries c.advance.new.self.members.entries accepted c.in-Some-advance.ensures.some)
+    (placed_queued g.S.Peer.spoke c.in-Some.number c.args.sockets.now c.advance.new.self.members.entries c.queue.new.self.members.entries accepted c.queue.ensures.at c.queue.ensures.others c.queue.ensures.many)
 
 pub returns-then-is_err-clause-places : goal.returns-then-is_err-clause-places
 returns-then-is_err-clause-places g c all accepted =
     placed_further
-    (placed_moved _ g.S.Peer.spoke g.S.Peer.over c.args.number c.args.server.now c.advance.new.server c.args.sockets.now c.args.self.now.members.entries c.advance.new.self.members.entries accepted c.in-Some.ensures.some)
+    (placed_moved _ g.S.Peer.spoke g.S.Peer.over c.in-Some.number c.args.server.now c.advance.new.server c.args.sockets.now c.args.self.now.members.entries c.advance.new.self.members.entries accepted c.in-Some-advance.ensures.some)
     (c.end.ensures.places all accepted)
 
 pub returns-in-Ends-clause-places : goal.returns-in-Ends-clause-places
 returns-in-Ends-clause-places g c all accepted =
     placed_further
-    (placed_moved _ g.S.Peer.spoke g.S.Peer.over c.args.number c.args.server.now c.advance.new.server c.args.sockets.now c.args.self.now.members.entries c.advance.new.self.members.entries accepted c.in-Some.ensures.some)
+    (placed_moved _ g.S.Peer.spoke g.S.Peer.over c.in-Some.number c.args.server.now c.advance.new.server c.args.sockets.now c.args.self.now.members.entries c.advance.new.self.members.entries accepted c.in-Some-advance.ensures.some)
     (c.end-in-Ends.ensures.places all accepted)
 
-pub returns-in-Again-clause-listed : goal.returns-in-Again-clause-listed
-returns-in-Again-clause-listed g c are =
-    listed_same c.advance.new.self.held.items c.queue.new.self.held.items c.advance.new.self.members.entries c.queue.new.self.members.entries (ap (λ v. v.items) c.queue.ensures.held) c.queue.ensures.same
-    (turn_listed c.args.self.now.held.items c.advance.new.self.held.items c.args.number c.args.self.now.members.entries c.advance.new.self.members.entries c.in-Some.turn Again
-    c.in-Some.ensures.some.others c.advance.ensures.list c.in-Some.ensures.held c.in-Again.is (λ e. cc) are)
+pub returns-in-Again-clause-seen : goal.returns-in-Again-clause-seen
+returns-in-Again-clause-seen g c =
+    let t = c.args.self.now in
+    let v = c.advance.new.self in
+    let k = c.in-Some.number in
+    let some = c.in-Some-advance.ensures in
+    let rest = c.advance.ensures.rest in
+    let first : t.ready.items ≡ k ∷ c.pop_front.new.self.items = search rules in
+    let turn : HadTurn k t v some.some.after = had_turn k t v some.some.after some.some.others (first ∙ ap (λ z. k ∷ z.ready.items) (sym rest)) (ap (λ z. z.short) rest) (ap (λ z. z.held) rest) (ap (λ z. z.idle) rest) some.some.at some.queued some.wake in
+    seen_queued g.S.Peer.full g.S.Peer.dry k t v c.queue.new.self turn.keeps (kept_after k t v some.some.after (c.in-Some-advance.turn ≡ Held) turn some.held (λ e. let n : Again ≡ Held = sym c.in-Again.is ∙ e in cc))
+    c.queue.ensures.at c.queue.ensures.others c.queue.ensures.list c.queue.ensures.short c.queue.ensures.rest
 
-pub returns-in-Waits-clause-listed : goal.returns-in-Waits-clause-listed
-returns-in-Waits-clause-listed g c are =
-    turn_listed c.args.self.now.held.items c.advance.new.self.held.items c.args.number c.args.self.now.members.entries c.advance.new.self.members.entries c.in-Some.turn Waits
-    c.in-Some.ensures.some.others c.advance.ensures.list c.in-Some.ensures.held c.in-Waits.is (λ e. cc) are
+pub returns-in-Waits-clause-seen : goal.returns-in-Waits-clause-seen
+returns-in-Waits-clause-seen g c =
+    let t = c.args.self.now in
+    let v = c.advance.new.self in
+    let k = c.in-Some.number in
+    let some = c.in-Some-advance.ensures in
+    let rest = c.advance.ensures.rest in
+    let first : t.ready.items ≡ k ∷ c.pop_front.new.self.items = search rules in
+    let turn : HadTurn k t v some.some.after = had_turn k t v some.some.after some.some.others (first ∙ ap (λ z. k ∷ z.ready.items) (sym rest)) (ap (λ z. z.short) rest) (ap (λ z. z.held) rest) (ap (λ z. z.idle) rest) some.some.at some.queued some.wake in
+    let awaits = some_of (member_at v.members.entries k) (c.in-Some-advance.turn ≡ Waits) c.in-Waits.is (AwaitsEvent g.S.Peer.full g.S.Peer.dry) some.waits in
+    seen_awaiting g.S.Peer.full g.S.Peer.dry k t v some.some.after (c.in-Some-advance.turn ≡ Held) turn some.held (λ e. let n : Waits ≡ Held = sym c.in-Waits.is ∙ e in cc) awaits
 
-pub returns-then-is_err-clause-listed : goal.returns-then-is_err-clause-listed
-returns-then-is_err-clause-listed g c are =
-    let old = c.args.self.now.held.items in
-    let new = c.end.new.self.held.items in
-    let before = c.advance.new.self.members.entries in
-    let after = c.end.new.self.members.entries in
+pub returns-else-is_err-clause-seen : goal.returns-else-is_err-clause-seen
+returns-else-is_err-clause-seen g c =
+    let t = c.args.self.now in
+    let v = c.advance.new.self in
+    let k = c.in-Some.number in
+    let some = c.in-Some-advance.ensures in
+    let rest = c.advance.ensures.rest in
+    let first : t.ready.items ≡ k ∷ c.pop_front.new.self.items = search rules in
+    let turn : HadTurn k t v some.some.after = had_turn k t v some.some.after some.some.others (first ∙ ap (λ z. k ∷ z.ready.items) (sym rest)) (ap (λ z. z.short) rest) (ap (λ z. z.held) rest) (ap (λ z. z.idle) rest) some.some.at some.queued some.wake in
+    seen_held g.S.Peer.full g.S.Peer.dry k t v (record v { held = c.list.new.held }) some.some.before some.some.after c.in-Some-advance.was_held (c.in-Some-advance.turn ≡ Held) turn some.held c.in-Held.is some.some.held some.was refl (search rules)
+
+pub returns-then-is_err-clause-seen : goal.returns-then-is_err-clause-seen
+returns-then-is_err-clause-seen g c =
+    let t = c.args.self.now in
+    let v = c.advance.new.self in
+    let k = c.in-Some.number in
+    let some = c.in-Some-advance.ensures in
+    let rest = c.advance.ensures.rest in
+    let first : t.ready.items ≡ k ∷ c.pop_front.new.self.items = search rules in
+    let turn : HadTurn k t v some.some.after = had_turn k t v some.some.after some.some.others (first ∙ ap (λ z. k ∷ z.ready.items) (sym rest)) (ap (λ z. z.short) rest) (ap (λ z. z.held) rest) (ap (λ z. z.idle) rest) some.some.at some.queued some.wake in
+    let w = record v { held = c.list.new.held } in
+    let u = c.end.new.self in
+    let ends = c.end.ensures.ends in
     let why = Err Memory in
-    let s = c.advance.new.server in
-    let t = c.end.new.server in
-    listed_but old new c.args.number c.args.self.now.members.entries after
-    (λ j other. others_stay g.S.Peer.spoke g.S.Peer.over g.N.Sockets.ended g.N.Sockets.lost c.args.number why s t before after c.end.ensures.ends j other ∙ c.in-Some.ensures.some.others j other)
-    (λ j there. subst (λ ks. Contains ks j) (sym c.end.ensures.list) (c.list.ensures.more j (subst (λ ks. Contains ks j) (sym c.advance.ensures.list) there)))
-    (gone_listed new c.args.number after (none_stays g.S.Peer.spoke g.S.Peer.over g.N.Sockets.ended g.N.Sockets.lost c.args.number why s t before after c.end.ensures.ends)) are
+    seen_gone g.S.Peer.full g.S.Peer.dry k t u
+    (keeps_on (λ j. j ≡ k → ⊥) t w u (keeps_on (λ j. j ≡ k → ⊥) t v w turn.keeps (list_keeps k v w (search rules) refl))
+    (ended_keeps k w u (others_stay g.S.Peer.spoke g.S.Peer.over g.N.Sockets.ended g.N.Sockets.lost k why c.advance.new.server c.end.new.server w.members.entries u.members.entries ends) c.end.ensures.rest))
+    (none_stays g.S.Peer.spoke g.S.Peer.over g.N.Sockets.ended g.N.Sockets.lost k why c.advance.new.server c.end.new.server w.members.entries u.members.entries ends)
+
+pub returns-in-Ends-clause-seen : goal.returns-in-Ends-clause-seen
+returns-in-Ends-clause-seen g c =
+    let t = c.args.self.now in
+    let v = c.advance.new.self in
+    let k = c.in-Some.number in
+    let some = c.in-Some-advance.ensures in
+    let rest = c.advance.ensures.rest in
+    let first : t.ready.items ≡ k ∷ c.pop_front.new.self.items = search rules in
+    let turn : HadTurn k t v some.some.after = had_turn k t v some.some.after some.some.others (first ∙ ap (λ z. k ∷ z.ready.items) (sym rest)) (ap (λ z. z.short) rest) (ap (λ z. z.held) rest) (ap (λ z. z.idle) rest) some.some.at some.queued some.wake in
+    let u = c.end-in-Ends.new.self in
+    let ends = c.end-in-Ends.ensures.ends in
+    seen_gone g.S.Peer.full g.S.Peer.dry k t u
+    (keeps_on (λ j. j ≡ k → ⊥) t v u turn.keeps
+    (ended_keeps k v u (others_stay g.S.Peer.spoke g.S.Peer.over g.N.Sockets.ended g.N.Sockets.lost k c.in-Ends.end c.advance.new.server c.end-in-Ends.new.server v.members.entries u.members.entries ends) c.end-in-Ends.ensures.rest))
+    (none_stays g.S.Peer.spoke g.S.Peer.over g.N.Sockets.ended g.N.Sockets.lost k c.in-Ends.end c.advance.new.server c.end-in-Ends.new.server v.members.entries u.members.entries ends)
+
+pub returns-in_default-advance-clause-seen : goal.returns-in_default-advance-clause-seen
+returns-in_default-advance-clause-seen g c =
+    let t = c.args.self.now in
+    let u = c.advance.new.self in
+    let k = c.in-Some.number in
+    let rest = c.advance.ensures.rest in
+    let same = c.advance.ensures.members c.in_default-advance.is in
+    let still = c.advance.ensures.still c.in_default-advance.is in
+    let first : t.ready.items ≡ k ∷ c.pop_front.new.self.items = search rules in
+    seen_gone g.S.Peer.full g.S.Peer.dry k t u
+    (first_keeps k t u (λ j n. same.0 j) (first ∙ ap (λ z. k ∷ z.ready.items) (sym rest)) (ap (λ z. z.short) rest) (ap (λ z. z.held) rest) (ap (λ z. z.idle) rest) (omega (arith, still)))
+    (same.0 k ∙ c.advance.ensures.none c.in_default-advance.is)
