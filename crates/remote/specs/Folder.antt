@@ -8,6 +8,7 @@ use Rattle.std.specs.declared.fs.Metadata.{Metadata}
 use Rattle.std.specs.declared.io.Error.{Error}
 use Rattle.std.specs.declared.io.ErrorKind.TheVariants.{NotFound, OutOfMemory}
 use Rattle.std.specs.declared.vec.Vec.{Vec}
+use Rattle.blob_digest.specs.Body.{greatest_blob}
 use Rattle.blob_digest.specs.Digest.{DigestValue}
 use Rattle.blob_digest.specs.Text.{digest_text}
 use Rattle.blob_source.specs.Source.{Telling, bytes_of}
@@ -55,15 +56,15 @@ ComesOfSystem (NotAFile p) = ⊥
 ComesOfSystem (TooLarge p) = ⊥
 ComesOfSystem Memory = Unit {0}
 
--- a file that is read: one of at most 16,777,216 bytes
+-- a file that is read: one of at most so many bytes as a blob has
 abbrev pub IsReadable : Metadata → Type 0
-IsReadable m = IsFile (file_type m) × (metadata_len m ≤ 16777216)
+IsReadable m = IsFile (file_type m) × (metadata_len m ≤ greatest_blob)
 
 -- the error tells why what stands at this path isn't read, by its metadata
 abbrev pub TellsUnreadable : {A : Type 0} → List ℕ → Metadata → FileError A → Type 0
 TellsUnreadable path m (Io p fault) = ⊥
 TellsUnreadable path m (NotAFile p) = (IsFile (file_type m) → ⊥) × (string_bytes p ≡ path)
-TellsUnreadable path m (TooLarge p) = IsFile (file_type m) × (16777216 < metadata_len m)
+TellsUnreadable path m (TooLarge p) = IsFile (file_type m) × (greatest_blob < metadata_len m)
     × (string_bytes p ≡ path)
 TellsUnreadable path m Memory = Unit {0}
 

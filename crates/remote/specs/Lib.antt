@@ -1,7 +1,8 @@
+pub mod Fault
 pub mod Flow
-pub mod Reply
-pub mod Table
+pub mod Folder
 pub mod Line
 pub mod Remote
+pub mod Reply
 pub mod Steps
-pub mod Folder
+pub mod Table

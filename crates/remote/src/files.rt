@@ -5,6 +5,7 @@ ghost use Rattle.std.specs.IoError.{error_kind};
 ghost use Rattle.remote.specs.Folder.{IsErrorOf, IsNotThere, ComesOfSystem, IsReadable, TellsFault};
 ghost use Rattle.remote.specs.Folder.{TellsOpenFault, TellsUnreadable};
 
+use blob_digest::GREATEST_BLOB;
 use std::alloc::{AllocError, Allocator};
 use std::io::{ErrorKind, Read};
 use std::rt::Files;
@@ -12,7 +13,7 @@ use std::{fs, io};
 use thiserror::Error;
 
 /// The most bytes that a file has.
-const GREATEST_FILE: u64 = 16_777_216;
+const GREATEST_FILE: u64 = GREATEST_BLOB as u64;
 
 /// Why a file can't be read.
 #[derive(Drop, Error)]
