@@ -1,5 +1,5 @@
 -- What is told of a request that failed.
-use Rattle.std.proofs.Common.{[], ◌≡◌, ◌∙◌, List, ℕ, Option, Some, None, Result, Ok, Err, IfErr, inl, inr, refl, subst, sym}
+use Rattle.std.proofs.Common.{[], ◌≡◌, ◌∙◌, List, ℕ, Option, Some, None, Result, Ok, Err, IfErr, inl, inr, refl, sym}
 use Rattle.std.specs.Prelude.{IsErrOf}
 use Rattle.std.proofs.Math.Logic.{∥∥₁_map}
 use Rattle.blob_digest.specs.Digest.{DigestValue, digest_of}

@@ -13,7 +13,6 @@ use Rattle.commands.specs.declared.error.CommandError.TheVariants.{Connection, D
 use Rattle.commands.specs.declared.error.CommandError.TheVariants.{Memory, NotAFile, Number, Output}
 use Rattle.commands.specs.declared.error.CommandError.TheVariants.{Process, Random, Server, Text}
 use Rattle.commands.specs.declared.error.CommandError.TheVariants.{TooLarge, Unlike, Words}
-use Rattle.commands.specs.declared.failure.Failure.{Failure}
 use Rattle.commands.specs.declared.failure.Method.{Method}
 use Rattle.commands.specs.declared.failure.Method.TheVariants.{GetBlob, GetResult, PutBlob}
 use Rattle.commands.specs.declared.failure.Method.TheVariants.{PutResult}

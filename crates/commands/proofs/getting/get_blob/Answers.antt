@@ -1,4 +1,4 @@
-use Rattle.std.proofs.Common.{rules, [], ◌≡◌, ◌≢◌, ◌∙◌, Some, None, Ok, Option, Result, ℕ, inr, refl, subst, sym, string_bytes}
+use Rattle.std.proofs.Common.{rules, [], ◌≡◌, ◌≢◌, Some, None, Ok, Option, Result, ℕ, inr, refl, subst, sym, string_bytes}
 use Rattle.std.specs.declared.alloc.Global.{Global}
 use Rattle.std.specs.declared.vec.Vec.{Vec}
 use Rattle.blob_digest.specs.Digest.{digest_of, empty_digest}
