@@ -1,9 +1,11 @@
 -- What a build tells is that of some build of the plan, and why it tells nothing.
-use Rattle.std.proofs.Common.{◌≡◌, ◌<◌, List, [], Result, Ok, Err, Option, Some, None, ℕ, arith, inl, inr, refl, subst, string_bytes}
-use Rattle.std.specs.Prelude.{IsSome, codes, unwrap_or}
+use Rattle.std.proofs.Common.{◌≡◌, ◌<◌, Bool, false, true, ap, if◌then◌else◌, List, [], Result, Ok, Err, Option, Some, None, ℕ, arith, inl, inr, refl, subst, string_bytes, sym}
+use Rattle.std.specs.Bool.{Decides}
+use Rattle.std.specs.Prelude.{IsSome, bytes_eq, codes, unwrap_or}
+use Rattle.std.proofs.lemmas.Slice.Eq.{bytes_eq-Decides}
 use Rattle.std.specs.Option.{option_map_or}
 use Rattle.clap.specs.Words.{Row, first_of}
-use Rattle.command_lines.specs.CommandLine.{option_text}
+use Rattle.command_lines.specs.CommandLine.{IsSet, option_text}
 use Rattle.commands.specs.Faults.{OrMemory}
 use Rattle.commands.specs.Options.{decimal_number}
 use Rattle.commands.specs.Places.{FailsOver, FailsToConnect, IsConnected, IsToldOver, puts_too}
@@ -24,16 +26,17 @@ use Rattle.builder.specs.declared.error.BuildPlanError.TheVariants.{Step}
 use Rattle.builder.specs.declared.telling.Told.{Told}
 use Rattle.builder.specs.declared.telling.Told.TheVariants.{Built, Failed}
 use Rattle.plan.specs.Values.{PlanValue}
+use Rattle.processes.specs.declared.disk.ChildErrors.TheVariants.{Discarded, Shown}
 use Rattle.remote.specs.Line.{ConnectionValue}
 use Rattle.worker.specs.Outcomes.{Yields, YieldsNoMore}
 use Rattle.worker.specs.declared.error.Refusal.TheVariants.{Run}
 use Rattle.worker.specs.declared.runner.RunError.TheVariants.{Device}
-use Rattle.cli.specs.Built.{Below, HoldsRoot, IsReadOf, IsToldBy, IsToldOf, StartsBuild, TellsAsked, build_words, jobs_asked}
+use Rattle.cli.specs.Built.{Below, HoldsRoot, IsReadOf, IsToldBy, IsToldOf, StartsBuild, TellsAsked, build_words, errors_asked, jobs_asked}
 use Rattle.cli.specs.declared.building.Asked.{Asked}
 use Rattle.cli.specs.Refused.{FailsBuild, FailsTelling, ReachesServer, StopsAtProcess, TellsProcess}
 use Rattle.cli.specs.Running.{EndsFor}
 use Rattle.cli.specs.declared.building.Stopped.{Stopped}
-use Rattle.cli.specs.Refused.FailsBuild.{in_memory, in_process, in_server}
+use Rattle.cli.specs.Refused.FailsBuild.{in_connection, in_memory, in_process, in_request}
 
 module _ (source : Telling → Type 0) (plan : PlanValue) (sources : DigestValue) (most : ℕ) (old new : Seen) (before : ∥ source old.store ∥₁) (after : ∥ source new.store ∥₁)
     (z yields : Yields) (within : YieldsNoMore z yields) where
@@ -75,6 +78,33 @@ some_at_once (Some text) valid = (valid refl).1
 pub some_jobs : (options : List Row) → AllValid (build_words options) → 0 < jobs_asked options
 some_jobs options words = some_at_once (first_of (codes "jobs") options) words.0
 
+-- the text of a flag, where it is given
+text_of_flag : (said : Option (List ℕ)) → Decides (bytes_eq (unwrap_or said []) (codes "true")) (said ≡ Some (codes "true"))
+text_of_flag None = (λ t. let no : ◌≡◌ {A = Bool} false true = t in cc, λ e. let no : ◌≡◌ {A = Option (List ℕ)} None (Some (codes "true")) = e in cc)
+text_of_flag (Some text) = (
+  λ t. ap Some ((bytes_eq-Decides text (codes "true")).0 t),
+  λ e. let same : text ≡ codes "true" = cc in (bytes_eq-Decides text (codes "true")).1 same,
+)
+
+-- the errors of steps are shown on a terminal, or where the flag is given, and else not
+pub shown_on_terminal : (terminal : Bool) (options : List Row) → terminal ≡ true → Shown ≡ errors_asked terminal options
+shown_on_terminal true options on = refl
+shown_on_terminal false options on = absurd cc
+
+pub shown_by_flag : (terminal : Bool) (options : List Row) → IsSet options (codes "verbose") → Shown ≡ errors_asked terminal options
+shown_by_flag true options given = refl
+shown_by_flag false options given =
+    sym (ap (λ (b : Bool). if b then Shown else Discarded) ((text_of_flag (first_of (codes "verbose") options)).1 given))
+
+pub not_shown : (terminal : Bool) (options : List Row) → terminal ≡ false → (IsSet options (codes "verbose") → ⊥) → Discarded ≡ errors_asked terminal options
+not_shown true options off none = absurd cc
+not_shown false options off none =
+    sym (ap (λ (b : Bool). if b then Shown else Discarded) (none_set (bytes_eq (option_text options (codes "verbose")) (codes "true")) (text_of_flag (first_of (codes "verbose") options)) none))
+  where
+    none_set : {P : Type 0} (b : Bool) → Decides b P → (P → ⊥) → b ≡ false
+    none_set true decides none = absurd (none (decides.0 refl))
+    none_set false decides none = refl
+
 -- the server was at fault, or memory ran out
 pub over_fails : (start : ConnectionValue) (address : List ℕ) (yields : Yields) (most : ℕ) (plan : PlanValue) (sources : DigestValue) (e : CommandError)
     → OrMemory (λ x. ∥ FailsOver puts_too start address x ∥₁) e → FailsTelling start address yields most plan sources e
@@ -86,7 +116,7 @@ module _ (sees : Sight) (below : Below) (options : List Row) where
     -- the server couldn't be reached
     pub connect_fails : (e : CommandError) → OrMemory (FailsToConnect sees (string_bytes asked.server.address)) e → FailsBuild sees below options e
     connect_fails e (inl memory) = in_memory memory
-    connect_fails e (inr fails) = in_server asked.plan asked.sources read.asks ∣ (asked.server, read.server, inl fails) ∣₁
+    connect_fails e (inr fails) = in_connection asked.plan asked.sources read.asks (subst (λ a. FailsToConnect sees a e) read.server.address fails)
 
     module _ (start : ConnectionValue) (opened : IsConnected sees asked.server start) where
       pub reaches : ReachesServer sees options
@@ -115,5 +145,4 @@ module _ (sees : Sight) (below : Below) (options : List Row) where
         telling_fails e (inl memory) = in_memory memory
         telling_fails e (inr (inl process)) = in_process asked.plan asked.sources starts
             (stops_by by below (string_bytes asked.work) (option_text options (codes "work")) read.work asked.jobs (jobs_asked options) read.jobs asked.plan asked.sources e process)
-        telling_fails e (inr (inr over)) = in_server asked.plan asked.sources read.asks
-            (∥∥₁_map over (λ fails. (asked.server, read.server, inr (start, opened, fails))))
+        telling_fails e (inr (inr over)) = in_request asked.plan asked.sources starts start reaches.opened (subst (λ a. ∥ FailsOver puts_too start a e ∥₁) read.server.address over)

@@ -69,11 +69,19 @@ module _ {sees : Sight} (below : Below) (words : List Text) {rows : List Row} (i
   get_ends {old} {new} Done called h = got called (subst (λ (o : List Row). GetsAsked sees o old new Done) is h)
   get_ends {old} {new} (No note) called h = none called (subst (λ (o : List Row). GetsAsked sees o old new (No note)) is h)
 
-module _ {sees : Sight} {below : Below} (words : List Text) {rows : List Row} (is : rows ≡ options_of words) where
-  pub build_ends : {old new : Option (List ℕ)} (ended : Ended) → CallsCommand words (codes "build") → PrintsBuild sees below rows old new ended → Ends sees below words old new ended
-  build_ends {old} {new} Done called h = built called (subst (λ (o : List Row). PrintsBuild sees below o old new Done) is h)
-  build_ends {old} {new} (No note) called h = failed called (subst (λ (o : List Row). PrintsBuild sees below o old new (No note)) is h)
+-- what may come of the steps is as the options say
+module _ {sees : Sight} (below : List Row → Below) (words : List Text) {rows : List Row} (is : rows ≡ options_of words) where
+  pub build_ends : {old new : Option (List ℕ)} (ended : Ended) → CallsCommand words (codes "build") → PrintsBuild sees (below rows) rows old new ended → Ends sees (below (options_of words)) words old new ended
+  build_ends {old} {new} Done called h = built called (subst (λ (o : List Row). PrintsBuild sees (below o) o old new Done) is h)
+  build_ends {old} {new} (No note) called h = failed called (subst (λ (o : List Row). PrintsBuild sees (below o) o old new (No note)) is h)
 
+  pub build_begins : {old new : Option (List ℕ)} → CallsCommand words (codes "build") → BeginsBuild sees (below rows) rows old new → BeginsAsked sees (below (options_of words)) words old new
+  build_begins {old} {new} called h = build_begun called (subst (λ (o : List Row). BeginsBuild sees (below o) o old new) is h)
+
+  pub build_fails : (e : CommandError) → CallsCommand words (codes "build") → FailsBuild sees (below rows) rows e → Fails sees (below (options_of words)) words e
+  build_fails e called h = in_build called (subst (λ (o : List Row). FailsBuild sees (below o) o e) is h)
+
+module _ {sees : Sight} {below : Below} (words : List Text) {rows : List Row} (is : rows ≡ options_of words) where
   pub verify_begins : {old new : Option (List ℕ)} → CallsCommand words (codes "verify") → BeginsVerdict sees rows old new → PrintsNoLine old new → BeginsAsked sees below words old new
   verify_begins {old} {new} called h unended = verify_begun called (subst (λ (o : List Row). BeginsVerdict sees o old new) is h) unended
 
@@ -86,14 +94,8 @@ module _ {sees : Sight} {below : Below} (words : List Text) {rows : List Row} (i
   pub serve_begins : {old new : Option (List ℕ)} → CallsCommand words (codes "serve") → BeginsListening sees rows old new → BeginsAsked sees below words old new
   serve_begins {old} {new} called h = serve_begun called (subst (λ (o : List Row). BeginsListening sees o old new) is h)
 
-  pub build_begins : {old new : Option (List ℕ)} → CallsCommand words (codes "build") → BeginsBuild sees below rows old new → BeginsAsked sees below words old new
-  build_begins {old} {new} called h = build_begun called (subst (λ (o : List Row). BeginsBuild sees below o old new) is h)
-
   pub verify_fails : (e : CommandError) → CallsCommand words (codes "verify") → FailsVerify sees rows e → Fails sees below words e
   verify_fails e called h = in_verify called (subst (λ (o : List Row). FailsVerify sees o e) is h)
-
-  pub build_fails : (e : CommandError) → CallsCommand words (codes "build") → FailsBuild sees below rows e → Fails sees below words e
-  build_fails e called h = in_build called (subst (λ (o : List Row). FailsBuild sees below o e) is h)
 
   pub put_fails : (e : CommandError) → CallsCommand words (codes "put") → FailsPut sees rows e → Fails sees below words e
   put_fails e called h = in_put called (subst (λ (o : List Row). FailsPut sees o e) is h)
@@ -119,7 +121,7 @@ status_is (NotAFile path) = inr refl
 status_is (TooLarge path) = inr refl
 status_is (Entry path fault) = inr refl
 status_is (Connection server fault) = inr refl
-status_is (Server server asked digest fault) = inr refl
+status_is (Server server failure) = inr refl
 status_is (Blob server digest fault) = inr refl
 status_is (Address text fault) = inr refl
 status_is (Accept fault) = inr refl

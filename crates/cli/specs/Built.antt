@@ -1,6 +1,6 @@
 -- What `build` prints.
-use Rattle.std.specs.Prelude.{◌≡◌, ◌⊎◌, ◌<◌, ℕ, List, [], ◌∷◌, Option, Some, Result, Ok, codes}
-use Rattle.std.specs.Prelude.{string_bytes}
+use Rattle.std.specs.Prelude.{◌≡◌, ◌⊎◌, ◌<◌, ℕ, Bool, true, false, List, [], ◌∷◌, Option, Some}
+use Rattle.std.specs.Prelude.{Result, Ok, bytes_eq, codes, if◌then◌else◌, string_bytes}
 use Rattle.std.specs.Io.KnownBytes.{Appends}
 use Rattle.std.specs.declared.alloc.Global.{Global}
 use Rattle.blob_digest.specs.Digest.{DigestValue}
@@ -24,6 +24,8 @@ use Rattle.commands.specs.declared.ended.Ended.{Ended}
 use Rattle.commands.specs.declared.ended.Ended.TheVariants.{Done, No}
 use Rattle.commands.specs.declared.ended.Note.TheVariants.{Refused}
 use Rattle.plan.specs.Values.{PlanValue}
+use Rattle.processes.specs.declared.disk.ChildErrors.{ChildErrors}
+use Rattle.processes.specs.declared.disk.ChildErrors.TheVariants.{Discarded, Shown}
 use Rattle.text_verifier.specs.Texts.{IsDigestText}
 use Rattle.worker.specs.Outcomes.{HasAllRight, Yields}
 use Rattle.tree.specs.Folded.{items_of}
@@ -79,6 +81,12 @@ jobs_asked options = number_or 1 options (codes "jobs")
 abbrev pub may_have_jobs : List Row → Check
 may_have_jobs options = where_said options (codes "jobs") (is_wanted options (codes "jobs")
     (codes "a number from 1 to 64") (λ text. IsUpTo 64 text × (0 < decimal_number text)))
+
+-- The errors of steps are shown on a terminal, and where the options want that.
+abbrev pub errors_asked : Bool → List Row → ChildErrors
+errors_asked true options = Shown
+errors_asked false options =
+    if bytes_eq (option_text options (codes "verbose")) (codes "true") then Shown else Discarded
 
 abbrev pub build_words : List Row → List Check
 build_words options = may_have_jobs options ∷ server_words options

@@ -15,10 +15,9 @@ use Rattle.builder.specs.declared.telling.Told.{Told}
 use Rattle.clap.specs.Words.{Row}
 use Rattle.command_lines.specs.CommandLine.{option_text}
 use Rattle.commands.specs.Faults.{IsDigestFault, IsFaultAtPath, OrMemory, error_of_file}
-use Rattle.commands.specs.Options.{OnNamedServer}
-use Rattle.commands.specs.Places.{FailsOver, IsToldOver, puts_too}
+use Rattle.commands.specs.Places.{FailsOver, FailsToConnect, IsToldOver, puts_too}
 use Rattle.commands.specs.Printed.{IsOfOptions, IsConnectedTo}
-use Rattle.commands.specs.Refusal.{FailsPlan, FailsServer, IsPrintFault}
+use Rattle.commands.specs.Refusal.{FailsPlan, IsPrintFault}
 use Rattle.commands.specs.Words.{AllValid, FailsFirst}
 use Rattle.commands.specs.World.{Sight}
 use Rattle.commands.specs.declared.ended.Ended.TheVariants.{Done}
@@ -109,13 +108,17 @@ pub data FailsBuild (sees : Sight) (below : Below) (options : List Row) (e : Com
       → FailsBuild sees below options e
   in_plan : AllValid (build_words options) → IsSpelled (option_text options (codes "sources"))
       → FailsPlan sees options e → FailsBuild sees below options e
-  in_server : (plan : PlanValue) (sources : DigestValue) → AsksBuild sees options plan sources
-      → ∥ OnNamedServer options (λ server. FailsServer puts_too sees server e) ∥₁
+  in_connection : (plan : PlanValue) (sources : DigestValue) → AsksBuild sees options plan sources
+      → FailsToConnect sees (option_text options (codes "server")) e
       → FailsBuild sees below options e
   in_folder : ReachesServer sees options → FailsFolder sees (option_text options (codes "work")) e
       → FailsBuild sees below options e
   in_place : ReachesServer sees options → sees.lists (option_text options (codes "work")) []
       → FailsAtPath sees (option_text options (codes "record")) e → FailsBuild sees below options e
+  in_request : (plan : PlanValue) (sources : DigestValue) → StartsBuild sees options plan sources
+      → (start : ConnectionValue) → IsConnectedTo sees options start
+      → ∥ FailsOver puts_too start (option_text options (codes "server")) e ∥₁
+      → FailsBuild sees below options e
   in_process : (plan : PlanValue) (sources : DigestValue) → StartsBuild sees options plan sources
       → StopsAtProcess (IsOfOptions puts_too sees options)
       (below (option_text options (codes "work"))) (jobs_asked options) plan sources e

@@ -1,10 +1,11 @@
-ghost use Rattle.std.specs.Prelude.{◌≡◌, ◌⊎◌, ◌<◌, ◌↔◌, ◌∷◌, [], IfErr, IfOk, IfSome, IsSome};
-ghost use Rattle.std.specs.Prelude.{None, OnErr, OnOk, codes, string_bytes};
+ghost use Rattle.std.specs.Prelude.{◌≡◌, ◌<◌, ◌∷◌, [], IfErr, IfOk, IfSome, None, OnErr, OnOk};
+ghost use Rattle.std.specs.Prelude.{codes, is_some, string_bytes};
 ghost use Rattle.std.specs.Io.KnownBytes.{Appends};
 ghost use Rattle.builder.specs.Faults.{IsRunnerFailure, fault_of};
 ghost use Rattle.clap.specs.Words.{found_of, rows_of};
 ghost use Rattle.cli.specs.Built.{BeginsBuild, HoldsRoot, IsNoted, IsReadOf, IsToldOf, PrintsBuild};
-ghost use Rattle.cli.specs.Built.{TellsAsked, ended_of, jobs_asked, may_have_jobs, told_line};
+ghost use Rattle.cli.specs.Built.{TellsAsked, ended_of, errors_asked, jobs_asked, may_have_jobs};
+ghost use Rattle.cli.specs.Built.{told_line};
 ghost use Rattle.cli.specs.Refused.{FailsBuild, FailsFolder, FailsTelling, FailsToWrite};
 ghost use Rattle.cli.specs.Refused.{TellsProcess, process_cause};
 ghost use Rattle.cli.specs.Running.{EndsFor};
@@ -13,9 +14,9 @@ ghost use Rattle.commands.specs.Places.{FailsOver, IsFresh, IsToldOver, puts_too
 ghost use Rattle.commands.specs.Refusal.{IsPrintFault};
 ghost use Rattle.commands.specs.Told.{AppendsBeginning};
 ghost use Rattle.commands.specs.Words.{IsCheckedBy};
-ghost use Rattle.command_lines.specs.CommandLine.{IsSet, option_text};
+ghost use Rattle.command_lines.specs.CommandLine.{option_text};
 ghost use Rattle.remote.specs.Remote.{connection_of};
-ghost use Rattle.worker.specs.Outcomes.{YieldsNoMore};
+ghost use Rattle.processes.specs.declared.disk.ChildErrors.{ChildErrors};
 
 use crate::build_progress::BuildProgress;
 use crate::workplace::Workplace;
@@ -24,7 +25,7 @@ use builder::{BuildPlanError, Fault, Place, Told, fault_of, place_text, tell_bui
 use clap::ArgMatches;
 use command_lines::{is_set, option_of, text_of};
 use commands::{
-    Client, CommandError, Ended, Note, Origin, ProcessCause, ProcessFault, PutsToo, ServerOptions,
+    Client, CommandError, Ended, Note, Opened, ProcessCause, ProcessFault, PutsToo, ServerOptions,
     World, number_in, open, plan_in_file, print_all, read_digest, read_server, unlike,
 };
 use plan::Plan;
@@ -73,7 +74,8 @@ fn read_asked<W: Workplace>(
     matches: &ArgMatches<'_>,
 ) -> Result<Asked, CommandError>
     ensures read { IfOk result (IsReadOf W.sees (rows_of (found_of matches.now))) }
-    ensures refused { IfErr result (FailsBuild W.sees W.below (rows_of (found_of matches.now))) }
+    ensures refused { IfErr result (λ e. (errors : ChildErrors)
+        → FailsBuild W.sees (W.below errors) (rows_of (found_of matches.now)) e) }
 {
     let jobs = read_jobs(alloc, matches)?;
     let server = read_server(alloc, matches)?;
@@ -91,18 +93,19 @@ fn read_asked<W: Workplace>(
 
 /// The errors of a build's processes are shown on a terminal, and where the words want that.
 fn errors_of<T>(matches: &ArgMatches<'_>, terminal: &Option<T>) -> ChildErrors
-    ensures shown { result ≡ ChildErrors.Shown
-        ↔ (IsSome terminal.now ⊎ IsSet (rows_of (found_of matches.now)) (codes "verbose")) }
+    ensures { result ≡ errors_asked (is_some terminal.now) (rows_of (found_of matches.now)) }
 {
-    if terminal.is_some() || is_set(matches, "verbose") {
-        ChildErrors::Shown
-    } else {
-        ChildErrors::Discarded
+    if terminal.is_some() {
+        return ChildErrors::Shown;
     }
+    if is_set(matches, "verbose") {
+        return ChildErrors::Shown;
+    }
+    ChildErrors::Discarded
 }
 
 /// Puts the Directories of the root of a build that came to it, so that the root can be fetched.
-fn put_root<S: Stream + Drop, K: Origin>(
+fn put_root<S: Stream + Drop, K: Opened>(
     alloc: Global,
     server: &ServerOptions,
     client: &mut Client<S, K, PutsToo>,
@@ -180,27 +183,27 @@ fn process_error(
 }
 
 /// What a build tells over the marked connection, whose processes run in the folder of the jobs.
-fn build_in_folder<W: Workplace, K: Origin, T: Write + Drop>(
+fn build_in_folder<W: Workplace, K: Opened, T: Write + Drop>(
     alloc: Global,
+    world: &W,
     asked: &Asked,
     remote: Remote<W::Link, Global>,
-    runner: W::Steps,
+    errors: ChildErrors,
     progress: &mut BuildProgress<'_, T>,
 ) -> Result<Told<Global>, CommandError>
     requires some { 0 < asked.now.jobs }
-    requires folder { YieldsNoMore (W.Steps.yields runner)
-        (W.below (string_bytes asked.now.work)) }
     requires start { K.start ≡ connection_of W.Link.flow remote }
     requires fresh { IsFresh remote }
     ensures told { IfOk result (IsToldOf (IsToldOver puts_too K.start)
-        (W.below (string_bytes asked.now.work)) asked.now.jobs asked.now.plan
+        (W.below errors (string_bytes asked.now.work)) asked.now.jobs asked.now.plan
         asked.now.sources) }
     ensures fault { IfErr result (FailsTelling K.start (string_bytes asked.now.server.address)
-        (W.below (string_bytes asked.now.work)) asked.now.jobs asked.now.plan
+        (W.below errors (string_bytes asked.now.work)) asked.now.jobs asked.now.plan
         asked.now.sources) }
 {
+    let work = String::from_str(alloc, asked.work.as_str())?;
+    let mut runner = world.steps(work, errors);
     let mut client: Client<W::Link, K, PutsToo> = Client::new(remote);
-    let mut runner = runner;
     match tell_build(
         alloc,
         &asked.sources,
@@ -278,16 +281,19 @@ fn build_asked<W: Workplace, T: Write + Drop>(
     terminal: Option<T>,
 ) -> Result<Told<Global>, CommandError>
     requires read { IsReadOf W.sees (rows_of (found_of matches.now)) asked.now }
-    ensures tells { IfOk result (TellsAsked W.sees W.below (rows_of (found_of matches.now))) }
-    ensures refused { IfErr result (FailsBuild W.sees W.below (rows_of (found_of matches.now))) }
+    ensures tells { IfOk result (TellsAsked W.sees
+        (W.below (errors_asked (is_some terminal) (rows_of (found_of matches.now))))
+        (rows_of (found_of matches.now))) }
+    ensures refused { IfErr result (FailsBuild W.sees
+        (W.below (errors_asked (is_some terminal) (rows_of (found_of matches.now))))
+        (rows_of (found_of matches.now))) }
 {
     let remote = open(alloc, world, &asked.server)?;
     check_work(alloc, world, asked.work.as_str())?;
     world.check_writable(alloc, text_of(matches, "record"))?;
-    let work = String::from_str(alloc, asked.work.as_str())?;
-    let runner = world.steps(work, errors_of(matches, &terminal));
+    let errors = errors_of(matches, &terminal);
     let mut progress = BuildProgress::new(alloc, &asked.plan, terminal);
-    let told = build_in_folder::<W, Brand, T>(alloc, asked, remote, runner, &mut progress);
+    let told = build_in_folder::<W, Brand, T>(alloc, world, asked, remote, errors, &mut progress);
     progress.clear();
     told
 }
@@ -325,13 +331,17 @@ pub(crate) fn run_build<W: Workplace, O: Write, T: Write + Drop>(
     out: &mut O,
     terminal: Option<T>,
 ) -> Result<Ended, CommandError>
-    ensures printed { IfOk result (PrintsBuild W.sees W.below (rows_of (found_of matches.now))
-        (O.contents out.old) (O.contents out.new)) }
+    ensures printed { IfOk result (PrintsBuild W.sees
+        (W.below (errors_asked (is_some terminal) (rows_of (found_of matches.now))))
+        (rows_of (found_of matches.now)) (O.contents out.old) (O.contents out.new)) }
     // A refusal leaves no byte that isn't of the line of such a build.
-    ensures begun { OnErr result (BeginsBuild W.sees W.below (rows_of (found_of matches.now))
-        (O.contents out.old) (O.contents out.new)) }
+    ensures begun { OnErr result (BeginsBuild W.sees
+        (W.below (errors_asked (is_some terminal) (rows_of (found_of matches.now))))
+        (rows_of (found_of matches.now)) (O.contents out.old) (O.contents out.new)) }
     // It is for the first fault: what comes before it has none.
-    ensures refused { IfErr result (FailsBuild W.sees W.below (rows_of (found_of matches.now))) }
+    ensures refused { IfErr result (FailsBuild W.sees
+        (W.below (errors_asked (is_some terminal) (rows_of (found_of matches.now))))
+        (rows_of (found_of matches.now))) }
     ensures unprinted { IfErr result
         (λ fault. ¬ IsPrintFault fault → O.contents out.new ≡ O.contents out.old) }
 {

@@ -1,6 +1,8 @@
-ghost use Rattle.std.specs.Prelude.{◌≡◌, ◌<◌, ◌≤◌, IfErr, IfOk, OnErr, map, string_bytes};
+ghost use Rattle.std.specs.Prelude.{◌≡◌, ◌<◌, ◌≤◌, IfErr, IfOk, OnErr, is_some, map, string_bytes};
+ghost use Rattle.cli.specs.Built.{errors_asked};
 ghost use Rattle.cli.specs.Ended.{AreFaulty, BeginsAsked, EndsNo, EndsRefused, Fails, IsDone};
 ghost use Rattle.cli.specs.Running.{Ends, TellsEnd};
+ghost use Rattle.command_lines.specs.CommandLine.{options_of};
 ghost use Rattle.commands.specs.Refusal.{IsPrintFault};
 ghost use Rattle.commands.specs.ServeRefused.{IsAcceptFault};
 
@@ -11,7 +13,6 @@ use command_lines::parse;
 use commands::{CommandError, Ended, run_get, run_put, run_serve, run_verify, tell, tell_note};
 use std::alloc::Global;
 use std::io::Write;
-use std::random::RandomSource;
 use std::time::Clock;
 
 /// Runs the program on these words. Its answers go to `out`. To `err` goes one line: for statuses 2
@@ -27,20 +28,23 @@ pub fn run_words<R, W: Workplace, O: Write, E: Write, T: Write + Drop>(
     terminal: Option<T>,
 ) -> u8
 where
-    R: AllocGlobal + Clock + RandomSource + Clone + Drop,
+    R: AllocGlobal + Clock + Clone + Drop,
     ensures status { result < 4 }
     // With status 0 what the words ask for is done, and nothing else went to standard output.
-    ensures done { result ≡ 0
-        → IsDone W.sees W.below (map string_bytes words.now)
-        (O.contents out.old) (O.contents out.new) }
+    ensures done { result ≡ 0 → IsDone W.sees
+        (W.below (errors_asked (is_some terminal) (options_of (map string_bytes words.now))))
+        (map string_bytes words.now) (O.contents out.old) (O.contents out.new) }
     // With status 1, the line of their no, or of a build's refusal; or the blob that they name
     // isn't there. Standard error grew at most by the line of the note that belongs to it.
-    ensures no { result ≡ 1
-        → EndsNo W.sees W.below (map string_bytes words.now)
+    ensures no { result ≡ 1 → EndsNo W.sees
+        (W.below (errors_asked (is_some terminal) (options_of (map string_bytes words.now))))
+        (map string_bytes words.now)
         (O.contents out.old) (O.contents out.new) (E.contents err.old) (E.contents err.new) }
     // With another status the first fault was told: standard error grew by one line that begins
     // `error: `, or by a beginning of it. Nothing was printed, unless it is of printing or serving.
-    ensures refused { 2 ≤ result → EndsRefused W.sees W.below (map string_bytes words.now) result
+    ensures refused { 2 ≤ result → EndsRefused W.sees
+        (W.below (errors_asked (is_some terminal) (options_of (map string_bytes words.now))))
+        (map string_bytes words.now) result
         (O.contents out.old) (O.contents out.new) (E.contents err.old) (E.contents err.new) }
     // With status 0 standard error stays as it was.
     ensures quiet { result ≡ 0 → E.contents err.new ≡ E.contents err.old }
@@ -49,8 +53,9 @@ where
     ensures silent { AreFaulty (map string_bytes words.now)
         → O.contents out.new ≡ O.contents out.old }
     // With another status than 0 and 1 what was printed is a beginning of what the words ask for.
-    ensures begun { 2 ≤ result → BeginsAsked W.sees W.below (map string_bytes words.now)
-        (O.contents out.old) (O.contents out.new) }
+    ensures begun { 2 ≤ result → BeginsAsked W.sees
+        (W.below (errors_asked (is_some terminal) (options_of (map string_bytes words.now))))
+        (map string_bytes words.now) (O.contents out.old) (O.contents out.new) }
 {
     match run(rt, world, words, out, terminal) {
         Ok(ended) => tell_ended(rt.alloc(), &ended, err),
@@ -83,17 +88,20 @@ fn run<R, W: Workplace, O: Write, T: Write + Drop>(
     terminal: Option<T>,
 ) -> Result<Ended, CommandError>
 where
-    R: AllocGlobal + Clock + RandomSource + Clone + Drop,
-    ensures ended { IfOk result
-        (Ends W.sees W.below (map string_bytes words.now)
-        (O.contents out.old) (O.contents out.new)) }
-    ensures refused { IfErr result (Fails W.sees W.below (map string_bytes words.now)) }
+    R: AllocGlobal + Clock + Clone + Drop,
+    ensures ended { IfOk result (Ends W.sees
+        (W.below (errors_asked (is_some terminal) (options_of (map string_bytes words.now))))
+        (map string_bytes words.now) (O.contents out.old) (O.contents out.new)) }
+    ensures refused { IfErr result (Fails W.sees
+        (W.below (errors_asked (is_some terminal) (options_of (map string_bytes words.now))))
+        (map string_bytes words.now)) }
     ensures unprinted { IfErr result (λ fault. ¬ IsPrintFault fault → ¬ IsAcceptFault fault
         → O.contents out.new ≡ O.contents out.old) }
     ensures silent { AreFaulty (map string_bytes words.now)
         → O.contents out.new ≡ O.contents out.old }
-    ensures begun { OnErr result (BeginsAsked W.sees W.below (map string_bytes words.now)
-        (O.contents out.old) (O.contents out.new)) }
+    ensures begun { OnErr result (BeginsAsked W.sees
+        (W.below (errors_asked (is_some terminal) (options_of (map string_bytes words.now))))
+        (map string_bytes words.now) (O.contents out.old) (O.contents out.new)) }
 {
     let matches = match parse(rt.alloc(), words) {
         Ok(matches) => matches,
@@ -114,7 +122,7 @@ where
         }
         "get" => Ok(run_get(rt.alloc(), world, inner, out)?),
         "serve" => {
-            run_serve(rt, world, inner, out)?;
+            run_serve(rt.alloc(), world, inner, out)?;
             Ok(Ended::Done)
         }
         "build" => Ok(run_build(rt.alloc(), world, inner, out, terminal)?),

@@ -8,6 +8,7 @@ use processes::{ChildErrors, Disk, ProcessRunner, Workshop};
 use service::ErrorTerminal;
 use std::alloc::Global;
 use std::net::{Net, TcpListener, TcpStream};
+use std::random::RandomSource;
 use std::rt::{Files, Processes};
 use std::time::Clock;
 use worker::Runner;
@@ -20,28 +21,23 @@ pub trait Workplace: World {
     ghost use Rattle.cli.specs.Built.{Below};
     ghost use Rattle.processes.specs.declared.disk.ChildErrors.{ChildErrors};
 
-    /// What may come of a step below a folder.
-    ghost below: { Below };
-
-    /// What becomes of the errors of the steps' processes.
-    ghost errors_in: { Self.Steps → ChildErrors };
+    /// What may come of a step below a folder, where this becomes of its errors.
+    ghost below: { ChildErrors → Below };
 
     /// What runs steps below a folder.
     fn steps(&self, work: String, errors: ChildErrors) -> Self::Steps
-        ensures yields { YieldsNoMore (Self.Steps.yields result) (below (string_bytes work)) }
-        ensures errors { errors_in result ≡ errors };
+        ensures { YieldsNoMore (Self.Steps.yields result) (below errors (string_bytes work)) };
 }
 
 impl<'r, R> Workplace for System<'r, R>
 where
     R: AllocGlobal + Clock + Clone + Drop + ErrorTerminal + Files + Log + Processes,
+    R: RandomSource,
     R: Net<Listener = TcpListener, Stream = TcpStream>,
 {
     type Steps = ProcessRunner<Disk<'r, R>, Global>;
 
-    ghost below = { may_yield (⟦<Disk<'r, R> as Workshop>⟧.works) };
-
-    ghost errors_in = { λ steps. errors_of (workshop_of steps) };
+    ghost below = { λ _. may_yield (⟦<Disk<'r, R> as Workshop>⟧.works) };
 
     fn steps(&self, work: String, errors: ChildErrors) -> ProcessRunner<Disk<'r, R>, Global>
         ensures work { work_of result ≡ string_bytes work }

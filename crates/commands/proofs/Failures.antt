@@ -1,5 +1,5 @@
 -- What is told of a request that failed.
-use Rattle.std.proofs.Common.{[], ◌≡◌, ◌∙◌, List, ℕ, Option, Some, None, Result, Ok, Err, IfErr, inl, inr, refl, subst, sym}
+use Rattle.std.proofs.Common.{[], ◌≡◌, ◌∙◌, List, ℕ, Option, Some, None, Result, Ok, Err, IfErr, inl, inr, refl, sym}
 use Rattle.std.specs.Prelude.{IsErrOf}
 use Rattle.std.proofs.Math.Logic.{∥∥₁_map}
 use Rattle.blob_digest.specs.Digest.{DigestValue, digest_of}
@@ -17,9 +17,6 @@ use Rattle.commands.specs.declared.failure.Failure.{Failure}
 use Rattle.commands.specs.declared.failure.Method.{Method}
 use Rattle.commands.specs.declared.failure.Method.TheVariants.{GetBlob, PutBlob}
 use Rattle.commands.proofs.Tellings.{answered, refused_otherwise, some_not_none}
-
-memory_unfailed : ◌≡◌ {A = FetchError} refusals.Memory refusals.Failed → ⊥
-memory_unfailed e = cc
 
 -- a request that failed has a fault
 has_fault : (old new : ConnectionValue) (method : Method) (hash body : List ℕ)
@@ -60,20 +57,14 @@ failure_told access start now address (Some f) refusals.Failed e kept told = inr
 failure_told access start now address (Some f) refusals.Memory e kept told = inl told
 failure_told access start now address None refusal e kept told = inl told
 
--- where want of memory is told of a call that failed, none did
-pub unkept_told : (access : Access) (start now : ConnectionValue) (address : List ℕ) (failure : Option Failure) (refusal : FetchError) (e : CommandError)
-    → KeepsRefused access start now failure → TellsFailure address failure refusal e → refusal ≡ refusals.Failed → e ≡ Memory → now.failures ≡ start.failures
-unkept_told access start now address None refusal e kept told failed memory = kept
-unkept_told access start now address (Some f) refusals.Failed e kept told failed memory = absurd (subst (IsServerFault address f.method f.digest f.fault) memory told)
-unkept_told access start now address (Some f) refusals.Memory e kept told failed memory = absurd (memory_unfailed failed)
-
 memory_told : (address : List ℕ) (failure : Option Failure) (e : CommandError) → TellsFailure address failure refusals.Memory e → e ≡ Memory
 memory_told address (Some f) e told = told
 memory_told address None e told = told
 
 -- the request itself, by its fault
 module _ (T : Type 0) (Q : CommandError → Type 0) (old new : ConnectionValue) (address : List ℕ) (method : Method) (d : DigestValue) (body : List ℕ) (e : CommandError)
-    (by : (f : Fault) → RefusesRequest old new (request_of method d.hash body) refusals.Failed → new.fault ≡ Some f → IsServerFault address method d f e → Q e) where
+    (by : (f : Fault) → RefusesRequest old new (request_of method d.hash body) refusals.Failed → new.fault ≡ Some f
+    → IsServerFault address (record { method = method; digest = d; fault = f }) e → Q e) where
   refused_by : (before : Option Failure) (fault : Option Fault) (refusal : FetchError) → RefusesRequest old new (request_of method d.hash body) refusal → new.fault ≡ fault
       → TellsFailure address (kept_failure {T = T} before method d (Err refusal) fault) refusal e → OrMemory Q e
   refused_by before (Some fault) refusals.Failed refused is told = inr (by fault refused is told)

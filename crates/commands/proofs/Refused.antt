@@ -9,10 +9,11 @@ use Rattle.blob_digest.specs.Digest.{DigestValue}
 use Rattle.clap.specs.Words.{Row}
 use Rattle.messages.specs.Directory.{directory_bytes}
 use Rattle.messages.specs.DirectoryRules.{DirectoryValue, IsDirectory}
+use Rattle.messages.specs.Name.{IsName}
 use Rattle.messages.specs.Order.{bytes_cmp}
 use Rattle.remote.specs.Line.{ConnectionValue}
 use Rattle.commands.specs.Children.{AreNamed}
-use Rattle.commands.specs.PutRefused.{FailsBelow, FailsHere, HasNoName, LinksToNoText, ReachesEntry, RefusesPut}
+use Rattle.commands.specs.PutRefused.{ArePut, FailsBelow, FailsHere, HasNoName, LinksToNoText, ReachesEntry, RefusesPut}
 use Rattle.commands.specs.Faults.{TellsOfEntry, OrMemory}
 use Rattle.commands.specs.PutRefused.FailsBelow.{below, here, too_deep}
 use Rattle.commands.specs.PutRefused.FailsHere.{file_refused, folder_refused, name_twice, no_name, no_text}
@@ -25,7 +26,6 @@ use Rattle.commands.specs.declared.connecting.ServerOptions.{ServerOptions}
 use Rattle.commands.specs.declared.error.CommandError.{CommandError}
 use Rattle.commands.specs.declared.serving.Asked.{Asked}
 use Rattle.commands.specs.declared.error.CommandError.TheVariants.{Accept, Memory}
-use Rattle.commands.proofs.Order.{Follows}
 use Rattle.commands.proofs.SoFar.{IsPutSoFar}
 
 -- so it is, or memory ran out, by what is so
@@ -38,10 +38,15 @@ pub or_memory : (P Q : CommandError → Type 0) (e : CommandError) → (e ≡ Me
 or_memory P Q e memory is (inl m) = memory m
 or_memory P Q e memory is (inr p) = is p
 
+-- so far each name is put
+names_put : (sees : Sight) (start : ConnectionValue) (left : ℕ) (place : List ℕ) (names : List (List ℕ)) (d : DirectoryValue) → IsPutSoFar sees start left place names d
+    → ArePut sees start left place names
+names_put sees start left place names d so_far = λ m has. let is_put = so_far.all m has in (is_put.0, so_far.are_put m is_put.0 is_put.1)
+
 -- a name that was read in the folder, and those before it
 pub entry_at : (sees : Sight) (start : ConnectionValue) (left : ℕ) (place : List ℕ) (names : List (String Global)) (i : ℕ) (item : String Global) (n : List ℕ)
     (d : DirectoryValue) → sees.lists place (map string_bytes names) → i < length names → item ≡ get_or names i item → n ≡ string_bytes item
-    → IsPutSoFar sees start left place (take i (map string_bytes names)) d → ReachesEntry sees start place n
+    → IsPutSoFar sees start left place (take i (map string_bytes names)) d → ReachesEntry sees start left place n
 entry_at sees start left place names i item n d lists less is named so_far =
     let all = map string_bytes names in
     let long : i < length all = subst (λ k. i < k) (sym (length-map names string_bytes)) less in
@@ -52,8 +57,7 @@ entry_at sees start left place names i item n d lists less is named so_far =
       before = take i all;
       behind = drop (suc i) all;
       read = subst (sees.lists place) cut lists;
-      left = left;
-      put = λ m has. let is_put = so_far.all m has in (is_put.0, so_far.are_put m is_put.0 is_put.1);
+      put = names_put sees start left place (take i all) d so_far;
     }
 
 -- the error tells what stands at the place, or below it, and isn't put to the server, or memory ran out
@@ -70,21 +74,23 @@ module _ (sees : Sight) (start : ConnectionValue) (address place : List ℕ) whe
   Unput left = OrMemory (λ e. FailsBelow sees start address e left place)
 
   -- what stands there is
-  at_place : (P : CommandError → Type 0) (left : ℕ) (e : CommandError) → (P e → FailsHere sees start address place e) → OrMemory P e → Unput left e
+  at_place : (P : CommandError → Type 0) (left : ℕ) (e : CommandError) → (P e → FailsHere sees start address left place e) → OrMemory P e → Unput left e
   at_place P left e is = or_weaker P (λ x. FailsBelow sees start address x left place) e (λ p. here left place (is p))
 
   -- what is at fault at an entry is so for its folder, where paths may go further down
-  pub further : (left : ℕ) (name path : List ℕ) (e : CommandError) → (left ≡ 0 → ⊥) → ReachesEntry sees start place name → path ≡ place ++ 47 ∷ name
+  pub further : (left : ℕ) (name path : List ℕ) (e : CommandError) → (left ≡ 0 → ⊥) → ReachesEntry sees start left place name → IsName name → path ≡ place ++ 47 ∷ name
       → OrMemory (λ x. FailsBelow sees start address x (left - 1) path) e → Unput left e
-  further left name path e some entry at = or_weaker (λ x. FailsBelow sees start address x (left - 1) path) (λ x. FailsBelow sees start address x left place) e
-      (λ fails. subst (λ k. FailsBelow sees start address e k place) (further_down left some) (below (left - 1) place name entry (subst (FailsBelow sees start address e (left - 1)) at fails)))
+  further left name path e some entry valid at = or_weaker (λ x. FailsBelow sees start address x (left - 1) path) (λ x. FailsBelow sees start address x left place) e
+      (λ fails. subst (λ k. FailsBelow sees start address e k place) (further_down left some)
+      (below (left - 1) place name (subst (λ k. ReachesEntry sees start k place name) (sym (further_down left some)) entry) valid (subst (FailsBelow sees start address e (left - 1)) at fails)))
 
-  pub deepest : (left : ℕ) (name path : List ℕ) (e : CommandError) → left ≡ 0 → ReachesEntry sees start place name → path ≡ place ++ 47 ∷ name
+  pub deepest : (left : ℕ) (name path : List ℕ) (e : CommandError) → left ≡ 0 → ReachesEntry sees start left place name → IsName name → path ≡ place ++ 47 ∷ name
       → OrMemory (TellsOfEntry path (codes "more than 64 names deep")) e → Unput left e
-  deepest left name path e none entry at = or_weaker (TellsOfEntry path (codes "more than 64 names deep")) (λ x. FailsBelow sees start address x left place) e
-      (λ is. subst (λ k. FailsBelow sees start address e k place) (sym none) (too_deep place name entry (subst (λ p. TellsOfEntry p (codes "more than 64 names deep") e) at is)))
+  deepest left name path e none entry valid at = or_weaker (TellsOfEntry path (codes "more than 64 names deep")) (λ x. FailsBelow sees start address x left place) e
+      (λ is. subst (λ k. FailsBelow sees start address e k place) (sym none)
+      (too_deep place name (subst (λ k. ReachesEntry sees start k place name) none entry) valid (subst (λ p. TellsOfEntry p (codes "more than 64 names deep") e) at is)))
 
-  pub name_fails : (left : ℕ) (name path : List ℕ) (e : CommandError) → ReachesEntry sees start place name → path ≡ place ++ 47 ∷ name
+  pub name_fails : (left : ℕ) (name path : List ℕ) (e : CommandError) → ReachesEntry sees start left place name → path ≡ place ++ 47 ∷ name
       → OrMemory (HasNoName path name) e → Unput left e
   name_fails left name path e entry at = at_place (HasNoName path name) left e (λ is. no_name name entry (subst (λ p. HasNoName p name e) at is))
 
@@ -92,21 +98,21 @@ module _ (sees : Sight) (start : ConnectionValue) (address place : List ℕ) whe
       → OrMemory (LinksToNoText place target) e → Unput left e
   target_fails left target e stands = at_place (LinksToNoText place target) left e (no_text target stands)
 
-  pub names_fail : (left : ℕ) (names : List (List ℕ)) (d : DirectoryValue) (e : CommandError) → sees.lists place names → IsSorted bytes_cmp names → Follows names d
+  pub names_fail : (left : ℕ) (names : List (List ℕ)) (d : DirectoryValue) (e : CommandError) → sees.lists place names → IsSorted bytes_cmp names → IsPutSoFar sees start left place names d
       → OrMemory (λ x. ¬ AreNamed d × TellsOfEntry place (codes "two entries of one name") x) e → Unput left e
-  names_fail left names d e lists ordered follows = at_place (λ x. ¬ AreNamed d × TellsOfEntry place (codes "two entries of one name") x) left e
-      (λ is. name_twice names lists (record { ordered = ordered; twice = λ up. is.0 (follows.named up); told = is.1 }))
+  names_fail left names d e lists ordered so_far = at_place (λ x. ¬ AreNamed d × TellsOfEntry place (codes "two entries of one name") x) left e
+      (λ is. name_twice names lists (names_put sees start left place names d so_far) (record { ordered = ordered; twice = λ up. is.0 (so_far.follows.named up); told = is.1 }))
 
   pub file_fails : (bytes : List ℕ) (e : CommandError) → sees.reads place bytes
-      → OrMemory (λ x. ∥ RefusesPut start address bytes x ∥₁) e → OrMemory (FailsHere sees start address place) e
-  file_fails bytes e reads = or_weaker (λ x. ∥ RefusesPut start address bytes x ∥₁) (FailsHere sees start address place) e (file_refused bytes reads)
+      → OrMemory (λ x. ∥ RefusesPut start address bytes x ∥₁) e → OrMemory (λ x. (left : ℕ) → FailsHere sees start address left place x) e
+  file_fails bytes e reads = or_weaker (λ x. ∥ RefusesPut start address bytes x ∥₁) (λ x. (left : ℕ) → FailsHere sees start address left place x) e (λ refuses left. file_refused bytes reads refuses)
 
   pub directory_fails : (left : ℕ) (names : List (List ℕ)) (d : DirectoryValue) (bytes : List ℕ) (result : Result DigestValue CommandError) → IsDirectory d
       → sees.lists place names → IsPutSoFar sees start left place names d → bytes ≡ directory_bytes d
       → IfErr result (OrMemory (λ e. ∥ RefusesPut start address bytes e ∥₁)) → IfErr result (OrMemory (λ e. FailsBelow sees start address e left place))
   directory_fails left names d bytes (Ok digest) valid lists so_far is fails = tt
   directory_fails left names d bytes (Err e) valid lists so_far is fails = at_place (λ x. ∥ RefusesPut start address bytes x ∥₁) left e
-      (λ refuses. folder_refused left d valid (record { names = names; read = lists; all = so_far.all; only = so_far.only }) so_far.are_put (subst (λ b. ∥ RefusesPut start address b e ∥₁) is refuses)) fails
+      (λ refuses. folder_refused d valid (record { names = names; read = lists; all = so_far.all; only = so_far.only }) so_far.are_put (subst (λ b. ∥ RefusesPut start address b e ∥₁) is refuses)) fails
 
 -- ---- the whole command
 

@@ -64,15 +64,18 @@ beginning_of_front old new front back text e h = record {
   };
 }
 
-pub beginning_of_back : (old mid new : Option (List ℕ)) (front back text : List ℕ) → text ≡ front ++ back → Appends old mid front → AppendsPart mid new back → AppendsBeginning old new text
-beginning_of_back old mid new front back text e h part = record {
-  rest = part.rest;
+pub beginning_on : (old mid new : Option (List ℕ)) (front back text : List ℕ) → text ≡ front ++ back → Appends old mid front → AppendsBeginning mid new back → AppendsBeginning old new text
+beginning_on old mid new front back text e h more = record {
+  rest = more.rest;
   up_to = record {
-    beginning = front ++ part.up_to.beginning;
-    cut = e ∙ ap (λ l. front ++ l) part.up_to.cut ∙ sym (append_assoc front part.up_to.beginning part.rest);
-    appended = Appends-trans old mid new front part.up_to.beginning h part.up_to.appended;
+    beginning = front ++ more.up_to.beginning;
+    cut = e ∙ ap (λ l. front ++ l) more.up_to.cut ∙ sym (append_assoc front more.up_to.beginning more.rest);
+    appended = Appends-trans old mid new front more.up_to.beginning h more.up_to.appended;
   };
 }
+
+pub beginning_of_back : (old mid new : Option (List ℕ)) (front back text : List ℕ) → text ≡ front ++ back → Appends old mid front → AppendsPart mid new back → AppendsBeginning old new text
+beginning_of_back old mid new front back text e h part = beginning_on old mid new front back text e h (beginning_of_part mid new back part)
 
 -- of a text without a newline only what has none is appended
 pub no_line_of_part : (old new : Option (List ℕ)) (text : List ℕ) → HasNoNewline text → AppendsPart old new text → PrintsNoLine old new
@@ -125,7 +128,7 @@ quoted_words (Some q) after = (q ++ after, (q, refl, refl))
 quoted_words None after = (after, ([], tt, refl))
 
 words_of_note : (note : Note) → (text : List ℕ) × IsNoteText note text
-words_of_note (NoBlob server digest) = (no_blob_text (string_bytes server) (string_bytes digest), refl)
+words_of_note (NoBlob server digest) = (no_blob_text (string_bytes server) digest, refl)
 words_of_note (NoStore path) = quoted_words (debug_str (string_bytes path)) (codes ": there is no such folder")
 words_of_note (Refused why) = (string_bytes why, refl)
 

@@ -1,15 +1,21 @@
--- The text of an error's line. What another crate's fault says is free, and what stands around it
--- isn't: the option, the path, the line, the hint, the server, the request, the program and the
--- signal.
+-- The text of an error's line. What a fault of the system, of a digest or of a plan says is free,
+-- and what stands around it isn't: the option, the path, the line, the hint, the server, the
+-- request, its fault, the program and the signal.
 use Rattle.std.specs.Prelude.{◌≡◌, ℕ, List, [], ◌++◌, Option, None, Some, IfSome, codes, decimal}
 use Rattle.std.specs.Prelude.{bytes_eq, if◌then◌else◌, string_bytes}
 use Rattle.std.specs.Fmt.{debug_str, signed_decimal}
+use Rattle.blob_digest.specs.Digest.{DigestValue}
+use Rattle.blob_digest.specs.Text.{digest_text}
+use Rattle.remote.specs.Fault.{fault_text}
 use Rattle.commands.specs.declared.error.CommandError.{CommandError}
 use Rattle.commands.specs.declared.error.CommandError.TheVariants.{Accept, Address, Blob}
 use Rattle.commands.specs.declared.error.CommandError.TheVariants.{Connection, Digest, Entry, File}
 use Rattle.commands.specs.declared.error.CommandError.TheVariants.{Memory, NotAFile, Number, Output}
 use Rattle.commands.specs.declared.error.CommandError.TheVariants.{Process, Random, Server, Text}
 use Rattle.commands.specs.declared.error.CommandError.TheVariants.{TooLarge, Unlike, Words}
+use Rattle.commands.specs.declared.failure.Method.{Method}
+use Rattle.commands.specs.declared.failure.Method.TheVariants.{GetBlob, GetResult, PutBlob}
+use Rattle.commands.specs.declared.failure.Method.TheVariants.{PutResult}
 use Rattle.commands.specs.declared.hint.Hint.{Hint}
 use Rattle.commands.specs.declared.hint.Hint.TheVariants.{BlankAtEnd, CarriageReturn, LaterStep}
 use Rattle.commands.specs.declared.hint.Hint.TheVariants.{NoLine, NoNewline, NoStep, NotEscaped}
@@ -70,10 +76,20 @@ abbrev pub IsWordsInLine : List ℕ → ℕ → Option Hint → List ℕ → Typ
 IsWordsInLine path line hint text = (words : List ℕ)
     × IsOfPath path (said_of (codes "line " ++ decimal line) (words ++ hint_words hint)) text
 
--- some words of a fault of a request to a server: what was asked, and of which digest
-abbrev pub IsWordsOfRequest : List ℕ → List ℕ → List ℕ → List ℕ → Type 0
-IsWordsOfRequest server asked digest text = (said : List ℕ)
-    × IsWordsOf (asked ++ (codes " " ++ digest)) said × (text ≡ said_of server said)
+-- the words for a request: what is asked, and of which digest
+abbrev pub method_text : Method → List ℕ
+method_text GetBlob = codes "get of blob"
+method_text GetResult = codes "get of result"
+method_text PutBlob = codes "put of blob"
+method_text PutResult = codes "put of result"
+
+abbrev pub request_words : Method → DigestValue → List ℕ
+request_words method digest = method_text method ++ (codes " " ++ digest_text digest)
+
+-- said of a request to a server
+abbrev pub said_of_request : List ℕ → Method → DigestValue → List ℕ → List ℕ
+said_of_request server method digest said =
+    said_of server (said_of (request_words method digest) said)
 
 -- why a process came to nothing, by its program's name in quotes
 abbrev pub IsCauseText : List ℕ → ProcessCause → List ℕ → Type 0
@@ -105,10 +121,10 @@ IsErrorText (Unlike option wanted given) text =
 IsErrorText (Entry path fault) text = IsOfPath (string_bytes path) fault.now text
 IsErrorText (Connection server fault) text = (said : List ℕ)
     × IsWordsOf (codes "can't connect") said × (text ≡ said_of (string_bytes server) said)
-IsErrorText (Server server asked digest fault) text =
-    IsWordsOfRequest (string_bytes server) asked.now (string_bytes digest) text
-IsErrorText (Blob server digest fault) text = text ≡ said_of (string_bytes server)
-    (said_of (codes "get of blob " ++ string_bytes digest) fault.now)
+IsErrorText (Server server failure) text = text
+    ≡ said_of_request (string_bytes server) failure.method failure.digest (fault_text failure.fault)
+IsErrorText (Blob server digest fault) text =
+    text ≡ said_of_request (string_bytes server) GetBlob digest fault.now
 IsErrorText (Address place fault) text = (said : List ℕ)
     × IsWordsOf (codes "can't listen") said × IsOfPath (string_bytes place) said text
 IsErrorText (Accept fault) text =

@@ -1,5 +1,5 @@
 -- What the errors of a command tell.
-use Rattle.std.specs.Prelude.{◌≡◌, ◌↔◌, ◌⊎◌, ℕ, List, Option, Some, None, Result, Ok, Err, codes}
+use Rattle.std.specs.Prelude.{◌≡◌, ◌↔◌, ◌⊎◌, ℕ, List, Option, Some, None, Result, Ok, Err}
 use Rattle.std.specs.Prelude.{string_bytes}
 use Rattle.blob_digest.specs.Digest.{DigestValue, IsDigest}
 use Rattle.blob_digest.specs.Text.{digest_text, BeginsWithHash}
@@ -12,12 +12,11 @@ use Rattle.remote.specs.declared.files.FileError.TheVariants as files
 use Rattle.std.specs.declared.alloc.Global.{Global}
 use Rattle.std.specs.declared.io.Error.{Error}
 use Rattle.commands.specs.declared.error.CommandError.{CommandError}
-use Rattle.commands.specs.declared.error.CommandError.TheVariants.{Digest, Entry, File, NotAFile}
-use Rattle.commands.specs.declared.error.CommandError.TheVariants.{Memory, Server, TooLarge, Unlike}
+use Rattle.commands.specs.declared.error.CommandError.TheVariants.{Blob, Digest, Entry, File}
+use Rattle.commands.specs.declared.error.CommandError.TheVariants.{Memory, NotAFile, Server}
+use Rattle.commands.specs.declared.error.CommandError.TheVariants.{TooLarge, Unlike}
 use Rattle.commands.specs.declared.failure.Failure.{Failure}
 use Rattle.commands.specs.declared.failure.Method.{Method}
-use Rattle.commands.specs.declared.failure.Method.TheVariants.{GetBlob, GetResult, PutBlob}
-use Rattle.commands.specs.declared.failure.Method.TheVariants.{PutResult}
 
 abbrev pub SpellsNone : List ℕ → Type 0
 SpellsNone text = (d : DigestValue) → IsDigest d → ¬ (text ≡ digest_text d)
@@ -47,32 +46,16 @@ IsUnlikeWanted option wanted text (Unlike o w t) =
     (o.now ≡ option) × (w.now ≡ wanted) × (string_bytes t ≡ text)
 IsUnlikeWanted option wanted text _ = ⊥
 
--- the words for a request
-abbrev pub method_text : Method → List ℕ
-method_text GetBlob = codes "get of blob"
-method_text GetResult = codes "get of result"
-method_text PutBlob = codes "put of blob"
-method_text PutResult = codes "put of result"
-
 -- the error tells which server refused what, of which digest and for which fault
-abbrev pub IsServerFault : List ℕ → Method → DigestValue → Fault → CommandError → Type 0
-IsServerFault address method d fault (Server server asked digest told) =
-    (string_bytes server ≡ address) × (asked.now ≡ method_text method)
-    × (string_bytes digest ≡ digest_text d) × (told ≡ fault)
-IsServerFault address method d fault _ = ⊥
+abbrev pub IsServerFault : List ℕ → Failure → CommandError → Type 0
+IsServerFault address failure (Server server told) =
+    (string_bytes server ≡ address) × (told ≡ failure)
+IsServerFault address failure _ = ⊥
 
--- the error of a call that was refused: that fault, where it failed and the connection has one
-abbrev pub TellsRefusal : List ℕ → Method → DigestValue → Option Fault → FetchError → CommandError
-    → Type 0
-TellsRefusal address method d (Some fault) refusals.Failed e =
-    IsServerFault address method d fault e
-TellsRefusal address method d (Some fault) refusals.Memory e = e ≡ Memory
-TellsRefusal address method d None refusal e = e ≡ Memory
-
--- so it is with the request that failed last
+-- the error of a call that was refused: the request that failed last, where this one failed
 abbrev pub TellsFailure : List ℕ → Option Failure → FetchError → CommandError → Type 0
-TellsFailure address (Some f) refusal e =
-    TellsRefusal address f.method f.digest (Some f.fault) refusal e
+TellsFailure address (Some failure) refusals.Failed e = IsServerFault address failure e
+TellsFailure address (Some failure) refusals.Memory e = e ≡ Memory
 TellsFailure address None refusal e = e ≡ Memory
 
 -- that is the request of a call that failed, for the fault of the connection; after another call it
@@ -84,6 +67,12 @@ kept_failure before method d (Err refusal) None = before
 kept_failure before method d (Err refusals.Failed) (Some fault) =
     Some (record { method = method; digest = d; fault = fault })
 kept_failure before method d (Err refusals.Memory) (Some fault) = before
+
+-- the error tells this of what the server sent for the digest
+abbrev pub IsBadBlob : List ℕ → DigestValue → List ℕ → CommandError → Type 0
+IsBadBlob address d words (Blob server digest fault) =
+    (string_bytes server ≡ address) × (digest ≡ d) × (fault.now ≡ words)
+IsBadBlob address d words _ = ⊥
 
 -- the error tells this of what stands at the place
 abbrev pub TellsOfEntry : List ℕ → List ℕ → CommandError → Type 0

@@ -1,10 +1,8 @@
 -- Why `get` ends without its answer: the first fault, in the order server, digest, connection and
 -- work.
 use Rattle.std.specs.Prelude.{◌≡◌, ◌≢◌, ◌⊎◌, ℕ, List, [], Option, None, Some, codes}
-use Rattle.std.specs.Prelude.{string_bytes}
 use Rattle.std.specs.declared.alloc.Global.{Global}
 use Rattle.blob_digest.specs.Digest.{DigestValue, digest_of, empty_digest}
-use Rattle.blob_digest.specs.Text.{digest_text}
 use Rattle.blob_source.specs.Source.{Telling}
 use Rattle.checkout.specs.Refused.{FailsCheckout}
 use Rattle.checkout.specs.Written.{asked_somehow}
@@ -12,7 +10,7 @@ use Rattle.checkout.specs.declared.error.CheckoutError.{CheckoutError}
 use Rattle.checkout.specs.declared.error.CheckoutError.TheVariants as trees
 use Rattle.clap.specs.Words.{Row, first_of}
 use Rattle.command_lines.specs.CommandLine.{option_text}
-use Rattle.commands.specs.Faults.{IsDigestFault, TellsOfEntry}
+use Rattle.commands.specs.Faults.{IsBadBlob, IsDigestFault, TellsOfEntry}
 use Rattle.commands.specs.Got.{GetsFirst, IsBlobOver}
 use Rattle.commands.specs.Places.{FailsOver, FailsToConnect, IsToldOver, LacksOver, RefusesAt}
 use Rattle.commands.specs.Places.{gets_alone}
@@ -21,18 +19,12 @@ use Rattle.commands.specs.Refusal.{IsPrintFault}
 use Rattle.commands.specs.Words.{AllValid, FailsFirst, server_words}
 use Rattle.commands.specs.World.{Sight}
 use Rattle.commands.specs.declared.error.CommandError.{CommandError}
-use Rattle.commands.specs.declared.error.CommandError.TheVariants.{Blob, File, Memory}
+use Rattle.commands.specs.declared.error.CommandError.TheVariants.{File, Memory}
 use Rattle.commands.specs.declared.failure.Method.TheVariants.{GetBlob}
 use Rattle.http_core.specs.declared.event.Area.TheVariants.{Cas}
 use Rattle.messages.specs.Path.{path_text}
 use Rattle.remote.specs.Line.{ConnectionValue}
 use Rattle.text_verifier.specs.Refused.{IsSpelled}
-
--- the error tells this of what the server sent for the digest
-abbrev pub IsBadBlob : List ℕ → DigestValue → List ℕ → CommandError → Type 0
-IsBadBlob address d words (Blob server digest fault) = (string_bytes server ≡ address)
-    × (string_bytes digest ≡ digest_text d) × (fault.now ≡ words)
-IsBadBlob address d words _ = ⊥
 
 -- ---- a blob
 

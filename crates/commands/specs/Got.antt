@@ -2,7 +2,6 @@
 use Rattle.std.specs.Prelude.{◌≡◌, ◌≢◌, ◌⊎◌, ℕ, List, Option, None, Some, string_bytes}
 use Rattle.std.specs.Io.KnownBytes.{Appends}
 use Rattle.blob_digest.specs.Digest.{DigestValue, digest_of, empty_digest}
-use Rattle.blob_digest.specs.Text.{digest_text}
 use Rattle.http_core.specs.declared.event.Area.TheVariants.{Cas}
 use Rattle.remote.specs.Line.{ConnectionValue, Gets}
 use Rattle.commands.specs.Told.{AppendsBeginning}
@@ -29,8 +28,8 @@ pub record WritesRight (start : ConnectionValue) (digest : DigestValue)
 
 -- the note says that the server at the address has no blob of the digest
 abbrev pub NotesNoBlob : List ℕ → DigestValue → Option Note → Type 0
-NotesNoBlob address digest (Some (NoBlob server text)) =
-    (string_bytes server ≡ address) × (string_bytes text ≡ digest_text digest)
+NotesNoBlob address digest (Some (NoBlob server d)) =
+    (string_bytes server ≡ address) × (d ≡ digest)
 NotesNoBlob address digest _ = ⊥
 
 -- It was answered that there is none, nothing was written, and the note says why. The empty blob is

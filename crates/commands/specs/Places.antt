@@ -196,7 +196,7 @@ pub record RefusesAt (access : Access) (start : ConnectionValue) (address : List
     (method : Method) (digest : DigestValue) (body : List ℕ) (e : CommandError) : Type 0 where
   pub fault : Fault
   pub why : IsRefusedFor access start (request_of method digest.hash body) fault
-  pub told : IsServerFault address method digest fault e
+  pub told : IsServerFault address (record { method = method; digest = digest; fault = fault }) e
 
 -- what goes with a request: a blob with its own digest, a result, or nothing
 abbrev pub Carries : Method → DigestValue → List ℕ → Type 0

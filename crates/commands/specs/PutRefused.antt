@@ -47,47 +47,51 @@ abbrev pub RefusesPut : ConnectionValue → List ℕ → List ℕ → CommandErr
 RefusesPut start address bytes =
     RefusesAt puts_blobs start address PutBlob (digest_of bytes) bytes
 
+-- entries of the folder at the place are put, below each of which paths go fewer names down
+abbrev pub ArePut : Sight → ConnectionValue → ℕ → List ℕ → List (List ℕ) → Type 0
+ArePut sees start left place names = (n : List ℕ) → Contains names n
+    → (x : NodeValue) × IsPutAt sees start left (place ++ 47 ∷ n) x
+
 -- the folder at the place was read, and has an entry of this name; what it has before that is put
-pub record ReachesEntry (sees : Sight) (start : ConnectionValue) (place name : List ℕ)
+pub record ReachesEntry (sees : Sight) (start : ConnectionValue) (left : ℕ) (place name : List ℕ)
     : Type 0 where
   pub before : List (List ℕ)
   pub behind : List (List ℕ)
   pub read : sees.lists place (before ++ name ∷ behind)
-  pub left : ℕ
-  pub put : (n : List ℕ) → Contains before n
-      → (x : NodeValue) × IsPutAt sees start left (place ++ 47 ∷ n) x
+  pub put : ArePut sees start left place before
 
--- What stands at a place isn't put: it can't be read or spelled, or the server refused it; of a
--- folder, whose entries it took.
-pub data FailsHere (sees : Sight) (start : ConnectionValue) (address place : List ℕ)
-    (e : CommandError) : Type 0 where
+-- What stands at a place, where paths go so many names further down, isn't put: it can't be read or
+-- spelled, or the server refused it; of a folder, whose entries it took.
+pub data FailsHere (sees : Sight) (start : ConnectionValue) (address : List ℕ) (left : ℕ)
+    (place : List ℕ) (e : CommandError) : Type 0 where
   unread : (f : FileError Global) → sees.fails place f → e ≡ error_of_file f
-      → FailsHere sees start address place e
+      → FailsHere sees start address left place e
   no_text : (target : List ℕ) → sees.stands place (a_link target) → LinksToNoText place target e
-      → FailsHere sees start address place e
-  no_name : (name : List ℕ) → ReachesEntry sees start place name
-      → HasNoName (place ++ 47 ∷ name) name e → FailsHere sees start address place e
-  name_twice : (names : List (List ℕ)) → sees.lists place names → HasNameTwice place names e
-      → FailsHere sees start address place e
+      → FailsHere sees start address left place e
+  no_name : (name : List ℕ) → ReachesEntry sees start left place name
+      → HasNoName (place ++ 47 ∷ name) name e → FailsHere sees start address left place e
+  name_twice : (names : List (List ℕ)) → sees.lists place names
+      → ArePut sees start left place names → HasNameTwice place names e
+      → FailsHere sees start address left place e
   file_refused : (bytes : List ℕ) → sees.reads place bytes
-      → ∥ RefusesPut start address bytes e ∥₁ → FailsHere sees start address place e
-  folder_refused : (left : ℕ) (d : DirectoryValue) → IsDirectory d → IsListed sees place d
+      → ∥ RefusesPut start address bytes e ∥₁ → FailsHere sees start address left place e
+  folder_refused : (d : DirectoryValue) → IsDirectory d → IsListed sees place d
       → ((n : List ℕ) (x : NodeValue) → IsChild n d (Some x)
       → IsPutAt sees start left (place ++ 47 ∷ n) x)
       → ∥ RefusesPut start address (directory_bytes d) e ∥₁
-      → FailsHere sees start address place e
+      → FailsHere sees start address left place e
 
--- It, or something below it, isn't put, the first in the order of the names, where paths go so many
--- names further down.
+-- It, or something below it, isn't put, the first in the order of the names. Of an entry its name
+-- is looked at first, then how deep it lies.
 pub data FailsBelow (sees : Sight) (start : ConnectionValue) (address : List ℕ) (e : CommandError)
     : ℕ → List ℕ → Type 0 where
-  here : (left : ℕ) (place : List ℕ) → FailsHere sees start address place e
+  here : (left : ℕ) (place : List ℕ) → FailsHere sees start address left place e
       → FailsBelow sees start address e left place
-  too_deep : (place name : List ℕ) → ReachesEntry sees start place name
+  too_deep : (place name : List ℕ) → ReachesEntry sees start 0 place name → IsName name
       → TellsOfEntry (place ++ 47 ∷ name) (codes "more than 64 names deep") e
       → FailsBelow sees start address e 0 place
-  below : (left : ℕ) (place name : List ℕ) → ReachesEntry sees start place name
-      → FailsBelow sees start address e left (place ++ 47 ∷ name)
+  below : (left : ℕ) (place name : List ℕ) → ReachesEntry sees start (suc left) place name
+      → IsName name → FailsBelow sees start address e left (place ++ 47 ∷ name)
       → FailsBelow sees start address e (suc left) place
 
 -- The first fault: what comes before it has none. That memory is wanting may come anywhere, and is

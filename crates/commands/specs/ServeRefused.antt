@@ -14,9 +14,10 @@ use Rattle.commands.specs.declared.error.CommandError.TheVariants.{Accept, Addre
 
 -- ---- faults
 
-abbrev pub IsRandomFault : CommandError → Type 0
-IsRandomFault (Random fault) = Unit {0}
-IsRandomFault _ = ⊥
+-- there were no random bytes
+abbrev pub FailsForRandom : Sight → CommandError → Type 0
+FailsForRandom sees (Random fault) = sees.unrandom fault
+FailsForRandom sees _ = ⊥
 
 -- no more connections are served
 abbrev pub IsAcceptFault : CommandError → Type 0
@@ -34,7 +35,7 @@ FailsToListen sees place _ = ⊥
 pub data FailsServe (sees : Sight) (options : List Row) (e : CommandError) : Type 0 where
   in_memory : e ≡ Memory → FailsServe sees options e
   in_words : FailsFirst (serve_words options) e → FailsServe sees options e
-  in_random : AllValid (serve_words options) → IsRandomFault e → FailsServe sees options e
+  in_random : AllValid (serve_words options) → FailsForRandom sees e → FailsServe sees options e
   in_address : AllValid (serve_words options)
       → FailsToListen sees (option_text options (codes "listen")) e → FailsServe sees options e
   in_output : (address : SocketAddr) → StartsServe sees options address → IsPrintFault e

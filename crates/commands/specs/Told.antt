@@ -2,6 +2,8 @@
 use Rattle.std.specs.Prelude.{◌≡◌, ◌⊎◌, ℕ, ◌<◌, ◌==◌, List, [], ◌∷◌, ◌++◌, length, map, Option}
 use Rattle.std.specs.Prelude.{None, Some, codes, if◌then◌else◌, string_bytes}
 use Rattle.std.specs.Io.KnownBytes.{Appends}
+use Rattle.blob_digest.specs.Digest.{DigestValue}
+use Rattle.blob_digest.specs.Text.{digest_text}
 use Rattle.report.specs.Line.{HasNoNewline}
 use Rattle.commands.specs.ErrorText.{IsErrorText, IsOfPath}
 use Rattle.commands.specs.declared.ended.Note.{Note}
@@ -32,6 +34,25 @@ pub record PrintsNoLine (old new : Option (List ℕ)) : Type 0 where
   pub unbroken : HasNoNewline text
   pub printed : Appends old new text
 
+-- ---- a terminal
+
+-- what takes a terminal's line away: a carriage return (13), and an escape (27)
+abbrev pub erasing : List ℕ
+erasing = 13 ∷ 27 ∷ codes "[K"
+
+-- what writes a text in its place: the terminal cuts off what is longer than its width
+abbrev pub line_over : List ℕ → List ℕ
+line_over text = erasing ++ (27 ∷ codes "[?7l" ++ (text ++ 27 ∷ codes "[?7h"))
+
+-- if there is one, so it is there, or a beginning of that
+abbrev pub AppendsToSome : {T : Type 0} → (T → Option (List ℕ)) → Option T → Option T → List ℕ
+    → Type 0
+AppendsToSome contents (Some old) (Some new) text =
+    AppendsBeginning (contents old) (contents new) text
+AppendsToSome contents _ _ text = Unit {0}
+
+-- ---- errors and notes
+
 -- a text in one line: a space stands for each newline
 abbrev pub in_one_line : List ℕ → List ℕ
 in_one_line text = map (λ b. if b == 10 then 32 else b) text
@@ -47,16 +68,15 @@ pub record TellsOf (error : CommandError) (old new : Option (List ℕ)) : Type 0
   pub appended : AppendsBeginning old new (line_after (codes "error: ") text)
 
 -- the words of a note of a blob, and of one of a folder
-abbrev pub no_blob_text : List ℕ → List ℕ → List ℕ
-no_blob_text server digest = server ++ (codes " has no blob " ++ digest)
+abbrev pub no_blob_text : List ℕ → DigestValue → List ℕ
+no_blob_text server digest = server ++ (codes " has no blob " ++ digest_text digest)
 
 abbrev pub IsNoStoreText : List ℕ → List ℕ → Type 0
 IsNoStoreText path = IsOfPath path (codes "there is no such folder")
 
 -- those of a note
 abbrev pub IsNoteText : Note → List ℕ → Type 0
-IsNoteText (NoBlob server digest) text =
-    text ≡ no_blob_text (string_bytes server) (string_bytes digest)
+IsNoteText (NoBlob server digest) text = text ≡ no_blob_text (string_bytes server) digest
 IsNoteText (NoStore path) text = IsNoStoreText (string_bytes path) text
 IsNoteText (Refused why) text = text ≡ string_bytes why
 

@@ -3,7 +3,7 @@ ghost use Rattle.blob_digest.specs.Digest.{digest_of};
 ghost use Rattle.blob_source.specs.Called.{Calls};
 ghost use Rattle.blob_source.specs.Sink.{IsPut, PutsBlob};
 ghost use Rattle.blob_source.specs.Source.{AsksBlob, AsksResult, bytes_of};
-ghost use Rattle.commands.specs.Faults.{OrMemory, TellsFailure, TellsRefusal, kept_failure};
+ghost use Rattle.commands.specs.Faults.{OrMemory, TellsFailure, kept_failure};
 ghost use Rattle.commands.specs.Places.{AreLacked, FailsOver, FailsToConnect, IsClientOver};
 ghost use Rattle.commands.specs.Places.{IsConnected, IsFresh, KeepsRefused, LacksIt, LacksOver};
 ghost use Rattle.commands.specs.Places.{puts_blobs, puts_too};
@@ -19,20 +19,20 @@ use crate::failure::{Failure, Method, keep_failure};
 use crate::world::World;
 use blob_digest::Digest;
 use blob_source::{BlobSink, BlobSource, FetchError};
-use remote::{Fault, Remote, Stream};
+use remote::{Remote, Stream};
 use std::alloc::{AllocError, Global};
 use std::io::ErrorKind;
 use std::marker::{Brand, PhantomData};
 use text_verifier::Lack;
 
 /// Marks a client by its connection, as that stood when it was opened.
-pub trait Origin {
+pub trait Opened {
     ghost use Rattle.remote.specs.Line.{ConnectionValue};
 
     ghost start: { ConnectionValue };
 }
 
-impl Origin for Brand {
+impl Opened for Brand {
     ghost use Rattle.commands.specs.Places.{no_connection};
 
     ghost start = { no_connection };
@@ -74,7 +74,7 @@ impl Permit for PutsToo {
 
 /// A remote over the marked connection, that knows which request failed last.
 #[derive(Drop)]
-pub struct Client<S: Stream + Drop, K: Origin, U: Permit> {
+pub struct Client<S: Stream + Drop, K: Opened, U: Permit> {
     remote: Remote<S, Global>,
     failure: Option<Failure>,
     of: PhantomData<K>,
@@ -86,7 +86,7 @@ pub struct Client<S: Stream + Drop, K: Origin, U: Permit> {
     ghost refused: { ∥ KeepsRefused U.access K.start (connection_of S.flow remote) failure ∥₁ },
 }
 
-impl<S: Stream + Drop, K: Origin> Client<S, K, PutsBlobs> {
+impl<S: Stream + Drop, K: Opened> Client<S, K, PutsBlobs> {
     /// Puts a blob that isn't asked for again.
     pub(crate) fn put(
         &mut self,
@@ -110,7 +110,7 @@ impl<S: Stream + Drop, K: Origin> Client<S, K, PutsBlobs> {
     }
 }
 
-impl<S: Stream + Drop, K: Origin, U: Permit> Client<S, K, U> {
+impl<S: Stream + Drop, K: Opened, U: Permit> Client<S, K, U> {
     ghost use Rattle.commands.specs.Client.{failed_request, remote_of};
 
     /// A client over this connection.
@@ -175,24 +175,17 @@ impl<S: Stream + Drop, K: Origin, U: Permit> Client<S, K, U> {
         ensures failed { IfOk result (λ e. refusal ≡ FetchError.Failed → e ≡ CommandError.Memory
             → ∥ (telling_of (remote_of self.now)).failures ≡ K.start.failures ∥₁) }
     {
-        match &self.failure {
-            Some(failure) => {
-                let fault = Some(failure.fault);
-                server_error(
-                    alloc,
-                    server,
-                    failure.method,
-                    &failure.digest,
-                    fault,
-                    refusal,
-                )
-            }
-            None => Ok(CommandError::Memory),
+        match self.failure {
+            Some(failure) if refusal == FetchError::Failed => Ok(CommandError::Server {
+                server: String::from_str(alloc, server.address.as_str())?,
+                failure,
+            }),
+            _ => Ok(CommandError::Memory),
         }
     }
 }
 
-impl<S: Stream + Drop, K: Origin, U: Permit> BlobSource<Global> for Client<S, K, U> {
+impl<S: Stream + Drop, K: Opened, U: Permit> BlobSource<Global> for Client<S, K, U> {
     ghost use Rattle.commands.specs.Client.{failed_request, remote_of};
     ghost use Rattle.remote.specs.Remote.{telling_of};
 
@@ -233,7 +226,7 @@ impl<S: Stream + Drop, K: Origin, U: Permit> BlobSource<Global> for Client<S, K,
     }
 }
 
-impl<S: Stream + Drop, K: Origin> BlobSink<Global> for Client<S, K, PutsToo> {
+impl<S: Stream + Drop, K: Opened> BlobSink<Global> for Client<S, K, PutsToo> {
     ghost use Rattle.commands.specs.Client.{remote_of};
 
     fn put_blob(&mut self, alloc: Global, bytes: &[u8]) -> Result<Digest, FetchError>
@@ -272,30 +265,6 @@ fn digest_put(put: &Result<Digest, FetchError>, bytes: &[u8]) -> Digest
     match put {
         Ok(digest) => *digest,
         Err(_) => Digest::of(bytes),
-    }
-}
-
-/// The error of a request that was refused, with the last fault of the connection.
-pub(crate) fn server_error(
-    alloc: Global,
-    server: &ServerOptions,
-    method: Method,
-    digest: &Digest,
-    fault: Option<Fault>,
-    refusal: FetchError,
-) -> Result<CommandError, AllocError>
-    ensures status { IfOk result (λ e. exit_status e ≡ 3) }
-    ensures error { IfOk result
-        (TellsRefusal (string_bytes server.now.address) method digest.now fault refusal) }
-{
-    match fault {
-        Some(fault) if refusal == FetchError::Failed => Ok(CommandError::Server {
-            server: String::from_str(alloc, server.address.as_str())?,
-            asked: method.text(),
-            digest: digest.write_text(alloc)?,
-            fault,
-        }),
-        _ => Ok(CommandError::Memory),
     }
 }
 

@@ -1,3 +1,5 @@
+use blob_digest::Digest;
+
 /// What a command that wasn't refused came to.
 #[derive(Drop)]
 pub enum Ended {
@@ -11,7 +13,7 @@ pub enum Ended {
 #[derive(Drop)]
 pub enum Note {
     /// The server has no blob of the digest.
-    NoBlob { server: String, digest: String },
+    NoBlob { server: String, digest: Digest },
     /// No folder is at the path.
     NoStore { path: String },
     /// Why a build was refused.

@@ -1,12 +1,13 @@
-ghost use Rattle.std.specs.Prelude.{◌≡◌};
-ghost use Rattle.commands.specs.Faults.{TellsOfEntry, OrMemory};
+ghost use Rattle.std.specs.Prelude.{◌≡◌, IfOk, string_bytes};
+ghost use Rattle.commands.specs.Faults.{IsBadBlob, TellsOfEntry, OrMemory};
 ghost use Rattle.commands.specs.Status.{exit_status};
 
+use crate::connecting::ServerOptions;
+use crate::failure::Failure;
 use crate::hint::Hint;
 use crate::process_fault::ProcessFault;
-use blob_digest::DigestError;
+use blob_digest::{Digest, DigestError};
 use plan::PlanError;
-use remote::Fault;
 use service::NotAccepted;
 use std::alloc::{AllocError, AllocFailed, Global};
 use std::io;
@@ -63,17 +64,15 @@ pub enum CommandError {
         server: String,
         fault: io::Error,
     },
-    /// A request to the server failed: what it asked, and of which digest.
+    /// A request to the server failed.
     Server {
         server: String,
-        asked: &'static str,
-        digest: String,
-        fault: Fault,
+        failure: Failure,
     },
     /// What the server sent for the digest can't be taken.
     Blob {
         server: String,
-        digest: String,
+        digest: Digest,
         fault: &'static str,
     },
     /// No socket could be bound at the address.
@@ -151,4 +150,23 @@ pub(crate) fn entry_error(alloc: Global, place: &str, fault: &'static str) -> Co
         Ok(path) => CommandError::Entry { path, fault },
         Err(_) => CommandError::Memory,
     }
+}
+
+/// What is said of bytes that haven't the digest for which they came.
+pub(crate) const OTHER_BYTES: &str = "other bytes came";
+
+/// The error of what a server sent for a digest and can't be taken.
+pub(crate) fn blob_error(
+    alloc: Global,
+    server: &ServerOptions,
+    digest: &Digest,
+    fault: &'static str,
+) -> Result<CommandError, AllocError>
+    ensures { IfOk result (IsBadBlob (string_bytes server.now.address) digest.now fault.now) }
+{
+    Ok(CommandError::Blob {
+        server: String::from_str(alloc, server.address.as_str())?,
+        digest: *digest,
+        fault,
+    })
 }

@@ -1,14 +1,16 @@
 ghost use Rattle.std.specs.Prelude.{◌≡◌, ◌++◌, ℕ, List, IfOk, codes, decimal, string_bytes};
 ghost use Rattle.commands.specs.ErrorText.{IsCauseText, IsErrorText, IsProcessText, IsWordsAt};
-ghost use Rattle.commands.specs.ErrorText.{IsWordsInLine, IsWordsOf, IsWordsOfRequest, IsOfOption};
-ghost use Rattle.commands.specs.ErrorText.{IsOfPath, number_at_most, said_of, written_option};
+ghost use Rattle.commands.specs.ErrorText.{IsWordsInLine, IsWordsOf, IsOfOption};
+ghost use Rattle.commands.specs.ErrorText.{IsOfPath, number_at_most, request_words, said_of};
+ghost use Rattle.commands.specs.ErrorText.{said_of_request, written_option};
+ghost use Rattle.remote.specs.Fault.{fault_text};
 
 use crate::error::CommandError;
+use crate::failure::{Failure, Method};
 use crate::hint::{Hint, hint_text};
 use crate::process_fault::{ProcessCause, ProcessFault};
-use blob_digest::DigestError;
+use blob_digest::{Digest, DigestError};
 use plan::PlanError;
-use remote::Fault;
 use service::NotAccepted;
 use std::alloc::{AllocError, Global};
 use std::io;
@@ -117,31 +119,44 @@ fn faulty_line(
     of_path(alloc, path, said.as_str())
 }
 
-/// That a server refused a request: what was asked, and of which digest.
-fn fault_of_request(
-    alloc: Global,
-    server: &str,
-    asked: &str,
-    digest: &str,
-    fault: &Fault,
-) -> Result<String, AllocError>
-    ensures { IfOk result (λ text.
-        IsWordsOfRequest server.now asked.now digest.now (string_bytes text)) }
+/// What a request asks, and of which digest.
+fn request_words(alloc: Global, method: Method, digest: &Digest) -> Result<String, AllocError>
+    ensures { IfOk result (λ words. string_bytes words ≡ request_words method digest.now) }
 {
-    let request = format!(in alloc; "{asked} {digest}")?;
-    let words = fault.to_string(alloc)?;
-    let said = said_of(alloc, request.as_str(), words.as_str())?;
-    said_of(alloc, server, said.as_str())
+    let asked = method.text();
+    let text = digest.write_text(alloc)?;
+    format!(in alloc; "{asked} {text}")
 }
 
-/// Why what a server sent for a digest can't be taken.
-fn bad_blob(alloc: Global, server: &str, digest: &str, fault: &str) -> Result<String, AllocError>
-    ensures { IfOk result (λ text. string_bytes text
-        ≡ said_of server.now (said_of (codes "get of blob " ++ digest.now) fault.now)) }
+/// What is said of a request to a server.
+fn of_request(
+    alloc: Global,
+    server: &str,
+    method: Method,
+    digest: &Digest,
+    said: &str,
+) -> Result<String, AllocError>
+    ensures { IfOk result (λ text.
+        string_bytes text ≡ said_of_request server.now method digest.now said.now) }
 {
-    let request = format!(in alloc; "get of blob {digest}")?;
-    let said = said_of(alloc, request.as_str(), fault)?;
-    said_of(alloc, server, said.as_str())
+    let request = request_words(alloc, method, digest)?;
+    let words = said_of(alloc, request.as_str(), said)?;
+    said_of(alloc, server, words.as_str())
+}
+
+/// That a server refused a request.
+fn refused_request(alloc: Global, server: &str, failure: &Failure) -> Result<String, AllocError>
+    ensures { IfOk result (λ text. string_bytes text ≡ said_of_request server.now
+        failure.now.method failure.now.digest (fault_text failure.now.fault)) }
+{
+    let said = failure.fault.to_string(alloc)?;
+    of_request(
+        alloc,
+        server,
+        failure.method,
+        &failure.digest,
+        said.as_str(),
+    )
 }
 
 /// That no connection to a server could be opened.
@@ -229,17 +244,14 @@ pub(crate) fn error_text(alloc: Global, error: &CommandError) -> Result<String, 
         CommandError::TooLarge { path } => of_path(alloc, path.as_str(), TOO_LARGE),
         CommandError::Entry { path, fault } => of_path(alloc, path.as_str(), fault),
         CommandError::Connection { server, fault } => not_connected(alloc, server.as_str(), fault),
-        CommandError::Server {
-            server,
-            asked,
-            digest,
-            fault,
-        } => fault_of_request(alloc, server.as_str(), asked, digest.as_str(), fault),
+        CommandError::Server { server, failure } => {
+            refused_request(alloc, server.as_str(), failure)
+        }
         CommandError::Blob {
             server,
             digest,
             fault,
-        } => bad_blob(alloc, server.as_str(), digest.as_str(), fault),
+        } => of_request(alloc, server.as_str(), Method::GetBlob, digest, fault),
         CommandError::Address { address, fault } => not_listening(alloc, address.as_str(), fault),
         CommandError::Accept(fault) => not_accepted(alloc, fault),
         CommandError::Process(fault) => process_text(alloc, fault),

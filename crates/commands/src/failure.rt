@@ -1,5 +1,6 @@
 ghost use Rattle.std.specs.Prelude.{◌≡◌};
-ghost use Rattle.commands.specs.Faults.{kept_failure, method_text};
+ghost use Rattle.commands.specs.ErrorText.{method_text};
+ghost use Rattle.commands.specs.Faults.{kept_failure};
 
 use blob_digest::Digest;
 use blob_source::FetchError;

@@ -11,10 +11,10 @@ ghost use Rattle.commands.specs.Printed.{BeginsGot, GetsAsked, GetsPart, IsGot};
 ghost use Rattle.commands.specs.Refusal.{IsPrintFault};
 ghost use Rattle.remote.specs.Remote.{connection_of};
 
-use crate::client::{Client, GetsAlone, Origin, open};
+use crate::client::{Client, GetsAlone, Opened, open};
 use crate::connecting::{ServerOptions, read_server};
 use crate::ended::{Ended, Note};
-use crate::error::CommandError;
+use crate::error::{CommandError, OTHER_BYTES, blob_error};
 use crate::options::read_digest;
 use crate::printing::print_all;
 use crate::trees::get_tree;
@@ -36,7 +36,7 @@ fn has_digest(bytes: &[u8], digest: &Digest) -> bool
 }
 
 /// The bytes of the blob of the digest, where the server at the other end of the connection has it.
-fn get_blob<S: Stream + Drop, K: Origin>(
+fn get_blob<S: Stream + Drop, K: Opened>(
     alloc: Global,
     server: &ServerOptions,
     client: &mut Client<S, K, GetsAlone>,
@@ -63,11 +63,7 @@ fn get_blob<S: Stream + Drop, K: Origin>(
             if has_digest(&bytes, digest) {
                 return Ok(Some(bytes));
             }
-            Err(CommandError::Blob {
-                server: String::from_str(alloc, server.address.as_str())?,
-                digest: digest.write_text(alloc)?,
-                fault: "other bytes came",
-            })
+            Err(blob_error(alloc, server, digest, OTHER_BYTES)?)
         }
         Err(refusal) => Err(client.error(alloc, server, refusal)?),
     }
@@ -80,13 +76,13 @@ fn no_blob(alloc: Global, server: &ServerOptions, digest: &Digest) -> Result<Not
 {
     Ok(Note::NoBlob {
         server: String::from_str(alloc, server.address.as_str())?,
-        digest: digest.write_text(alloc)?,
+        digest: *digest,
     })
 }
 
 /// Prints the bytes of the blob of the digest, where the server at the other end of the connection
 /// has it.
-fn print_blob<S: Stream + Drop, K: Origin, O: Write>(
+fn print_blob<S: Stream + Drop, K: Opened, O: Write>(
     alloc: Global,
     server: &ServerOptions,
     client: &mut Client<S, K, GetsAlone>,
@@ -113,7 +109,7 @@ fn print_blob<S: Stream + Drop, K: Origin, O: Write>(
 
 /// Writes the blob, or its tree into the folder, that comes over the marked connection. Nothing but
 /// GETs goes over it.
-fn get_over<W: World, K: Origin, O: Write>(
+fn get_over<W: World, K: Opened, O: Write>(
     alloc: Global,
     world: &W,
     server: &ServerOptions,

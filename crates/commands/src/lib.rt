@@ -27,10 +27,11 @@ mod trees;
 mod verifying;
 mod world;
 
-pub use client::{Client, GetsAlone, Origin, Permit, PutsToo, open};
+pub use client::{Client, GetsAlone, Opened, Permit, PutsToo, open};
 pub use connecting::{Connection, ServerOptions, read_server};
 pub use ended::{Ended, Note};
 pub use error::CommandError;
+pub use failure::{Failure, Method};
 pub use getting::run_get;
 pub use hint::Hint;
 pub use laws::a_fault_has_one_hint;

@@ -11,12 +11,13 @@ ghost use Rattle.commands.specs.PutRefused.{LinksToNoText};
 ghost use Rattle.commands.specs.Faults.{OrMemory};
 ghost use Rattle.commands.specs.Refusal.{IsPrintFault};
 ghost use Rattle.commands.specs.Told.{AppendsBeginning};
+ghost use Rattle.messages.specs.Name.{IsName};
 ghost use Rattle.messages.specs.declared.node.Node.TheVariants as nodes;
 ghost use Rattle.remote.specs.Remote.{connection_of};
 ghost use Rattle.tree.specs.Form.{node_value};
 
 use crate::children::Children;
-use crate::client::{Client, Origin, PutsBlobs, open};
+use crate::client::{Client, Opened, PutsBlobs, open};
 use crate::connecting::{ServerOptions, read_server};
 use crate::error::{CommandError, entry_error};
 use crate::printing::print_all;
@@ -38,6 +39,7 @@ const GREATEST_DEPTH: u32 = 64;
 /// The name of what stands at a place.
 fn name_at(alloc: Global, place: &str, name: &str) -> Result<Name<Global>, CommandError>
     ensures name { IfOk result (λ n. n ≡ name.now) }
+    ensures valid { OnOk result (IsName name.now) }
     ensures refused { IfErr result (OrMemory (HasNoName place.now name.now)) }
 {
     match Name::new(alloc, name.as_bytes()) {
@@ -60,7 +62,7 @@ fn target_at(alloc: Global, place: &str, target: &str) -> Result<Target<Global>,
 }
 
 /// Puts the file at a place; gives its digest.
-fn put_file<W: World, K: Origin, P: Counter>(
+fn put_file<W: World, K: Opened, P: Counter>(
     alloc: Global,
     world: &W,
     server: &ServerOptions,
@@ -70,8 +72,8 @@ fn put_file<W: World, K: Origin, P: Counter>(
 ) -> Result<Digest, CommandError>
     ensures put { IfOk result (λ digest. (left : ℕ)
         → IsPutAt W.sees K.start (suc left) place.now (nodes.File digest false)) }
-    ensures refused { IfErr result
-        (OrMemory (FailsHere W.sees K.start (string_bytes server.now.address) place.now)) }
+    ensures refused { IfErr result (OrMemory (λ e. (left : ℕ)
+        → FailsHere W.sees K.start (string_bytes server.now.address) left place.now e)) }
     ensures counted { OnOk result
         (P.files progress.new ≡ min (P.files progress.old + 1) 18446744073709551615) }
     ensures sized { IfOk result (λ digest.
@@ -86,7 +88,7 @@ fn put_file<W: World, K: Origin, P: Counter>(
 
 /// Puts what stands at a place, below which paths have so many names at most; gives its node.
 #[cycle(put_folder)]
-fn put_node<W: World, K: Origin, P: Counter>(
+fn put_node<W: World, K: Opened, P: Counter>(
     alloc: Global,
     world: &W,
     server: &ServerOptions,
@@ -120,7 +122,7 @@ fn put_node<W: World, K: Origin, P: Counter>(
 /// Puts what stands in the folder at a place, and then its Directory; gives that one's digest. The
 /// paths below it have so many names at most.
 #[cycle(put_folder)]
-fn put_folder<W: World, K: Origin, P: Counter>(
+fn put_folder<W: World, K: Opened, P: Counter>(
     alloc: Global,
     world: &W,
     server: &ServerOptions,
@@ -152,7 +154,7 @@ fn put_folder<W: World, K: Origin, P: Counter>(
 }
 
 /// Puts what stands at the path, over the marked connection; gives its digest.
-fn put_over<W: World, K: Origin, P: Counter>(
+fn put_over<W: World, K: Opened, P: Counter>(
     alloc: Global,
     world: &W,
     server: &ServerOptions,

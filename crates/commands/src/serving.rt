@@ -23,10 +23,8 @@ use clap::ArgMatches;
 use command_lines::{option_of, text_of};
 use http_core::Prefix;
 use std::alloc::Global;
-use std::hash::RandomState;
 use std::io::Write;
 use std::net::SocketAddr;
-use std::random::RandomSource;
 
 /// The most bytes to which a store is limited.
 const GREATEST_LIMIT: u64 = 9_223_372_036_854_775_807;
@@ -190,8 +188,8 @@ fn print_address<O: Write>(
 
 /// Prints the address where it listens, and serves as many connections as the words say, or without
 /// end.
-pub fn run_serve<R: AllocGlobal + RandomSource, W: World, O: Write>(
-    rt: &R,
+pub fn run_serve<W: World, O: Write>(
+    alloc: Global,
     world: &W,
     matches: &ArgMatches<'_>,
     out: &mut O,
@@ -210,10 +208,9 @@ pub fn run_serve<R: AllocGlobal + RandomSource, W: World, O: Write>(
     // It is for the first fault: what comes before it has none.
     ensures refused { IfErr result (FailsServe W.sees (rows_of (found_of matches.now))) }
 {
-    let alloc = rt.alloc();
     let asked = read_asked(alloc, matches)?;
-    let state = RandomState::new(rt).map_err(CommandError::Random)?;
-    let cache: Cache<Global> = Cache::new(alloc, state, asked.limit, asked.result_limit)?;
+    let keys = world.random_keys().map_err(CommandError::Random)?;
+    let cache: Cache<Global> = Cache::new(alloc, keys, asked.limit, asked.result_limit)?;
     let listening = listen(alloc, world, asked.address)?;
     print_address(alloc, &listening.address, out)?;
     let service = Service {

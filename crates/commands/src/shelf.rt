@@ -13,30 +13,30 @@ use std::marker::{Brand, PhantomData};
 use text_verifier::Lack;
 
 /// Marks a store by its folder.
-pub trait Place {
+pub trait StoreFolder {
     ghost use Rattle.std.specs.Prelude.{ℕ, List};
 
-    ghost place: { List ℕ };
+    ghost folder: { List ℕ };
 }
 
-impl Place for Brand {
+impl StoreFolder for Brand {
     ghost use Rattle.std.specs.Prelude.{[]};
 
-    ghost place = { [] };
+    ghost folder = { [] };
 }
 
 /// The store in the marked folder of a world.
 #[derive(Drop)]
-pub(crate) struct Shelf<'w, W: World, K: Place> {
+pub(crate) struct Shelf<'w, W: World, K: StoreFolder> {
     store: FolderSource<'w, FilesOf<'w, W>, Global>,
     of: PhantomData<K>,
-    ghost place: { place_of store ≡ K.place },
-    ghost told: { ∥ IsInFolder W.sees K.place store ∥₁ },
+    ghost place: { place_of store ≡ K.folder },
+    ghost told: { ∥ IsInFolder W.sees K.folder store ∥₁ },
 }
 
-impl<'w, W: World, K: Place> Shelf<'w, W, K> {
+impl<'w, W: World, K: StoreFolder> Shelf<'w, W, K> {
     pub(crate) fn new(alloc: Global, files: &'w FilesOf<'w, W>, folder: String) -> Shelf<'w, W, K>
-        requires { K.place ≡ string_bytes folder }
+        requires { K.folder ≡ string_bytes folder }
         ensures { IsFreshFolder (string_bytes folder) result.store }
     {
         Shelf {
@@ -47,7 +47,7 @@ impl<'w, W: World, K: Place> Shelf<'w, W, K> {
 
     /// Whether the file of what is told as missing was looked for and isn't there.
     fn lacks(&self, lack: &Lack) -> bool
-        ensures { IsTrue result → ∥ LacksInFolder W.sees K.place lack.now ∥₁ }
+        ensures { IsTrue result → ∥ LacksInFolder W.sees K.folder lack.now ∥₁ }
     {
         match lack {
             Lack::Blob(digest) => self.store.lacks_blob(digest),
@@ -58,7 +58,7 @@ impl<'w, W: World, K: Place> Shelf<'w, W, K> {
     /// Whether nothing is told as missing, or it is lacked.
     pub(crate) fn confirms(&self, lack: &Option<Lack>) -> bool
         ensures { IsTrue result
-            → IfSome lack.now (λ lack. ∥ LacksInFolder W.sees K.place lack ∥₁) }
+            → IfSome lack.now (λ lack. ∥ LacksInFolder W.sees K.folder lack ∥₁) }
     {
         match lack {
             Some(lack) => self.lacks(lack),
@@ -68,7 +68,7 @@ impl<'w, W: World, K: Place> Shelf<'w, W, K> {
 
     /// The error of a look-up that failed.
     pub(crate) fn into_error(self) -> CommandError
-        ensures fault { OrMemory (λ e. ∥ FailsInFolder W.sees K.place e ∥₁) result }
+        ensures fault { OrMemory (λ e. ∥ FailsInFolder W.sees K.folder e ∥₁) result }
         // Lack of memory isn't told in the place of a fault.
         ensures kept { IfSome (error_of self.entry.store) (λ error. result ≡ error_of_file error) }
     {
@@ -79,7 +79,7 @@ impl<'w, W: World, K: Place> Shelf<'w, W, K> {
     }
 }
 
-impl<W: World, K: Place> BlobSource<Global> for Shelf<'_, W, K> {
+impl<W: World, K: StoreFolder> BlobSource<Global> for Shelf<'_, W, K> {
     ghost use Rattle.remote.specs.Folder.{telling_of};
 
     ghost tells = { λ s. telling_of s.store };

@@ -10,6 +10,7 @@ ghost use Rattle.commands.specs.Told.{in_one_line, line_after, no_blob_text};
 use crate::ended::Note;
 use crate::error::CommandError;
 use crate::error_text::{error_text, of_path};
+use blob_digest::Digest;
 use std::alloc::{AllocError, Global};
 use std::io::{ErrorKind, Write};
 
@@ -86,10 +87,11 @@ pub fn tell<E: Write>(alloc: Global, error: &CommandError, err: &mut E)
     let _ = err.flush();
 }
 
-fn no_blob_text(alloc: Global, server: &str, digest: &str) -> Result<String, AllocError>
+fn no_blob_text(alloc: Global, server: &str, digest: &Digest) -> Result<String, AllocError>
     ensures { IfOk result (λ text. string_bytes text ≡ no_blob_text server.now digest.now) }
 {
-    format!(in alloc; "{server} has no blob {digest}")
+    let text = digest.write_text(alloc)?;
+    format!(in alloc; "{server} has no blob {text}")
 }
 
 fn no_store_text(alloc: Global, path: &str) -> Result<String, AllocError>
@@ -103,7 +105,7 @@ fn note_text(alloc: Global, note: &Note) -> Result<String, AllocError>
     ensures { IfOk result (λ text. IsNoteText note.now (string_bytes text)) }
 {
     match note {
-        Note::NoBlob { server, digest } => no_blob_text(alloc, server.as_str(), digest.as_str()),
+        Note::NoBlob { server, digest } => no_blob_text(alloc, server.as_str(), digest),
         Note::NoStore { path } => no_store_text(alloc, path.as_str()),
         Note::Refused(why) => String::from_str(alloc, why.as_str()),
     }

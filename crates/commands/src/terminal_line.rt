@@ -1,6 +1,19 @@
 ghost use Rattle.std.specs.Prelude.{◌≡◌, IsSome, None, false, is_some, true};
+ghost use Rattle.commands.specs.Told.{AppendsBeginning, AppendsToSome, erasing, line_over};
 
+use crate::error::CommandError;
+use crate::telling::write_bytes;
 use std::io::Write;
+
+/// Writes the text in place of a terminal's line. What is longer than its width is cut off.
+fn write_over<T: Write>(terminal: &mut T, text: &str) -> Result<(), CommandError>
+    ensures { AppendsBeginning (T.contents terminal.old) (T.contents terminal.new)
+        (line_over text.now) }
+{
+    write_bytes(terminal, b"\r\x1b[K\x1b[?7l")?;
+    write_bytes(terminal, text.as_bytes())?;
+    write_bytes(terminal, b"\x1b[?7h")
+}
 
 /// A line on a terminal that is written over. Without a terminal nothing is written. A terminal
 /// that can't be written is no fault.
@@ -35,12 +48,15 @@ impl<T: Write + Drop> TerminalLine<T> {
         ensures written { IsSome self.old.terminal → self.new.is_written ≡ true }
         ensures silent { self.old.terminal ≡ None → self.new ≡ self.old }
         ensures kept { is_some self.new.terminal ≡ is_some self.old.terminal }
+        ensures told { AppendsToSome T.contents self.old.terminal self.new.terminal
+            (line_over text.now) }
     {
-        if let Some(terminal) = &mut self.terminal {
-            let _ = write!(terminal, "\r\x1b[K\x1b[?7l{text}\x1b[?7h");
-            let _ = terminal.flush();
-            self.is_written = true;
-        }
+        let Some(terminal) = &mut self.terminal else {
+            return;
+        };
+        let _ = write_over(terminal, text);
+        let _ = terminal.flush();
+        self.is_written = true;
     }
 
     /// Takes the line away, where there is a text in it.
@@ -49,14 +65,17 @@ impl<T: Write + Drop> TerminalLine<T> {
         ensures cleared { self.new.is_written ≡ false }
         ensures silent { self.old.terminal ≡ None → self.new.terminal ≡ None }
         ensures kept { is_some self.new.terminal ≡ is_some self.old.terminal }
+        ensures told { self.old.is_written ≡ true
+            → AppendsToSome T.contents self.old.terminal self.new.terminal erasing }
     {
         if !self.is_written {
             return;
         }
-        if let Some(terminal) = &mut self.terminal {
-            let _ = write!(terminal, "\r\x1b[K");
-            let _ = terminal.flush();
-        }
         self.is_written = false;
+        let Some(terminal) = &mut self.terminal else {
+            return;
+        };
+        let _ = write_bytes(terminal, b"\r\x1b[K");
+        let _ = terminal.flush();
     }
 }

@@ -6,10 +6,10 @@ ghost use Rattle.commands.specs.Refusal.{IsPrintFault};
 ghost use Rattle.commands.specs.Told.{AppendsBeginning};
 ghost use Rattle.commands.specs.Trees.{BeginsLack, IsTreeGot, PrintsLack, missing_line};
 
-use crate::client::{Client, GetsAlone, Origin};
+use crate::client::{Client, GetsAlone, Opened};
 use crate::connecting::ServerOptions;
 use crate::ended::Ended;
-use crate::error::CommandError;
+use crate::error::{CommandError, OTHER_BYTES, blob_error};
 use crate::printing::print_all;
 use crate::world::World;
 use blob_digest::Digest;
@@ -19,6 +19,9 @@ use std::alloc::{AllocError, Global};
 use std::io::Write;
 use text_verifier::Lack;
 use tree::FetchError;
+
+/// What is said of a blob that stands for a tree and is none.
+const NO_DIRECTORY: &str = "not a Directory; the bytes of a file are got without --into";
 
 /// The line of a blob that a server lacks.
 fn missing_line(alloc: Global, digest: &Digest) -> Result<String, AllocError>
@@ -44,7 +47,7 @@ fn print_missing<O: Write>(alloc: Global, digest: &Digest, out: &mut O) -> Resul
 
 /// Prints the line of a blob that the server lacks, where that is why a tree wasn't written; else
 /// the error says why.
-fn print_lack<S: Stream + Drop, K: Origin, O: Write>(
+fn print_lack<S: Stream + Drop, K: Opened, O: Write>(
     alloc: Global,
     server: &ServerOptions,
     client: &mut Client<S, K, GetsAlone>,
@@ -67,16 +70,8 @@ fn print_lack<S: Stream + Drop, K: Origin, O: Write>(
         }
         CheckoutError::Place { path, fault } => Err(CommandError::File { path, fault }),
         CheckoutError::Fetch => Err(client.error(alloc, server, FetchError::Failed)?),
-        CheckoutError::Wrong(digest) => Err(CommandError::Blob {
-            server: String::from_str(alloc, server.address.as_str())?,
-            digest: digest.write_text(alloc)?,
-            fault: "other bytes came",
-        }),
-        CheckoutError::Malformed(digest) => Err(CommandError::Blob {
-            server: String::from_str(alloc, server.address.as_str())?,
-            digest: digest.write_text(alloc)?,
-            fault: "not a Directory; the bytes of a file are got without --into",
-        }),
+        CheckoutError::Wrong(digest) => Err(blob_error(alloc, server, &digest, OTHER_BYTES)?),
+        CheckoutError::Malformed(digest) => Err(blob_error(alloc, server, &digest, NO_DIRECTORY)?),
         CheckoutError::TooDeep(path) => Err(CommandError::Entry {
             path: String::from_str(alloc, path.as_str())?,
             fault: "a path of more than 64 names",
@@ -87,7 +82,7 @@ fn print_lack<S: Stream + Drop, K: Origin, O: Write>(
 
 /// Writes the tree with the digest into a folder that isn't there or is empty, where the server has
 /// all of it. The line of a blob that it lacks is printed, and what was written before stays.
-pub(crate) fn get_tree<W: World, K: Origin, O: Write>(
+pub(crate) fn get_tree<W: World, K: Opened, O: Write>(
     alloc: Global,
     world: &W,
     server: &ServerOptions,

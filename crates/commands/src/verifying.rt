@@ -21,13 +21,13 @@ ghost use Rattle.report.specs.Line.{IsOneLine};
 ghost use Rattle.text_verifier.specs.Texts.{IsDigestText};
 ghost use Rattle.verifier.specs.Verdict.{IsYes};
 
-use crate::client::{Client, GetsAlone, Origin, open};
+use crate::client::{Client, GetsAlone, Opened, open};
 use crate::connecting::{ServerOptions, read_server};
 use crate::ended::{Ended, Note};
 use crate::error::CommandError;
 use crate::hint::Hint;
 use crate::options::read_digest;
-use crate::shelf::{Place, Shelf};
+use crate::shelf::{Shelf, StoreFolder};
 use crate::telling::write_bytes;
 use crate::world::{FilesOf, World};
 use clap::ArgMatches;
@@ -164,16 +164,16 @@ fn read_place(alloc: Global, matches: &ArgMatches<'_>) -> Result<Build, CommandE
 }
 
 /// The answer over the store in the marked folder.
-fn judge_folder<W: World, K: Place>(
+fn judge_folder<W: World, K: StoreFolder>(
     alloc: Global,
     world: &W,
     folder: String,
     case: &Case<Global>,
 ) -> Result<Answer<Global>, CommandError>
-    requires { K.place ≡ string_bytes folder }
+    requires { K.folder ≡ string_bytes folder }
     ensures answered { IfOk result
-        (IsAnsweredBy (IsOfFolder W.sees K.place) (LacksInFolder W.sees K.place) case.now) }
-    ensures fault { IfErr result (OrMemory (λ e. ∥ FailsInFolder W.sees K.place e ∥₁)) }
+        (IsAnsweredBy (IsOfFolder W.sees K.folder) (LacksInFolder W.sees K.folder) case.now) }
+    ensures fault { IfErr result (OrMemory (λ e. ∥ FailsInFolder W.sees K.folder e ∥₁)) }
 {
     let files = FilesOf(world);
     let mut shelf: Shelf<'_, W, K> = Shelf::new(alloc, &files, folder);
@@ -190,7 +190,7 @@ fn judge_folder<W: World, K: Place>(
 }
 
 /// Confirms that the server lacks what is missing.
-fn confirm_lack<S: Stream + Drop, K: Origin>(
+fn confirm_lack<S: Stream + Drop, K: Opened>(
     alloc: Global,
     server: &ServerOptions,
     client: &mut Client<S, K, GetsAlone>,
@@ -208,7 +208,7 @@ fn confirm_lack<S: Stream + Drop, K: Origin>(
 }
 
 /// The answer over the marked connection.
-fn judge_over<S: Stream + Drop, K: Origin>(
+fn judge_over<S: Stream + Drop, K: Opened>(
     alloc: Global,
     server: &ServerOptions,
     remote: Remote<S, Global>,

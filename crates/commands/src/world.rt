@@ -22,7 +22,9 @@ use log::Log;
 use remote::{FileError, FileReader, Stream, read_file};
 use service::{ErrorTerminal, NotAccepted, serve, serve_together};
 use std::alloc::Global;
+use std::hash::RandomState;
 use std::net::{Net, SocketAddr, TcpListener, TcpStream};
+use std::random::RandomSource;
 use std::rt::Files;
 use std::time::Clock;
 use std::{fs, io};
@@ -153,6 +155,10 @@ pub trait World {
         ensures called { Called (S.tells source.old) (S.tells source.new)
             (IsErrOf result CheckoutError.Fetch) };
 
+    /// Random keys for the tables of a cache.
+    fn random_keys(&self) -> io::Result<RandomState>
+        ensures { IfErr result sees.unrandom };
+
     /// Listens at an address.
     fn listen(&self, address: &str) -> io::Result<Listening>
         ensures listens { IfOk result (λ l. sees.listens address.now l.address) }
@@ -170,7 +176,7 @@ pub struct System<'r, R>(pub &'r R);
 
 impl<'r, R> World for System<'r, R>
 where
-    R: AllocGlobal + Clock + ErrorTerminal + Files + Log,
+    R: AllocGlobal + Clock + ErrorTerminal + Files + Log + RandomSource,
     R: Net<Listener = TcpListener, Stream = TcpStream>,
 {
     type Link = Connection<'r, R>;
@@ -247,6 +253,10 @@ where
     ) -> Result<(), CheckoutError<Global>> {
         check_out(alloc, &mut SystemWriter(self.0), path, root, source)?;
         Ok(())
+    }
+
+    fn random_keys(&self) -> io::Result<RandomState> {
+        RandomState::new(self.0)
     }
 
     fn listen(&self, address: &str) -> io::Result<Listening> {

@@ -10,7 +10,7 @@ use Rattle.cli.proofs.building.put_root.Goals as goal
 pub returns-in-Ok-clause-held : goal.returns-in-Ok-clause-held
 returns-in-Ok-clause-held g c =
     let remote = c.put_all.new.sink.remote in
-    subst (λ t. HoldsRoot (IsToldOver puts_too g.K.Origin.start) t) (sym c.in-Built.is) (
+    subst (λ t. HoldsRoot (IsToldOver puts_too g.K.Opened.start) t) (sym c.in-Built.is) (
       telling_of remote,
       ∥∥₁_map c.put_all.new.sink.over (λ over. (connection_of g.S.Stream.flow remote, over)),
       subst (λ bs. HasAllRight (telling_of remote).blobs (items_of bs)) c.deref.ensures.value c.in-Ok.ensures.held,

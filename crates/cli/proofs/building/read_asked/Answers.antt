@@ -1,10 +1,11 @@
-use Rattle.std.proofs.Common.{◌≡◌, [], ◌∷◌, codes, rules, string_bytes}
+use Rattle.std.proofs.Common.{◌≡◌, [], ◌∷◌, codes, refl, rules, string_bytes}
 use Rattle.clap.specs.Words.{found_of, rows_of}
 use Rattle.command_lines.specs.CommandLine.{option_text}
 use Rattle.commands.proofs.Checking.{fails_in}
 use Rattle.commands.proofs.Exits.{exit_by}
 use Rattle.commands.proofs.Refused.{or_memory}
 use Rattle.commands.specs.Words.{FailsFirst, server_words}
+use Rattle.processes.specs.declared.disk.ChildErrors.{ChildErrors}
 use Rattle.cli.specs.Built.{build_words, may_have_jobs}
 use Rattle.cli.specs.Refused.{FailsBuild}
 use Rattle.cli.specs.Refused.FailsBuild.{in_digest, in_memory, in_plan, in_words}
@@ -14,27 +15,32 @@ pub returns-in_err-jobs-clause-refused : goal.returns-in_err-jobs-clause-refused
 returns-in_err-jobs-clause-refused g c =
     let sees = g.W.World.sees in
     let options = rows_of (found_of c.args.matches.now) in
-    exit_by (FailsBuild sees g.W.Workplace.below options) _ c.from_residual.ensures.1
-    (or_memory (FailsFirst (build_words options)) (FailsBuild sees g.W.Workplace.below options) _ in_memory in_words
+    exit_by (λ e. (errors : ChildErrors) → FailsBuild sees (g.W.Workplace.below errors) options e) _ c.from_residual.ensures.1
+    (λ errors. or_memory (FailsFirst (build_words options)) (FailsBuild sees (g.W.Workplace.below errors) options) _ in_memory in_words
     (fails_in [] (may_have_jobs options ∷ []) (server_words options) _ tt c.in_err-jobs.ensures.checked))
 
 pub returns-in_err-server-clause-refused : goal.returns-in_err-server-clause-refused
 returns-in_err-server-clause-refused g c =
     let sees = g.W.World.sees in
     let options = rows_of (found_of c.args.matches.now) in
-    exit_by (FailsBuild sees g.W.Workplace.below options) _ c.from_residual-in_err-server.ensures.1
-    (or_memory (FailsFirst (build_words options)) (FailsBuild sees g.W.Workplace.below options) _ in_memory in_words
+    exit_by (λ e. (errors : ChildErrors) → FailsBuild sees (g.W.Workplace.below errors) options e) _ c.from_residual-in_err-server.ensures.1
+    (λ errors. or_memory (FailsFirst (build_words options)) (FailsBuild sees (g.W.Workplace.below errors) options) _ in_memory in_words
     (fails_in (may_have_jobs options ∷ []) (server_words options) [] _ (c.in_ok-jobs.ensures.checked.0, tt) c.in_err-server.ensures.checked))
 
 pub returns-in_err-sources-clause-refused : goal.returns-in_err-sources-clause-refused
 returns-in_err-sources-clause-refused g c =
-    exit_by (FailsBuild g.W.World.sees g.W.Workplace.below (rows_of (found_of c.args.matches.now))) _ c.from_residual-in_err-sources.ensures.1
-    (in_digest (c.in_ok-jobs.ensures.checked.0, c.in_ok-server.ensures.checked) c.in_err-sources.ensures.fault)
+    exit_by (λ e. (errors : ChildErrors) → FailsBuild g.W.World.sees (g.W.Workplace.below errors) (rows_of (found_of c.args.matches.now)) e) _ c.from_residual-in_err-sources.ensures.1
+    (λ errors. in_digest (c.in_ok-jobs.ensures.checked.0, c.in_ok-server.ensures.checked) c.in_err-sources.ensures.fault)
 
 pub returns-in_err-plan-clause-refused : goal.returns-in_err-plan-clause-refused
 returns-in_err-plan-clause-refused g c =
-    exit_by (FailsBuild g.W.World.sees g.W.Workplace.below (rows_of (found_of c.args.matches.now))) _ c.from_residual-in_err-plan.ensures.1
-    (in_plan (c.in_ok-jobs.ensures.checked.0, c.in_ok-server.ensures.checked) (c.in_ok-sources.sources, c.in_ok-sources.ensures.found) c.in_err-plan.ensures.fault)
+    exit_by (λ e. (errors : ChildErrors) → FailsBuild g.W.World.sees (g.W.Workplace.below errors) (rows_of (found_of c.args.matches.now)) e) _ c.from_residual-in_err-plan.ensures.1
+    (λ errors. in_plan (c.in_ok-jobs.ensures.checked.0, c.in_ok-server.ensures.checked) (c.in_ok-sources.sources, c.in_ok-sources.ensures.found) c.in_err-plan.ensures.fault)
+
+pub returns-in_err-work-clause-refused : goal.returns-in_err-work-clause-refused
+returns-in_err-work-clause-refused g c =
+    exit_by (λ e. (errors : ChildErrors) → FailsBuild g.W.World.sees (g.W.Workplace.below errors) (rows_of (found_of c.args.matches.now)) e) _ c.from_residual-in_err-work.ensures.1
+    (λ errors. in_memory refl)
 
 pub returns-clause-read : goal.returns-clause-read
 returns-clause-read g c =

@@ -1,4 +1,4 @@
-use Rattle.std.proofs.Common.{rules, [], ◌≡◌, ◌≢◌, ◌∙◌, Some, None, Ok, Option, Result, ℕ, inr, refl, subst, sym, string_bytes}
+use Rattle.std.proofs.Common.{rules, [], ◌≡◌, ◌≢◌, Some, None, Ok, Option, Result, ℕ, inr, refl, subst, sym, string_bytes}
 use Rattle.std.specs.declared.alloc.Global.{Global}
 use Rattle.std.specs.declared.vec.Vec.{Vec}
 use Rattle.blob_digest.specs.Digest.{digest_of, empty_digest}
@@ -24,7 +24,7 @@ returns-then-has_digest-clause-right g c =
     let is : ◌≡◌ {A = Result (Option (Vec ℕ Global)) FetchError} c.fetch.result (Ok (Some c.in-Ok-Some.bytes)) = cc in
     record {
       right = subst (λ b. digest_of b ≡ digest) c.deref.ensures.value (c.has_digest.ensures.0 c.if-has_digest.true);
-      came = inr (got_first digest g.K.Origin.start (connection_of flow old) (connection_of flow new) (blobs_of old) (blobs_of new) c.fetch.result (Some c.in-Ok-Some.bytes)
+      came = inr (got_first digest g.K.Opened.start (connection_of flow old) (connection_of flow new) (blobs_of old) (blobs_of new) c.fetch.result (Some c.in-Ok-Some.bytes)
           c.requires.start c.fetch.ensures.asked (c.requires.fresh.blobs digest) is);
     }
 
@@ -35,11 +35,11 @@ returns-in-Ok-None-clause-none g c =
     let new = c.fetch.new.self.remote in
     let digest = c.args.digest.now in
     let is : ◌≡◌ {A = Result (Option (Vec ℕ Global)) FetchError} c.fetch.result (Ok None) = cc in
-    got_first digest g.K.Origin.start (connection_of flow old) (connection_of flow new) (blobs_of old) (blobs_of new) c.fetch.result None
+    got_first digest g.K.Opened.start (connection_of flow old) (connection_of flow new) (blobs_of old) (blobs_of new) c.fetch.result None
     c.requires.start c.fetch.ensures.asked (c.requires.fresh.blobs digest) is
 
-pub returns-in_ok-write_text-in-Ok-Some-clause-fault : goal.returns-in_ok-write_text-in-Ok-Some-clause-fault
-returns-in_ok-write_text-in-Ok-Some-clause-fault g c =
+pub returns-in_ok-blob_error-in-Ok-Some-clause-fault : goal.returns-in_ok-blob_error-in-Ok-Some-clause-fault
+returns-in_ok-blob_error-in-Ok-Some-clause-fault g c =
     let flow = g.S.Stream.flow in
     let old = c.args.client.now.remote in
     let new = c.fetch.new.self.remote in
@@ -52,17 +52,17 @@ returns-in_ok-write_text-in-Ok-Some-clause-fault g c =
     let some : digest ≢ empty_digest = search rules in
     inr (in_bytes some (record {
       bytes = c.in-Ok-Some.bytes.items;
-      came = got_first digest g.K.Origin.start (connection_of flow old) (connection_of flow new) (blobs_of old) (blobs_of new) c.fetch.result (Some c.in-Ok-Some.bytes)
+      came = got_first digest g.K.Opened.start (connection_of flow old) (connection_of flow new) (blobs_of old) (blobs_of new) c.fetch.result (Some c.in-Ok-Some.bytes)
           c.requires.start c.fetch.ensures.asked (c.requires.fresh.blobs digest) is;
       other = other;
-    }) (c.in_ok-from_str-in-Ok-Some.ensures.ok ∙ c.as_str.ensures.value, c.in_ok-write_text-in-Ok-Some.ensures, refl))
+    }) c.in_ok-blob_error-in-Ok-Some.ensures)
 
 pub returns-in_ok-error-in-Err-clause-fault : goal.returns-in_ok-error-in-Err-clause-fault
 returns-in_ok-error-in-Err-clause-fault g c =
     let flow = g.S.Stream.flow in
     let old = c.args.client.now in
     let new = c.fetch.new.self in
-    let start = g.K.Origin.start in
+    let start = g.K.Opened.start in
     let after = connection_of flow new.remote in
     let address = string_bytes c.args.server.now.address in
     let digest = c.args.digest.now in

@@ -17,7 +17,7 @@ returns-in_err-print_all-clause-begun g c =
     let old = g.O.Write.contents c.args.out.now in
     let new = g.O.Write.contents c.print_all.new.out in
     let bytes = c.in-Some.bytes.items in
-    let start = g.K.Origin.start in
+    let start = g.K.Opened.start in
     let digest = c.args.digest.now in
     let blob : IsBlobOver start digest bytes = subst (λ o. IfSome o (λ (b : Vec ℕ Global). IsBlobOver start digest b.items)) c.in-Some.is c.in_ok-bytes.ensures.right in
     where_err c.from_residual-in_err-print_all.result
@@ -26,7 +26,7 @@ returns-in_err-print_all-clause-begun g c =
 pub returns-in_err-print_all-clause-fault : goal.returns-in_err-print_all-clause-fault
 returns-in_err-print_all-clause-fault g c =
     let bytes = c.in-Some.bytes.items in
-    let start = g.K.Origin.start in
+    let start = g.K.Opened.start in
     let digest = c.args.digest.now in
     let blob : IsBlobOver start digest bytes = subst (λ o. IfSome o (λ (b : Vec ℕ Global). IsBlobOver start digest b.items)) c.in-Some.is c.in_ok-bytes.ensures.right in
     exit_by (OrMemory (FailsGetBlob start (string_bytes c.args.server.now.address) digest)) _ c.from_residual-in_err-print_all.ensures.1
@@ -42,7 +42,7 @@ returns-clause-printed g c =
     let old = g.O.Write.contents c.args.out.now in
     let new = g.O.Write.contents c.print_all.new.out in
     let bytes = c.in-Some.bytes.items in
-    let start = g.K.Origin.start in
+    let start = g.K.Opened.start in
     let digest = c.args.digest.now in
     let blob : IsBlobOver start digest bytes = subst (λ o. IfSome o (λ (b : Vec ℕ Global). IsBlobOver start digest b.items)) c.in-Some.is c.in_ok-bytes.ensures.right in
     record { bytes = bytes; blob = blob; printed = subst (Appends old new) c.deref.ensures.value c.in_ok-print_all.ensures.printed }

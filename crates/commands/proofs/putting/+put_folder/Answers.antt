@@ -1,4 +1,4 @@
-use Rattle.std.proofs.Common.{◌≡◌, ◌++◌, ◌∷◌, ◌∙◌, [], ap, inl, inr, map, refl, rules, sym, subst, string_bytes}
+use Rattle.std.proofs.Common.{ℕ, ◌≡◌, ◌++◌, ◌∷◌, ◌∙◌, [], ap, inl, inr, map, refl, rules, sym, subst, string_bytes}
 use Rattle.std.specs.Prelude.{IsSorted}
 use Rattle.messages.specs.Order.{bytes_cmp}
 use Rattle.tree.specs.Form.{node_value}
@@ -18,12 +18,12 @@ use Rattle.commands.proofs.putting.+put_folder.Goals as goal
 
 pub put_node-returns-in_err-found-clause-refused : goal.put_node-returns-in_err-found-clause-refused
 put_node-returns-in_err-found-clause-refused g t c =
-    exit_by (IsUnput g.W.World.sees g.K.Origin.start c.args.server.now c.args.left c.args.place.now) _ c.from_residual.ensures.1
+    exit_by (IsUnput g.W.World.sees g.K.Opened.start c.args.server.now c.args.left c.args.place.now) _ c.from_residual.ensures.1
     (inr (here c.args.left c.args.place.now (unread _ c.in_err-found.ensures.fault refl)))
 
 pub put_node-returns-in_err-put_folder-in-Folder-clause-refused : goal.put_node-returns-in_err-put_folder-in-Folder-clause-refused
 put_node-returns-in_err-put_folder-in-Folder-clause-refused g t c =
-    exit_by (IsUnput g.W.World.sees g.K.Origin.start c.args.server.now c.args.left c.args.place.now) _ c.from_residual-in_err-put_folder-in-Folder.ensures.1
+    exit_by (IsUnput g.W.World.sees g.K.Opened.start c.args.server.now c.args.left c.args.place.now) _ c.from_residual-in_err-put_folder-in-Folder.ensures.1
     c.in_err-put_folder-in-Folder.ensures.refused
 
 pub put_node-returns-in_err-target_at-in-Link-clause-refused : goal.put_node-returns-in_err-target_at-in-Link-clause-refused
@@ -33,19 +33,20 @@ put_node-returns-in_err-target_at-in-Link-clause-refused g t c =
     let target = c.as_str.result.now in
     let link : sees.stands place (a_link target) = subst (λ b. sees.stands place (a_link b)) (sym c.as_str.ensures.value)
     (subst (λ f. sees.stands place (what_stands f)) c.in-Link.is c.in_ok-found.ensures.stands) in
-    exit_by (IsUnput sees g.K.Origin.start c.args.server.now c.args.left place) _ c.from_residual-in_err-target_at-in-Link.ensures.1
-    (target_fails sees g.K.Origin.start (string_bytes c.args.server.now.address) place c.args.left target _ link c.in_err-target_at-in-Link.ensures.refused)
+    exit_by (IsUnput sees g.K.Opened.start c.args.server.now c.args.left place) _ c.from_residual-in_err-target_at-in-Link.ensures.1
+    (target_fails sees g.K.Opened.start (string_bytes c.args.server.now.address) place c.args.left target _ link c.in_err-target_at-in-Link.ensures.refused)
 
 pub put_node-returns-in_err-put_file-in-File-clause-refused : goal.put_node-returns-in_err-put_file-in-File-clause-refused
 put_node-returns-in_err-put_file-in-File-clause-refused g t c =
-    exit_by (IsUnput g.W.World.sees g.K.Origin.start c.args.server.now c.args.left c.args.place.now) _ c.from_residual-in_err-put_file-in-File.ensures.1
-    (or_weaker (FailsHere g.W.World.sees g.K.Origin.start (string_bytes c.args.server.now.address) c.args.place.now)
-    (λ x. FailsBelow g.W.World.sees g.K.Origin.start (string_bytes c.args.server.now.address) x c.args.left c.args.place.now) _ (here c.args.left c.args.place.now) c.in_err-put_file-in-File.ensures.refused)
+    exit_by (IsUnput g.W.World.sees g.K.Opened.start c.args.server.now c.args.left c.args.place.now) _ c.from_residual-in_err-put_file-in-File.ensures.1
+    (or_weaker (λ x. (left : ℕ) → FailsHere g.W.World.sees g.K.Opened.start (string_bytes c.args.server.now.address) left c.args.place.now x)
+    (λ x. FailsBelow g.W.World.sees g.K.Opened.start (string_bytes c.args.server.now.address) x c.args.left c.args.place.now) _
+    (λ fails. here c.args.left c.args.place.now (fails c.args.left)) c.in_err-put_file-in-File.ensures.refused)
 
 pub put_node-returns : goal.put_node-returns
 put_node-returns g t c =
     let sees = g.W.World.sees in
-    let start = g.K.Origin.start in
+    let start = g.K.Opened.start in
     let left = c.args.left in
     let place = c.args.place.now in
     let found = c.in_ok-found.found in
@@ -66,13 +67,13 @@ put_node-returns g t c =
 
 pub put_folder-loop-name-init : goal.put_folder-loop-name-init
 put_folder-loop-name-init g t c =
-    subst (IsPutSoFar g.W.World.sees g.K.Origin.start c.args.left c.args.place.now []) (sym c.new-children.ensures)
-    (nothing_put g.W.World.sees g.K.Origin.start c.args.left c.args.place.now)
+    subst (IsPutSoFar g.W.World.sees g.K.Opened.start c.args.left c.args.place.now []) (sym c.new-children.ensures)
+    (nothing_put g.W.World.sees g.K.Opened.start c.args.left c.args.place.now)
 
 pub put_folder-loop-name-preserved : goal.put_folder-loop-name-preserved
 put_folder-loop-name-preserved g t c =
     let sees = g.W.World.sees in
-    let start = g.K.Origin.start in
+    let start = g.K.Opened.start in
     let left = c.args.left in
     let place = c.args.place.now in
     let n = c.in_ok-name.name in
@@ -89,12 +90,12 @@ put_folder-loop-name-preserved g t c =
 -- an entry of the folder, by the name that was read
 pub put_folder-returns-in_err-names-clause-refused : goal.put_folder-returns-in_err-names-clause-refused
 put_folder-returns-in_err-names-clause-refused g t c =
-    exit_by (IsUnput g.W.World.sees g.K.Origin.start c.args.server.now c.args.left c.args.place.now) _ c.from_residual.ensures.1
+    exit_by (IsUnput g.W.World.sees g.K.Opened.start c.args.server.now c.args.left c.args.place.now) _ c.from_residual.ensures.1
     (inr (here c.args.left c.args.place.now (unread _ c.in_err-names.ensures.fault refl)))
 
 pub put_folder-returns-in_err-below-clause-refused : goal.put_folder-returns-in_err-below-clause-refused
 put_folder-returns-in_err-below-clause-refused g t c =
-    exit_by (IsUnput g.W.World.sees g.K.Origin.start c.args.server.now c.args.left c.args.place.now) _ c.from_residual-in_err-below.ensures.1
+    exit_by (IsUnput g.W.World.sees g.K.Opened.start c.args.server.now c.args.left c.args.place.now) _ c.from_residual-in_err-below.ensures.1
     (inl refl)
 
 pub put_folder-returns-in_err-name-clause-refused : goal.put_folder-returns-in_err-name-clause-refused
@@ -106,10 +107,10 @@ put_folder-returns-in_err-name-clause-refused g t c =
     let whole : string_bytes c.in_ok-below.below ≡ place ++ 47 ∷ string_bytes c.name-item.result = search rules in
     let at : path ≡ place ++ 47 ∷ n = c.as_str.ensures.value ∙ whole ∙ ap (λ m. place ++ 47 ∷ m) (sym c.as_str-in-loop-name.ensures.value) in
     let lists = subst (λ l. sees.lists place (map string_bytes l)) (sym c.deref-name-items.ensures.value) c.in_ok-names.ensures.listed in
-    let entry = entry_at sees g.K.Origin.start c.args.left place c.deref-name-items.result.now c.loop-name.name-index c.name-item.result n (folder_read c.loop-name.children) lists
+    let entry = entry_at sees g.K.Opened.start c.args.left place c.deref-name-items.result.now c.loop-name.name-index c.name-item.result n (folder_read c.loop-name.children) lists
     c.loop-name-test.true c.name-item.is c.as_str-in-loop-name.ensures.value c.loop-name.invariant in
-    exit_by (IsUnput sees g.K.Origin.start c.args.server.now c.args.left place) _ c.from_residual-in_err-name.ensures.1
-    (name_fails sees g.K.Origin.start (string_bytes c.args.server.now.address) place c.args.left n path _ entry at c.in_err-name.ensures.refused)
+    exit_by (IsUnput sees g.K.Opened.start c.args.server.now c.args.left place) _ c.from_residual-in_err-name.ensures.1
+    (name_fails sees g.K.Opened.start (string_bytes c.args.server.now.address) place c.args.left n path _ entry at c.in_err-name.ensures.refused)
 
 pub put_folder-returns-then-left-eq0-clause-refused : goal.put_folder-returns-then-left-eq0-clause-refused
 put_folder-returns-then-left-eq0-clause-refused g t c =
@@ -120,9 +121,9 @@ put_folder-returns-then-left-eq0-clause-refused g t c =
     let whole : string_bytes c.in_ok-below.below ≡ place ++ 47 ∷ string_bytes c.name-item.result = search rules in
     let at : path ≡ place ++ 47 ∷ n = c.as_str-then-left-eq0.ensures.value ∙ whole ∙ ap (λ m. place ++ 47 ∷ m) (sym c.as_str-in-loop-name.ensures.value) in
     let lists = subst (λ l. sees.lists place (map string_bytes l)) (sym c.deref-name-items.ensures.value) c.in_ok-names.ensures.listed in
-    let entry = entry_at sees g.K.Origin.start c.args.left place c.deref-name-items.result.now c.loop-name.name-index c.name-item.result n (folder_read c.loop-name.children) lists
+    let entry = entry_at sees g.K.Opened.start c.args.left place c.deref-name-items.result.now c.loop-name.name-index c.name-item.result n (folder_read c.loop-name.children) lists
     c.loop-name-test.true c.name-item.is c.as_str-in-loop-name.ensures.value c.loop-name.invariant in
-    deepest sees g.K.Origin.start (string_bytes c.args.server.now.address) place c.args.left n path _ c.if-left-eq0.true entry at c.entry_error.ensures
+    deepest sees g.K.Opened.start (string_bytes c.args.server.now.address) place c.args.left n path _ c.if-left-eq0.true entry c.in_ok-name.ensures.valid at c.entry_error.ensures
 
 pub put_folder-returns-in_err-node-clause-refused : goal.put_folder-returns-in_err-node-clause-refused
 put_folder-returns-in_err-node-clause-refused g t c =
@@ -133,37 +134,37 @@ put_folder-returns-in_err-node-clause-refused g t c =
     let whole : string_bytes c.in_ok-below.below ≡ place ++ 47 ∷ string_bytes c.name-item.result = search rules in
     let at : path ≡ place ++ 47 ∷ n = c.as_str-path.ensures.value ∙ whole ∙ ap (λ m. place ++ 47 ∷ m) (sym c.as_str-in-loop-name.ensures.value) in
     let lists = subst (λ l. sees.lists place (map string_bytes l)) (sym c.deref-name-items.ensures.value) c.in_ok-names.ensures.listed in
-    let entry = entry_at sees g.K.Origin.start c.args.left place c.deref-name-items.result.now c.loop-name.name-index c.name-item.result n (folder_read c.loop-name.children) lists
+    let entry = entry_at sees g.K.Opened.start c.args.left place c.deref-name-items.result.now c.loop-name.name-index c.name-item.result n (folder_read c.loop-name.children) lists
     c.loop-name-test.true c.name-item.is c.as_str-in-loop-name.ensures.value c.loop-name.invariant in
-    exit_by (IsUnput sees g.K.Origin.start c.args.server.now c.args.left place) _ c.from_residual-in_err-node.ensures.1
-    (further sees g.K.Origin.start (string_bytes c.args.server.now.address) place c.args.left n path _ c.if-left-eq0.false entry at c.in_err-node.ensures.refused)
+    exit_by (IsUnput sees g.K.Opened.start c.args.server.now c.args.left place) _ c.from_residual-in_err-node.ensures.1
+    (further sees g.K.Opened.start (string_bytes c.args.server.now.address) place c.args.left n path _ c.if-left-eq0.false entry c.in_ok-name.ensures.valid at c.in_err-node.ensures.refused)
 
 pub put_folder-returns-in_err-push-clause-refused : goal.put_folder-returns-in_err-push-clause-refused
 put_folder-returns-in_err-push-clause-refused g t c =
-    exit_by (IsUnput g.W.World.sees g.K.Origin.start c.args.server.now c.args.left c.args.place.now) _ c.from_residual-in_err-push.ensures.1
+    exit_by (IsUnput g.W.World.sees g.K.Opened.start c.args.server.now c.args.left c.args.place.now) _ c.from_residual-in_err-push.ensures.1
     (inl refl)
 
 pub put_folder-returns-in_err-directory-clause-refused : goal.put_folder-returns-in_err-directory-clause-refused
 put_folder-returns-in_err-directory-clause-refused g t c =
     let sees = g.W.World.sees in
-    let start = g.K.Origin.start in
+    let start = g.K.Opened.start in
     let place = c.args.place.now in
     let items = c.deref-name-items.result.now in
     let lists = subst (λ l. sees.lists place (map string_bytes l)) (sym c.deref-name-items.ensures.value) c.in_ok-names.ensures.listed in
     let ordered = subst (λ l. IsSorted bytes_cmp (map string_bytes l)) (sym c.deref-name-items.ensures.value) c.in_ok-names.ensures.ordered in
     let so_far = all_names_put sees start c.args.left place items c.loop-name.name-index (folder_read c.loop-name.children) c.loop-name-test.false c.loop-name.invariant in
     exit_by (IsUnput sees start c.args.server.now c.args.left place) _ c.from_residual-in_err-directory.ensures.1
-    (names_fail sees start (string_bytes c.args.server.now.address) place c.args.left (map string_bytes items) (folder_read c.loop-name.children) _ lists ordered so_far.follows c.in_err-directory.ensures.refused)
+    (names_fail sees start (string_bytes c.args.server.now.address) place c.args.left (map string_bytes items) (folder_read c.loop-name.children) _ lists ordered so_far c.in_err-directory.ensures.refused)
 
 pub put_folder-returns-in_err-bytes-clause-refused : goal.put_folder-returns-in_err-bytes-clause-refused
 put_folder-returns-in_err-bytes-clause-refused g t c =
-    exit_by (IsUnput g.W.World.sees g.K.Origin.start c.args.server.now c.args.left c.args.place.now) _ c.from_residual-in_err-bytes.ensures.1
+    exit_by (IsUnput g.W.World.sees g.K.Opened.start c.args.server.now c.args.left c.args.place.now) _ c.from_residual-in_err-bytes.ensures.1
     (inl refl)
 
 pub put_folder-returns : goal.put_folder-returns
 put_folder-returns g t c =
     let sees = g.W.World.sees in
-    let start = g.K.Origin.start in
+    let start = g.K.Opened.start in
     let left = c.args.left in
     let place = c.args.place.now in
     let items = c.deref-name-items.result.now in

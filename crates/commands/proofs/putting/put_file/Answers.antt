@@ -1,4 +1,4 @@
-use Rattle.std.proofs.Common.{◌∙◌, ◌+◌, ap, false, inr, min, refl, string_bytes, subst, suc, sym}
+use Rattle.std.proofs.Common.{ℕ, ◌∙◌, ◌+◌, ap, false, inr, min, refl, string_bytes, subst, suc, sym}
 use Rattle.messages.specs.declared.node.Node.TheVariants.{File}
 use Rattle.commands.specs.Faults.{OrMemory}
 use Rattle.commands.specs.Put.{IsPutAt}
@@ -11,16 +11,16 @@ use Rattle.commands.proofs.putting.put_file.Goals as goal
 
 pub returns-in_err-bytes-clause-refused : goal.returns-in_err-bytes-clause-refused
 returns-in_err-bytes-clause-refused g c =
-    exit_by (OrMemory (FailsHere g.W.World.sees g.K.Origin.start (string_bytes c.args.server.now.address) c.args.place.now)) _ c.from_residual.ensures.1
-    (inr (unread _ c.in_err-bytes.ensures.fault refl))
+    exit_by (OrMemory (λ e. (left : ℕ) → FailsHere g.W.World.sees g.K.Opened.start (string_bytes c.args.server.now.address) left c.args.place.now e)) _ c.from_residual.ensures.1
+    (inr (λ left. unread _ c.in_err-bytes.ensures.fault refl))
 
 pub returns-in_err-digest-clause-refused : goal.returns-in_err-digest-clause-refused
 returns-in_err-digest-clause-refused g c =
     let sees = g.W.World.sees in
-    let start = g.K.Origin.start in
+    let start = g.K.Opened.start in
     let address = string_bytes c.args.server.now.address in
     let place = c.args.place.now in
-    exit_by (OrMemory (FailsHere sees start address place)) _ c.from_residual-in_err-digest.ensures.1
+    exit_by (OrMemory (λ e. (left : ℕ) → FailsHere sees start address left place e)) _ c.from_residual-in_err-digest.ensures.1
     (file_fails sees start address place c.deref.result.now _ (subst (λ b. sees.reads place b) (sym c.deref.ensures.value) c.in_ok-bytes.ensures.read) c.in_err-digest.ensures.refused)
 
 pub returns-clause-sized : goal.returns-clause-sized
@@ -31,7 +31,7 @@ returns-clause-sized g c =
 pub returns-clause-put : goal.returns-clause-put
 returns-clause-put g c =
     let sees = g.W.World.sees in
-    let start = g.K.Origin.start in
+    let start = g.K.Opened.start in
     let place = c.args.place.now in
     λ left. subst (λ digest. IsPutAt sees start (suc left) place (File digest false)) (sym c.in_ok-digest.ensures.named)
     (file_put left place c.deref.result.now (subst (λ bytes. sees.reads place bytes) (sym c.deref.ensures.value) c.in_ok-bytes.ensures.read) c.in_ok-digest.ensures.taken)

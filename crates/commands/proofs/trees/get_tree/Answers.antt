@@ -46,7 +46,7 @@ pub returns-in_err-print_lack-in-Err-clause-fault : goal.returns-in_err-print_la
 returns-in_err-print_lack-in-Err-clause-fault g c =
     let sees = g.W.World.sees in
     let source = c.check_out.new.source in
-    let start = g.K.Origin.start in
+    let start = g.K.Opened.start in
     let address = string_bytes c.args.server.now.address in
     let folder = c.args.folder.now in
     let digest = c.args.digest.now in

@@ -3,4 +3,4 @@ use Rattle.commands.proofs.verifying.judge.Given as goal
 
 -- the folder that the words name
 abbrev pub ghosts-judge_folder : goal.ghosts-judge_folder
-ghosts-judge_folder g a = record { place = string_bytes a.folder }
+ghosts-judge_folder g a = record { folder = string_bytes a.folder }

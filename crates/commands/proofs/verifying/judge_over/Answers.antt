@@ -18,7 +18,7 @@ returns-in-Ok-clause-answered g c =
 -- memory ran out
 pub returns-in_err-error-in-Err-Fetch-clause-fault : goal.returns-in_err-error-in-Err-Fetch-clause-fault
 returns-in_err-error-in-Err-Fetch-clause-fault g c =
-    exit_by (OrMemory (λ e. ∥ FailsOver gets_alone g.K.Origin.start (string_bytes c.args.server.now.address) e ∥₁)) _ c.from_residual-in_err-error-in-Err-Fetch.ensures.1 (inl refl)
+    exit_by (OrMemory (λ e. ∥ FailsOver gets_alone g.K.Opened.start (string_bytes c.args.server.now.address) e ∥₁)) _ c.from_residual-in_err-error-in-Err-Fetch.ensures.1 (inl refl)
 
 pub returns : goal.returns
 returns g c = record { answered = tt; fault = inl refl }

@@ -17,7 +17,7 @@ use Rattle.commands.proofs.client.Client+S+K+PutsBlobs.put.Goals as goal
 -- what is told stays, and the connection comes on
 pub invariant_of-self : goal.invariant_of-self
 invariant_of-self g c =
-    let start = g.K.Origin.start in
+    let start = g.K.Opened.start in
     let flow = g.S.Stream.flow in
     let old = connection_of flow c.args.self.now.remote in
     let new = connection_of flow c.send_blob-put.new.self in
@@ -43,8 +43,8 @@ invariant_of-self g c =
 pub returns-in-Ok-clause-taken : goal.returns-in-Ok-clause-taken
 returns-in-Ok-clause-taken g c =
     let flow = g.S.Stream.flow in
-    subst (λ r. OnOk r (∥ TakesBlob puts_blobs g.K.Origin.start c.args.bytes.now ∥₁)) c.in-Ok.is
-    (taken_by_put puts_blobs g.K.Origin.start (connection_of flow c.args.self.now.remote) (connection_of flow c.send_blob-put.new.self) c.args.bytes.now c.send_blob-put.result
+    subst (λ r. OnOk r (∥ TakesBlob puts_blobs g.K.Opened.start c.args.bytes.now ∥₁)) c.in-Ok.is
+    (taken_by_put puts_blobs g.K.Opened.start (connection_of flow c.args.self.now.remote) (connection_of flow c.send_blob-put.new.self) c.args.bytes.now c.send_blob-put.result
     c.send_blob-put.ensures.sent.taken (∥∥₁_map c.args.self.now.over (λ over. over.came)))
 
 pub returns-in_ok-error-in-Err-clause-refused : goal.returns-in_ok-error-in-Err-clause-refused
@@ -59,6 +59,6 @@ returns-in_ok-error-in-Err-clause-refused g c =
     c.digest_put-digest.ensures c.keep_failure.ensures) in
     let old = connection_of flow c.args.self.now.remote in
     let new = connection_of flow c.send_blob-put.new.self in
-    blob_refused g.K.Origin.start old new address bytes c.args.self.now.failure c.last_fault-fault.result refusal e (∥∥₁_map c.args.self.now.over (λ over. over.came))
+    blob_refused g.K.Opened.start old new address bytes c.args.self.now.failure c.last_fault-fault.result refusal e (∥∥₁_map c.args.self.now.over (λ over. over.came))
     (subst (λ r. IfErr r (RefusesRequest old new (put Cas (digest_of bytes).hash bytes))) c.in-Err.is c.send_blob-put.ensures.sent.refused)
     (sym c.last_fault-fault.ensures) (subst (λ f. TellsFailure address f refusal e) kept c.in_ok-error-in-Err.ensures.error)

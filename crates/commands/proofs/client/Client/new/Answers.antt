@@ -11,16 +11,16 @@ pub invariant_of-result : goal.invariant_of-result
 invariant_of-result g c =
     let remote = c.args.remote in
     let access = g.U.Permit.access in
-    let start : Comes access g.K.Origin.start (connection_of g.S.Stream.flow remote) = subst (Comes access g.K.Origin.start) c.requires.start fresh in
-    let over : IsClientOver access g.K.Origin.start (connection_of g.S.Stream.flow remote) (telling_of remote) = record {
+    let start : Comes access g.K.Opened.start (connection_of g.S.Stream.flow remote) = subst (Comes access g.K.Opened.start) c.requires.start fresh in
+    let over : IsClientOver access g.K.Opened.start (connection_of g.S.Stream.flow remote) (telling_of remote) = record {
       came = start;
       blobs = λ d b is. absurd (some_not_none (sym is ∙ none_unasked (blobs_of remote) d (c.requires.fresh.blobs d)));
       results = λ d b is. absurd (some_not_none (sym is ∙ none_unasked (results_of remote) d (c.requires.fresh.results d)));
     } in
-    let lacked : AreLacked (LacksIt access g.K.Origin.start) (blobs_of remote) (results_of remote) = record {
-      blobs = none_lacked (λ d. LacksOver access g.K.Origin.start Cas d.hash) (blobs_of remote) c.requires.fresh.blobs;
-      results = none_lacked (λ d. LacksOver access g.K.Origin.start Ac d.hash) (results_of remote) c.requires.fresh.results;
+    let lacked : AreLacked (LacksIt access g.K.Opened.start) (blobs_of remote) (results_of remote) = record {
+      blobs = none_lacked (λ d. LacksOver access g.K.Opened.start Cas d.hash) (blobs_of remote) c.requires.fresh.blobs;
+      results = none_lacked (λ d. LacksOver access g.K.Opened.start Ac d.hash) (results_of remote) c.requires.fresh.results;
     } in
-    let refused : KeepsRefused access g.K.Origin.start (connection_of g.S.Stream.flow remote) None =
+    let refused : KeepsRefused access g.K.Opened.start (connection_of g.S.Stream.flow remote) None =
     ap (λ (line : ConnectionValue). line.failures) (sym c.requires.start) in
     record { over = ∣ over ∣₁; lacked = ∣ lacked ∣₁; refused = ∣ refused ∣₁ }

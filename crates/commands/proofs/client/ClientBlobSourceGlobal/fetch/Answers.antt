@@ -12,7 +12,7 @@ use Rattle.commands.proofs.client.ClientBlobSourceGlobal.fetch.Goals as goal
 pub invariant_of-self : goal.invariant_of-self
 invariant_of-self g c =
     let access = g.U.Permit.access in
-    let start = g.K.Origin.start in
+    let start = g.K.Opened.start in
     let flow = g.S.Stream.flow in
     let old = c.args.self.now.remote in
     let new = c.fetch-found.new.self in
@@ -40,5 +40,5 @@ returns-clause-lacked g c =
     let flow = g.S.Stream.flow in
     let old = c.args.self.now.remote in
     let new = c.fetch-found.new.self in
-    lacks_now g.U.Permit.access g.K.Origin.start Cas c.args.digest.now (connection_of flow old) (connection_of flow new) (blobs_of old) (blobs_of new) c.fetch-found.result
+    lacks_now g.U.Permit.access g.K.Opened.start Cas c.args.digest.now (connection_of flow old) (connection_of flow new) (blobs_of old) (blobs_of new) c.fetch-found.result
     c.fetch-found.ensures.asked (∥∥₁_map c.args.self.now.over (λ over. over.came)) c.fetch-found.ensures.told (∥∥₁_map c.args.self.now.lacked (λ lacked. lacked.blobs))

@@ -12,7 +12,7 @@ use Rattle.commands.proofs.client.ClientBlobSourceGlobal.result.Goals as goal
 pub invariant_of-self : goal.invariant_of-self
 invariant_of-self g c =
     let access = g.U.Permit.access in
-    let start = g.K.Origin.start in
+    let start = g.K.Opened.start in
     let flow = g.S.Stream.flow in
     let old = c.args.self.now.remote in
     let new = c.result-found.new.self in
@@ -40,5 +40,5 @@ returns-clause-lacked g c =
     let flow = g.S.Stream.flow in
     let old = c.args.self.now.remote in
     let new = c.result-found.new.self in
-    lacks_now g.U.Permit.access g.K.Origin.start Ac c.args.digest.now (connection_of flow old) (connection_of flow new) (results_of old) (results_of new) c.result-found.result
+    lacks_now g.U.Permit.access g.K.Opened.start Ac c.args.digest.now (connection_of flow old) (connection_of flow new) (results_of old) (results_of new) c.result-found.result
     c.result-found.ensures.asked (∥∥₁_map c.args.self.now.over (λ over. over.came)) c.result-found.ensures.told (∥∥₁_map c.args.self.now.lacked (λ lacked. lacked.results))

@@ -14,7 +14,7 @@ use Rattle.commands.proofs.client.ClientPutsTooBlobSinkGlobal.put_blob.Goals as 
 
 pub invariant_of-self : goal.invariant_of-self
 invariant_of-self g c =
-    let start = g.K.Origin.start in
+    let start = g.K.Opened.start in
     let flow = g.S.Stream.flow in
     let old = c.args.self.now.remote in
     let new = c.put_blob-put.new.self in
@@ -45,5 +45,5 @@ returns-clause-taken g c =
     let flow = g.S.Stream.flow in
     let old = c.args.self.now.remote in
     let new = c.put_blob-put.new.self in
-    taken_by_put puts_too g.K.Origin.start (connection_of flow old) (connection_of flow new) c.args.bytes.now c.put_blob-put.result c.put_blob-put.ensures.stored.taken
+    taken_by_put puts_too g.K.Opened.start (connection_of flow old) (connection_of flow new) c.args.bytes.now c.put_blob-put.result c.put_blob-put.ensures.stored.taken
     (∥∥₁_map c.args.self.now.over (λ over. over.came))

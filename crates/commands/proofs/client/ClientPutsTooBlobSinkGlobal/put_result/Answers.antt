@@ -11,7 +11,7 @@ use Rattle.commands.proofs.client.ClientPutsTooBlobSinkGlobal.put_result.Goals a
 
 pub invariant_of-self : goal.invariant_of-self
 invariant_of-self g c =
-    let start = g.K.Origin.start in
+    let start = g.K.Opened.start in
     let flow = g.S.Stream.flow in
     let old = c.args.self.now.remote in
     let new = c.put_result-put.new.self in

@@ -11,7 +11,7 @@ use Rattle.commands.proofs.shelf.ShelfBlobSourceGlobal.fetch.Goals as goal
 pub invariant_of-self : goal.invariant_of-self
 invariant_of-self g c =
     let sees = g.W.World.sees in
-    let folder = g.K.Place.place in
+    let folder = g.K.StoreFolder.folder in
     let old = c.args.self.now.store in
     let new = c.fetch.new.self in
     let d = c.args.digest.now in
