@@ -5,6 +5,8 @@ use Rattle.blob_digest.specs.Digest.{DigestValue}
 use Rattle.plan.specs.Values.{PlanValue}
 use Rattle.runs.specs.Engine.{EngineValue}
 use Rattle.worker.specs.Outcomes.{Yields, YieldsNoMore}
+use Rattle.worker.proofs.Acts.{same_build}
+use Rattle.worker.proofs.Blobs.{of_build_moved, others_more}
 use Rattle.worker.proofs.Heard.{all_so}
 use Rattle.worker.proofs.Stopping.{leads_within, progress_within, refused_within}
 use Rattle.builder.specs.Built.{BuiltValue, Builds, Ran, Seen, store_alone}
@@ -32,6 +34,7 @@ module _ {A : Type 0} (z y : Yields) (most : ℕ) (plan : PlanValue) (sources : 
         turns = r.turns;
         in_order = r.in_order;
         put = r.put;
+        blobs = others_more (of_build_moved within (λ e b at right. at) (same_build last)) r.blobs;
         of_plan = r.of_plan;
         of_sources = r.of_sources;
         own = r.own;
@@ -41,7 +44,7 @@ module _ {A : Type 0} (z y : Yields) (most : ℕ) (plan : PlanValue) (sources : 
       }
 
   builds_within : (came : Result BuiltValue (BuildPlanError A)) → Builds A z most plan sources old new came → Builds A y most plan sources (store_alone old.store) (store_alone new.store) came
-  builds_within (Ok b) (first, last, r, h) = (first, last, ran_within first last r, record { all = h.all; end = h.end; stored = h.stored; answered = h.answered; heard = tt; unfailed = refl })
+  builds_within (Ok b) (first, last, r, h) = (first, last, ran_within first last r, record { all = h.all; end = h.end; stored = h.stored; answered = h.answered; unfailed = refl })
   builds_within (Err (Opening error)) h = record { asked = h.asked; stands = h.stands; none = λ before k. tt; unfailed = refl; unheard = refl }
   builds_within (Err (Step error)) (first, last, r, h) = (first, last, ran_within first last r, refused_within A z y new.store within h)
   builds_within (Err (Root error)) (first, last, r, h) = (first, last, ran_within first last r, record { all = h.all; complete = h.complete; stands = h.stands; unfailed = refl })

@@ -28,11 +28,11 @@ use Rattle.verifier.specs.declared.verdict.Verdict.TheVariants.{Yes}
 use Rattle.worker.specs.Calls.{Call, AreTurns, IsBuiltWith, came_of}
 use Rattle.worker.specs.Counted.{Counts}
 use Rattle.worker.specs.Outcomes.{Yields}
-use Rattle.worker.specs.Steps.{IsActionOf}
+use Rattle.worker.specs.Steps.{IsActionOf, IsOfBuild}
 use Rattle.worker.specs.Stopped.{IsRefusedBuild}
-use Rattle.worker.specs.Stored.{IsToldOrTree, IsStored}
+use Rattle.worker.specs.Stored.{IsToldOrTree, IsStored, KeepsOthers}
 use Rattle.worker.specs.Values.{Starts, StartsNone}
-use Rattle.worker.specs.Watching.{FinishInOrder, IsProgress, IsUpToDate, IsWatched, turns_in}
+use Rattle.worker.specs.Watching.{FinishInOrder, IsProgress, IsWatched, turns_in}
 use Rattle.worker.specs.declared.watching.Progress.{Progress}
 use Rattle.builder.specs.Faults.{IsRunnerFailure, IsStoreFailure, fault_of}
 use Rattle.builder.specs.declared.error.BuildPlanError.{BuildPlanError}
@@ -121,6 +121,8 @@ module _ (A : Type 0) (yields : Yields) (most : ℕ) (plan : PlanValue) (sources
     pub put : (more : List DigestValue) × (ending.puts ≡ (opening.puts ++ came_of whole) ++ more)
     pub of_plan : last.plan ≡ plan
     pub of_sources : last.sources ≡ sources
+    -- what stands under the digest of no blob that the build has to put stays
+    pub blobs : KeepsOthers (IsOfBuild A yields ending.blobs last) opening.blobs ending.blobs
     -- each result was put under the action of a step of the plan
     pub own : AllByRecursion (λ d. (i : ℕ) × IsActionOf A ending.blobs last i d) led.built.puts.put
     pub watched : IsWatched (IsProgress A yields ending most first led.built.led.calls)
@@ -129,16 +131,13 @@ module _ (A : Type 0) (yields : Yields) (most : ℕ) (plan : PlanValue) (sources
     pub once : AsksRootOnce last ending new.store
 
   -- A build came to its root: in turns each step has finished, and the store has what it came to.
-  -- The root and the record are answered yes by what the store told, and the watcher was told of
-  -- the end.
+  -- The root and the record are answered yes by what the store told.
   pub record ReachesRoot (first last : EngineValue) (ran : Ran first last) (b : BuiltValue)
       : Type 0 where
     pub all : ran.led.built.led.calls ≡ ran.whole
     pub end : IsEnd A last new.store b
     pub stored : IsStored new.store last
     pub answered : IsAnsweredYes A new.store last b
-    pub heard : IsUpToDate A yields ran.ending most first last ran.led.built.led.calls
-        old.heard new.heard
     pub unfailed : new.failed ≡ old.failed
 
   -- in turns each step has finished, and the root is refused

@@ -83,10 +83,10 @@ module _ {R C E : Type 0} (works : Works R C E) (ended : E) where
     named_unwalked n error (inl (path, h)) = inl (n ∷ path, h)
     named_unwalked n error (inr (kind, twice)) = inr (kind, record { path = n ∷ twice.path; before = twice.before; name = twice.name; after = twice.after; listed = twice.listed; again = twice.again })
 
-    pub below_unwalked : (n : Name) (t : Trouble) → TellsTrouble (λ error. IsUnwalked works ended error (place_in place n)) t → Unwalked t
-    below_unwalked n (troubles.Unread error) h = named_unwalked n error h
-    below_unwalked n troubles.NoOutput h = tt
-    below_unwalked n troubles.Memory h = tt
+    pub below_unwalked : (n : Name) (q : List ℕ) → q ≡ place_in place n → (t : Trouble) → TellsTrouble (λ error. IsUnwalked works ended error q) t → Unwalked t
+    below_unwalked n q is (troubles.Unread error) h = named_unwalked n error (subst (IsUnwalked works ended error) is h)
+    below_unwalked n q is troubles.NoOutput h = tt
+    below_unwalked n q is troubles.Memory h = tt
 
     pub walk_unread : (t : Trouble) → Unwalked t → Unread t
     walk_unread (troubles.Unread error) h = inl h

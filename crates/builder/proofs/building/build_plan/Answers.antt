@@ -44,7 +44,7 @@ returns-in_err-build g c =
         came = rw (p.1, p.2) (
           c.in_ok-engine.engine,
           c.build.new.engine,
-          ran_by _ _ _ _ _ _ _ _ _ _ _ (record { some = c.new.ensures.called.asked; most_calls = c.new.ensures.few }) c.in_ok-engine.ensures.opened c.in_err-build.ensures.led.0 c.in_err-build.ensures.led.1.in_order c.in_err-build.ensures.led.1.whole c.in_err-build.ensures.led.1.turns c.in_err-build.ensures.led.1.put c.in_err-build.ensures.led.1.watched (some_none ending) (λ list covers. omega arith),
+          ran_by _ _ _ _ _ _ _ _ _ _ _ (record { some = c.new.ensures.called.asked; most_calls = c.new.ensures.few }) c.in_ok-engine.ensures.opened c.in_err-build.ensures.led.0 c.in_err-build.ensures.led.1.in_order c.in_err-build.ensures.led.1.whole c.in_err-build.ensures.led.1.turns c.in_err-build.ensures.led.1.put c.build.ensures.blobs c.in_err-build.ensures.led.1.watched (some_none ending) (λ list covers. omega arith),
           c.in_err-build.ensures.led.1.refused,
         );
         order = record {
@@ -67,7 +67,7 @@ returns-in_err-built g c =
         came = rw (p.1, p.2) (
           c.in_ok-engine.engine,
           c.build.new.engine,
-          ran_by _ _ _ _ _ _ _ _ _ _ _ (record { some = c.new.ensures.called.asked; most_calls = c.new.ensures.few }) c.in_ok-engine.ensures.opened c.in_ok-build.ensures.led.0 c.in_ok-build.ensures.led.1.in_order c.in_ok-build.ensures.led.1.whole c.in_ok-build.ensures.led.1.turns c.in_ok-build.ensures.led.1.put c.in_ok-build.ensures.led.1.watched c.end.ensures.called.asked c.end.ensures.once,
+          ran_by _ _ _ _ _ _ _ _ _ _ _ (record { some = c.new.ensures.called.asked; most_calls = c.new.ensures.few }) c.in_ok-engine.ensures.opened c.in_ok-build.ensures.led.0 c.in_ok-build.ensures.led.1.in_order c.in_ok-build.ensures.led.1.whole c.in_ok-build.ensures.led.1.turns c.in_ok-build.ensures.led.1.put c.build.ensures.blobs c.in_ok-build.ensures.led.1.watched c.end.ensures.called.asked c.end.ensures.once,
           record { all = c.in_ok-build.ensures.led.1.all; complete = c.in_ok-build.ensures.done; stands = c.in_err-built.ensures.refused; unfailed = c.in_ok-build.ensures.unfailed },
         );
         order = record {
@@ -96,13 +96,12 @@ returns g c =
         came = (
           c.in_ok-engine.engine,
           c.build.new.engine,
-          ran_by _ _ _ _ _ _ _ _ _ _ _ (record { some = c.new.ensures.called.asked; most_calls = c.new.ensures.few }) opened c.in_ok-build.ensures.led.0 c.in_ok-build.ensures.led.1.in_order c.in_ok-build.ensures.led.1.whole c.in_ok-build.ensures.led.1.turns c.in_ok-build.ensures.led.1.put c.in_ok-build.ensures.led.1.watched c.end.ensures.called.asked c.end.ensures.once,
+          ran_by _ _ _ _ _ _ _ _ _ _ _ (record { some = c.new.ensures.called.asked; most_calls = c.new.ensures.few }) opened c.in_ok-build.ensures.led.0 c.in_ok-build.ensures.led.1.in_order c.in_ok-build.ensures.led.1.whole c.in_ok-build.ensures.led.1.turns c.in_ok-build.ensures.led.1.put c.build.ensures.blobs c.in_ok-build.ensures.led.1.watched c.end.ensures.called.asked c.end.ensures.once,
           record {
             all = c.in_ok-build.ensures.led.1.all;
             end = c.in_ok-built.ensures.ended;
             stored = stored;
             answered = answered g.row.A.Denot (g.N.Runner.yields c.args.runner.now) c.args.jobs c.args.plan.now c.args.sources opening ending told c.in_ok-engine.engine c.build.new.engine c.in_ok-built.built opened c.build.ensures.right c.in_ok-build.ensures.led.0.built.led (right_grows asks.blobs) c.plan.ensures.valid stored c.in_ok-built.ensures.ended;
-            heard = c.in_ok-build.ensures.led.1.up_to_date;
             unfailed = c.in_ok-build.ensures.unfailed;
           },
         );

@@ -187,33 +187,20 @@ returns-in_err-names-clause-failed g t c =
 
 pub returns-in_err-look-clause-failed : goal.returns-in_err-look-clause-failed
 returns-in_err-look-clause-failed g t c =
-    let works = g.W.Workshop.works in
-    let ended = c.args.ended.now in
-    let place = c.args.place.now in
-    let n = string_bytes c.name-item.result in
-    let spot : string_bytes c.in_ok-place.place ≡ place_in place n = c.in_ok-place.ensures ∙ ap (λ x. place_in place x) c.as_str-in-loop-name.ensures.value in
+    let spot = c.as_str-in-loop-name-2.ensures.value ∙ c.in_ok-place.ensures ∙ ap (λ x. place_in c.args.place.now x) c.as_str-in-loop-name.ensures.value in
     let p = err_from_is_err_and c.from_residual-in_err-look.result c.from_residual-in_err-look.ensures.1 in
-    rw p.1 (below_unwalked works ended place n p.0 (here_unwalked works ended (place_in place n) p.0 (system_tells (works.unread ended (place_in place n)) c.in_err-look.field-0.0 p.0 p.2
-    (subst (λ q. works.unread ended q c.in_err-look.field-0.0) (c.as_str-in-loop-name-2.ensures.value ∙ spot) c.in_err-look.ensures.failed))))
+    rw p.1 (below_unwalked g.W.Workshop.works c.args.ended.now c.args.place.now (string_bytes c.name-item.result) _ spot p.0
+    (here_unwalked g.W.Workshop.works c.args.ended.now _ p.0 (system_tells _ c.in_err-look.field-0.0 p.0 p.2 c.in_err-look.ensures.failed)))
 
 pub returns-in_err-digest-in-File-clause-failed : goal.returns-in_err-digest-in-File-clause-failed
 returns-in_err-digest-in-File-clause-failed g t c =
-    let works = g.W.Workshop.works in
-    let ended = c.args.ended.now in
-    let place = c.args.place.now in
-    let n = string_bytes c.name-item.result in
-    let spot : string_bytes c.in_ok-place.place ≡ place_in place n = c.in_ok-place.ensures ∙ ap (λ x. place_in place x) c.as_str-in-loop-name.ensures.value in
+    let spot = c.as_str-in-File.ensures.value ∙ c.in_ok-place.ensures ∙ ap (λ x. place_in c.args.place.now x) c.as_str-in-loop-name.ensures.value in
     let p = err_from_is_err_and c.from_residual-in_err-digest-in-File.result c.from_residual-in_err-digest-in-File.ensures.1 in
-    rw (p.1, p.2) (below_unwalked works ended place n c.in_err-digest-in-File.field-0.0 (here_unwalked works ended (place_in place n) c.in_err-digest-in-File.field-0.0
-    (subst (λ q. TellsTrouble (works.unread ended q) c.in_err-digest-in-File.field-0.0) (c.as_str-in-File.ensures.value ∙ spot) c.in_err-digest-in-File.ensures.failed)))
+    rw (p.1, p.2) (below_unwalked g.W.Workshop.works c.args.ended.now c.args.place.now (string_bytes c.name-item.result) _ spot c.in_err-digest-in-File.field-0.0
+    (here_unwalked g.W.Workshop.works c.args.ended.now _ c.in_err-digest-in-File.field-0.0 c.in_err-digest-in-File.ensures.failed))
 
 pub returns-in_err-walk-in-Folder-clause-failed : goal.returns-in_err-walk-in-Folder-clause-failed
 returns-in_err-walk-in-Folder-clause-failed g t c =
-    let works = g.W.Workshop.works in
-    let ended = c.args.ended.now in
-    let place = c.args.place.now in
-    let n = string_bytes c.name-item.result in
-    let spot : string_bytes c.in_ok-place.place ≡ place_in place n = c.in_ok-place.ensures ∙ ap (λ x. place_in place x) c.as_str-in-loop-name.ensures.value in
+    let spot = c.as_str-in-Folder.ensures.value ∙ c.in_ok-place.ensures ∙ ap (λ x. place_in c.args.place.now x) c.as_str-in-loop-name.ensures.value in
     let p = err_from_is_err_and c.from_residual-in_err-walk-in-Folder.result c.from_residual-in_err-walk-in-Folder.ensures.1 in
-    rw (p.1, p.2) (below_unwalked works ended place n c.in_err-walk-in-Folder.field-0.0
-    (subst (λ q. TellsTrouble (λ error. IsUnwalked works ended error q) c.in_err-walk-in-Folder.field-0.0) (c.as_str-in-Folder.ensures.value ∙ spot) c.in_err-walk-in-Folder.ensures.failed))
+    rw (p.1, p.2) (below_unwalked g.W.Workshop.works c.args.ended.now c.args.place.now (string_bytes c.name-item.result) _ spot c.in_err-walk-in-Folder.field-0.0 c.in_err-walk-in-Folder.ensures.failed)
