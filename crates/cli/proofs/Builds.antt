@@ -145,4 +145,4 @@ module _ (sees : Sight) (below : Below) (options : List Row) where
         telling_fails e (inl memory) = in_memory memory
         telling_fails e (inr (inl process)) = in_process asked.plan asked.sources starts
             (stops_by by below (string_bytes asked.work) (option_text options (codes "work")) read.work asked.jobs (jobs_asked options) read.jobs asked.plan asked.sources e process)
-        telling_fails e (inr (inr over)) = in_request asked.plan asked.sources starts start reaches.opened (subst (λ a. ∥ FailsOver puts_too start a e ∥₁) read.server.address over)
+        telling_fails e (inr (inr over)) = in_request asked.plan asked.sources starts start (opened_to sees options asked.server start read.server opened) (subst (λ a. ∥ FailsOver puts_too start a e ∥₁) read.server.address over)
