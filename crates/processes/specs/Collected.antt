@@ -213,7 +213,8 @@ IsUnreadAt works ended error place = IsUnwalked works ended error place
 abbrev pub IsUnread : {R C E : Type 0} → Works R C E → E → List ℕ → List (List (List ℕ)) → Error
     → Type 0
 IsUnread works ended folder paths error =
-    ((path : List (List ℕ)) × IsFirstPath works ended folder paths (IsUnreadAt works ended error) path)
+    ((path : List (List ℕ))
+    × IsFirstPath works ended folder paths (IsUnreadAt works ended error) path)
     ⊎ ((error_kind error ≡ InvalidData) × (AreApart paths → ⊥))
 
 -- ---- one path more

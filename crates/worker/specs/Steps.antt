@@ -66,7 +66,7 @@ IsOfToldTree B b = (d : DigestValue) × (t : TreeValue) × IsTold IsTree tree_by
     × Contains (tree_bytes t ∷ directories_of t) b
 
 -- A blob that a build puts: for the job of a step, as it was prepared; or of what a job's child may
--- come to; or of a Tree that the store tells, as a result that is taken names it.
+-- come to; or of a Tree that the store tells, as those of a result that is taken are.
 abbrev pub IsOfBuild : (A : Type 0) → Yields → Blobs → EngineValue → List ℕ → Type 0
 IsOfBuild A yields B e b =
     ((i : ℕ) × (d : DigestValue) × (o : IsActionOf A B e i d) × Contains (blobs_of_job o.job) b)

@@ -13,7 +13,8 @@ use Rattle.worker.specs.declared.runner.RunError.TheVariants as children
 use Rattle.worker.specs.declared.error.BuildError.{BuildError}
 use Rattle.worker.specs.declared.watching.Progress.{Progress}
 use Rattle.worker.specs.Calls.{running, Call, started, ran, lost, came_of, Leads, IsLed}
-use Rattle.worker.specs.Calls.{IsStartable, IsLeastStartable, HasNoneStartable, AreTurns, LeavesNone}
+use Rattle.worker.specs.Calls.{IsStartable, IsLeastStartable, HasNoneStartable, AreTurns}
+use Rattle.worker.specs.Calls.{LeavesNone}
 use Rattle.worker.specs.Layout.{IsLayoutOf}
 use Rattle.worker.specs.Outcomes.{Yields, MayComeTo, IsYielded, CanBeTakenFor}
 use Rattle.worker.specs.Refusals.{IsLayoutFault}

@@ -14,8 +14,6 @@ use Rattle.processes.specs.Walking.{IsBare}
 use Rattle.processes.proofs.Walks.{IsSoFar, none_seen, all_seen, one_bare, one_file, one_folder, one_of, one_fewer, bad_name, bad_below, bad_standing}
 use Rattle.tree.specs.FlatTree.{IsTaken}
 use Rattle.processes.proofs.Unread.{add_unread, below_unwalked, here_unwalked, listed_twice, system_tells}
-use Rattle.processes.specs.Walking.{TellsTrouble}
-use Rattle.processes.specs.Collected.{IsUnwalked}
 use Rattle.processes.proofs.walking.+walk.Goals as goal
 use Rattle.processes.proofs.walking.+walk.Goals.{in-File+in_ok-digest-in-File+in_ok-add-in-File, in-Folder+in_ok-copy_of-in-Folder+in_ok-add-in-Folder+in_ok-walk-in-Folder+in-None-1, in-Folder+in_ok-copy_of-in-Folder+in_ok-add-in-Folder+in_ok-walk-in-Folder+in-Some-1}
 

@@ -1,8 +1,5 @@
-use Rattle.std.proofs.Common.{◌≡◌, Some, false, rules, sym, subst}
-use Rattle.std.specs.Prelude.{IfSome}
-use Rattle.service.specs.Member.{AwaitsEvent, MemberValue, MovesOn, end_of}
-use Rattle.service.specs.Together.{member_at}
-use Rattle.service.specs.declared.turn.Turn.TheVariants.{Waits}
+use Rattle.std.proofs.Common.{false, rules, subst}
+use Rattle.service.specs.Member.{MemberValue, MovesOn, end_of}
 use Rattle.service.proofs.Pausing.{moves_queued}
 use Rattle.service.proofs.together.Together.advance.Goals as goal
 

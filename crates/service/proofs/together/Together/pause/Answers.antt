@@ -1,6 +1,6 @@
 use Rattle.std.proofs.Common.{false, refl}
 use Rattle.service.proofs.Keeping.{keeps_told}
-use Rattle.service.proofs.Places.{placed_further, placed_still, placed_same, placed_told}
+use Rattle.service.proofs.Places.{placed_further, placed_same, placed_told}
 use Rattle.service.proofs.together.Together.pause.Goals as goal
 
 pub returns-clause-keeps : goal.returns-clause-keeps
