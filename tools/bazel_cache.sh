@@ -7,7 +7,7 @@
 set -euo pipefail
 case ${1:-} in
 -h | --help) sed -n '2,/^[^#]/s/^# //p' "$0"; exit ;;
-?*) echo "error: ${0##*/} takes no words but --help" >&2; exit 2 ;;
+?*) echo "error: ${0##*/} takes no arguments but --help" >&2; exit 2 ;;
 esac
 top=$(cd "$(dirname "${BASH_SOURCE[0]}")/.." && pwd)
 program=${BUILDCACHE:-$top/buildcache}

@@ -2,8 +2,8 @@
 """Turns Bazel's execution log into what `buildcache verify` asks for.
 
     bazel clean
-    bazel build --execution_log_json_file=build.json //pages:release
-    bazel_plan.py build.json asked
+    bazel build --remote_cache= --disk_cache= --execution_log_json_file=build.json //pages:release
+    bazel_plan.py build.json asked --refuse-cached
 
 LOG is the file of Bazel's `--execution_log_json_file`: JSON objects one after another, one for each spawn (a command
 that Bazel ran). FOLDER gets these files:
@@ -48,6 +48,15 @@ def check_store(steps, store):
             spawn.refuse(f'the store has another result of its action, "{store.place("ac", spawn.action.hash)}"')
 
 
+def check_ran(steps):
+    """Refuses steps whose outputs came from a cache: the record would say what the cache gave, not what they came to."""
+    cached = [it for it in steps.spawns if it.is_from_cache]
+    if cached:
+        count = f"{len(cached)} of {len(steps.spawns)} steps" if len(cached) > 1 else "this step"
+        first = min(cached, key=lambda it: it.number)
+        first.refuse(f"it came from a cache ({count}): build with --remote_cache= and --disk_cache= after `bazel clean`")
+
+
 def write(made, folder, store):
     """Writes all: the blobs before the results that refer to them, then the files of FOLDER, and the claim last."""
     made.steps.store.put_into(store)
@@ -74,8 +83,8 @@ def parse(words):
     stores.add_options(parser)
     parser.add_argument(
         "--outputs", metavar="PATTERN", nargs="+", action="extend", default=[],
-        help="what the artifact has: each output whose path has a PATTERN, in which * (also for /), ? and [..] are as in a "
-        "shell. Without it: with --artifact the files of that, else every output (below PATH)",
+        help="what the artifact has: each output whose path has a PATTERN, in which *, ? and [..] are as in a shell, and * "
+        "matches / too. Without it: with --artifact the files of that, else every output (below PATH)",
     )
     parser.add_argument(
         "--below", metavar="PATH", action=command_line.Once, type=command_line.place_of,
@@ -83,21 +92,25 @@ def parse(words):
     )
     parser.add_argument(
         "--artifact", metavar="SHIPPED", action=command_line.Once, type=command_line.place_of,
-        help="claim the tree of this folder on disk, in place of what the log has. Without --outputs the artifact has what that "
-        "folder has, so that a file which it lacks isn't missed; with --below PATH the last line counts these",
+        help="claim the tree of this folder on disk, in place of what the log has. Without --outputs the artifact has what "
+        "that folder has, so nothing refuses a file that it lacks; with --below PATH the last line counts such files",
     )
     parser.add_argument(
         "--drop-timeouts", action="store_true",
-        help="take spawns with a timeout, as tests have, as steps without one; they are refused else",
+        help="take spawns with a timeout, as tests have, as steps without one; by default they are refused",
+    )
+    parser.add_argument(
+        "--refuse-cached", action="store_true",
+        help="refuse the log if a step of the plan came from a cache; by default such steps are counted (from-cache N)",
     )
     parser.add_argument(
         "--all", action="store_true",
-        help="keep the spawns of which nothing of the artifact that --outputs or --artifact says is made",
+        help="keep the spawns from which nothing of the artifact is made; with --outputs or --artifact they are left out by default",
     )
     parser.add_argument(
         "--stages", metavar="STEPS", nargs="?", type=command_line.number_to(MOST_STEPS), const=MOST_STEPS, action=command_line.Once,
-        help="one plan a stage, each of so many steps at most (by default, and at most, as many as a plan holds); a build that "
-        "one plan doesn't hold is written so without being asked",
+        help=f"write stages, each a plan of at most STEPS steps (1 to {MOST_STEPS}, which is the default); a build too large for "
+        "one plan is written in stages without this option, too",
     )
     return parser.parse_args(words)
 
@@ -144,6 +157,8 @@ def make(options, store):
         artifact = read_artifact(options.artifact)
     try:
         steps = read_steps(options, below, artifact)
+        if options.refuse_cached:
+            check_ran(steps)
         builds, are_stages = builds_of(steps, options.stages)
         check_sizes(steps.store, {"plan": max((it.plan for it in builds), key=length)})
         check_store(steps, store)

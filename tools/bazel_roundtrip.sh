@@ -6,7 +6,7 @@
 set -euo pipefail
 case ${1:-} in
 -h | --help) sed -n '2,/^[^#]/s/^# //p' "$0"; exit ;;
-?*) echo "error: ${0##*/} takes no words but --help" >&2; exit 2 ;;
+?*) echo "error: ${0##*/} takes no arguments but --help" >&2; exit 2 ;;
 esac
 top=$(cd "$(dirname "${BASH_SOURCE[0]}")/.." && pwd)
 program=${BUILDCACHE:-$top/buildcache}
@@ -26,8 +26,11 @@ mkdir "$work/many"
 cp -r "$top/examples/bazel" "$work/ws"
 rm -f "$work/ws"/bazel-* # (the links of a Bazel that ran there)
 
-built() { bazel "$1" "$2" --jobs=1 --execution_log_json_file="$work/log.json" "${@:3}" >"$work/out" 2>&1 || { cat "$work/out"; exit 1; }; }
-turn() { rm -rf "$work/asked" && "$top/tools/bazel_plan.py" "$work/log.json" "$work/asked" "$@"; }
+built() {
+  bazel "$1" "$2" --jobs=1 --remote_cache= --disk_cache= --execution_log_json_file="$work/log.json" "${@:3}" >"$work/out" 2>&1 \
+    || { cat "$work/out"; exit 1; }
+}
+turn() { rm -rf "$work/asked" && "$top/tools/bazel_plan.py" "$work/log.json" "$work/asked" --refuse-cached "$@"; }
 judge() {
   "$program" verify --store "$work/asked/store" --sources "$(cat "$work/asked/sources")" --plan "$work/asked/plan" \
     --record "$work/asked/record" --claim "$(cat "$work/asked/claim")" || true
@@ -81,6 +84,14 @@ echo "== another file in the artifact"
 echo more >>"$work/shipped/list.txt"
 turn "${shipped[@]}"
 expect "no root cause root-differs *"
+
+echo "== a build of which each step came from a cache"
+for _ in fill take; do
+  bazel ws clean 2>"$work/out"
+  built ws build --disk_cache="$work/disk" //pages:release
+done
+if turn 2>"$work/out"; then echo "bazel_roundtrip: expected a refusal" >&2; exit 1; fi
+grep 'it came from a cache' "$work/out"
 
 echo "== with its tests"
 bazel ws clean 2>"$work/out"

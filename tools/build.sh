@@ -6,7 +6,7 @@
 set -euo pipefail
 case ${1:-} in
 -h | --help) sed -n '2,/^[^#]/s/^# //p' "$0"; exit ;;
-?*) echo "error: ${0##*/} takes no words but --help" >&2; exit 2 ;;
+?*) echo "error: ${0##*/} takes no arguments but --help" >&2; exit 2 ;;
 esac
 command -v rt >/dev/null || { echo "error: rt, the Rattle kit's command, isn't found; README.md says which kit" >&2; exit 3; }
 top=$(cd "$(dirname "${BASH_SOURCE[0]}")/.." && pwd)

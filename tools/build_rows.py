@@ -1,12 +1,13 @@
 #!/usr/bin/env python3
 """Tries `build` with real processes, over the program's own server: build_rows.py PROGRAM
 
-Steps that make a file, end with a code, name their program badly, make what is no output, read an input, and wait for each
-other, and such as can't be opened, started or laid out; processes that come to nothing; links and folders at an output path,
-what a step writes beside its files, and what it is given; lines whose directories merge, and that don't; the second build of a
-plan, which runs nothing, one that goes on where a signal ended it, and two at once; two steps of one action; the `verify` of
-each record; folders that can't be those of the jobs; what stands at the record's path; and texts that can't be read. It
-prints a line for each row, and ends with status 1 where one failed. Nothing outside this machine is asked.
+Steps that make a file, end with an exit code, name no program by an absolute path, make what is no output, read an input, and
+wait for each other; steps that can't be opened, started or laid out; processes that come to nothing; links and folders at an
+output path, what a step writes beside its files, and what it is given; lines whose directories merge, and that don't; the
+second build of a plan, which runs nothing, a build that goes on where a signal ended it, and two builds at once; two steps of
+one action; the `verify` of each record; folders that can't be those of the jobs; what stands at the record's path; and texts
+that can't be read. It prints a line for each row, and ends with status 1 where one failed. Nothing outside this machine is
+asked.
 """
 
 import concurrent.futures
@@ -389,7 +390,7 @@ def rows_of_hints(builds):
     builds.rows.tell("a record that ends with CR LF", told.returncode == 2 and told.stderr.endswith(b"; the line ends with CR LF\n"), told)
     stores.write_file(f"{place}/record", b"buildrecord 1\n")
     told = builds.run("verify", "--store", f"{place}/none", *words[:-1], MADE)
-    note = f'note: "{place}/none": there is no such folder\n'.encode()
+    note = f'note: "{place}/none": there is no such folder, so what is missing from it says nothing about the build\n'.encode()
     builds.rows.tell("a no over a store folder that isn't there is noted", (told.returncode, told.stderr) == (1, note), told)
     told = builds.run("verify", "--store", f"{place}/work", *words[:-1], MADE)
     builds.rows.tell("and over one that is there it isn't", (told.returncode, told.stderr) == (1, b""), told)

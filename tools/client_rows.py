@@ -228,7 +228,7 @@ def try_other_trees(builds):
     blob = builds.put(NINE)
     unlike = get_into(builds, blob, f"{place}/file")
     expect_got(builds, "the digest of a file", unlike, "", 3)
-    said = f"error: {builds.address}: get of blob {blob}: not a Directory; the bytes of a file are got without --into\n"
+    said = f"error: {builds.address}: get of blob {blob}: not a Directory; leave out --into to get a file's bytes\n"
     builds.rows.tell("and it is told how those bytes are got", unlike.stderr == said.encode(), unlike)
     outside = {"l": Link("../../plan"), "m": Link("/etc"), "x": File(Digest.of(NINE))}
     made = {"l": "../../plan", "m": "/etc", "x": (NINE, True)}

@@ -20,7 +20,7 @@ class Parser(argparse.ArgumentParser):
         super().__init__(prog=prog, description=first, epilog=rest, formatter_class=argparse.RawDescriptionHelpFormatter)
 
     def error(self, message):
-        complain(f"error: {on_one_line(message)}; --help tells the words")
+        complain(f"error: {on_one_line(message)}; see --help")
         sys.exit(2)
 
 

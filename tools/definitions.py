@@ -1,7 +1,7 @@
 #!/usr/bin/env python3
 """Prints what the words of contracts mean: definitions.py [CRATE .. | WORD ..]
 
-Without words it prints each file of definitions (crates/*/specs), lowest crate first, with what it is about and its public
+Without arguments it prints each file of definitions (crates/*/specs), lowest crate first, with what it is about and its public
 words. With a CRATE it prints each of the crate's public words, its comment and its file. With a WORD (or `CRATE.WORD`, where
 a word stands in two crates) it prints the definition whole. The status is 1 where a word stands nowhere.
 """

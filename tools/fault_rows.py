@@ -1,9 +1,9 @@
 #!/usr/bin/env python3
-"""Tries the program where memory is refused and where calls of the system fail: fault_rows.py PROGRAM
+"""Tries the program with refused memory and failing system calls: fault_rows.py PROGRAM
 
 The program is started with a small library (faults.c) that has one thing fail: the Nth request for memory, that request and
-all after it, or the Nth call of the system, for a reason of its own or since it is interrupted. Small runs of each command are
-tried so for every N from 1 on until nothing fails any more. Each has to end soon, by itself, with its right answer, or with
+all after it, or the Nth system call, with an error of that call or as interrupted. Small runs of each command are tried so
+for every N from 1 on until nothing fails any more. Each has to end soon, by itself, with its right answer, or with
 status 3, one line of an error and at most a part of it; a build that failed leaves no record, and is built when asked again. A
 server has to send no answer but the right ones; where one thing fails it ends at most a connection, and serves the next. It
 prints a line for each command and kind of fault with how many there were, and ends with status 1 where one wasn't told. Without

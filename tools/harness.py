@@ -282,7 +282,8 @@ def message_from(stream):
 
 
 class Keeper:
-    """A cache over HTTP that checks nothing: it keeps what is put, in `held` by path, and refuses the paths in `refused`."""
+    """A cache over HTTP that checks nothing: it keeps what is put, in `held` by path, answers `taken`, and refuses the paths in
+    `refused`."""
 
     class Handler(http.server.BaseHTTPRequestHandler):
         protocol_version = "HTTP/1.1"
@@ -296,7 +297,7 @@ class Keeper:
             is_refused = self.path in self.server.keeper.refused
             if not is_refused:
                 self.server.keeper.held[self.path] = content
-            self.answer(507 if is_refused else 201, b"")
+            self.answer(507 if is_refused else self.server.keeper.taken, b"")
 
         def answer(self, status, content):
             self.send_response(status)
@@ -308,7 +309,7 @@ class Keeper:
             pass
 
     def __init__(self):
-        self.held, self.refused = {}, set()
+        self.held, self.refused, self.taken = {}, set(), 201
         self.server = http.server.ThreadingHTTPServer((LOCAL, 0), self.Handler)
         self.server.keeper = self
         self.address = f"{LOCAL}:{self.server.server_address[1]}"

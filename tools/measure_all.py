@@ -1,9 +1,9 @@
 #!/usr/bin/env python3
 """Measures the tables and times of docs/PERFORMANCE.md, each beside its peer in turns: measure_all.py PROGRAM [PART ..]
 
-Each part runs the tools that measure one thing, under their command lines, and says how many seconds they took. What is written
-for a while stands in memory (/dev/shm). First it prints the day, the machine and its load, which is to be near 0. The parts, in
-their order, all where none is named:
+Each part prints the command lines of the tools that measure one thing, runs them, and says how many seconds they took. Temporary
+files are in memory (/dev/shm). First it prints the day, the machine and its load, which should be near 0. The parts, in their
+order (without a PART it runs all):
 
 server: serve_speed.py, one connection beside nginx; many: it over 100 and over one by `wrk`; put: 300 MB beside sha256sum;
 build: measure_build.py beside xargs; verify: measure_verify.py, whose kinds have sha256sum beside them; benchmark: the program

@@ -2,8 +2,8 @@
 """Times a build of many steps of /bin/true, 4 at once, against xargs -P4 over as many processes: measure_build.py PROGRAM [N [TURNS]]
 
 They take turns, each build over a server of its own. Each step has a command of its own, so that each runs a process;
-a second build takes each result from the server. It prints the seconds of each turn, the least of each, and how many
-times as long as xargs the build took at the least.
+a second build takes each result from the server. It prints the seconds of each turn, the least time of each kind, and the
+build's least time divided by that of xargs.
 """
 
 import os

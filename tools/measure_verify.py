@@ -6,10 +6,12 @@
     ./measure_verify.py ../crates/buildcache/out/buildcache sources 1024 2048 4096
     ./measure_verify.py ../crates/buildcache/out/buildcache meeting 16384 32768 65536
 
-`steps`: so many steps, each of which has 16 files of the step before it and makes a directory of 16 files.
-`outputs`: one step that makes a directory of so many files, and a root of as many lines, one for each.
-`sources`: a source directory of so many files, and a root of as many lines, one for each.
-`meeting`: a root of so many lines, of which half put a directory somewhere, and each other one a file into one of these;
+The builds of each number N:
+
+`steps`: N steps, each of which reads 16 files of the step before it and makes a directory of 16 files.
+`outputs`: one step that makes a directory of N files, and a root of N lines, one for each file.
+`sources`: a source directory of N files, and a root of N lines, one for each file.
+`meeting`: a root of N lines, of which half put a directory somewhere, and each other one a file into one of these;
 `apart`: as many lines, whose files stand beside the directories, in a plan of version 1;
 `repeated`: as many lines, of which half put a file into one directory, and then each other one puts that directory there;
 `layers`: as many lines, each of which puts another directory of one file at one path.

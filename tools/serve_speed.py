@@ -5,9 +5,9 @@ GET and PUT of blobs of four sizes over one keep-alive connection each, in turns
 size and kind, so that both meet the same machine. nginx serves WebDAV from memory (/dev/shm). Each PUT is of a blob
 that the server doesn't hold yet. It prints requests a second, the best turn of each.
 
-With CONNECTIONS it measures GETs over so many connections at once by `wrk`, of blobs of three sizes, in three turns of SECONDS:
-`serve --at-once`, nginx, and over one connection also `serve` as it is. It needs nginx, wrk for the latter, and the program built
-(crates/buildcache/out/buildcache).
+With CONNECTIONS it measures GETs by `wrk` over that many connections at once, of blobs of three sizes, in three turns of
+SECONDS: of `serve --at-once`, of nginx, and over one connection also of `serve` without it. It needs nginx, with CONNECTIONS
+also wrk, and the built program (crates/buildcache/out/buildcache).
 """
 
 import hashlib

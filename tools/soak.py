@@ -7,9 +7,9 @@ the model's, bytes and all. Connections are closed and opened at random, in the 
 nothing. After every 10,000 requests results are pinned until blobs and results are refused for want of room (507);
 it goes on so for 2,000 requests, and then all are unpinned.
 
-Then it does as much with 50 connections at `serve --at-once 64`: up to five of them at a time ask for one to three things
-each, in pieces that come mixed, and their answers have to be those of the model in some order of the requests that keeps
-the order of each connection.
+Then it does the same with 50 connections at `serve --at-once 64`: up to five of them at a time send one to three requests
+each, in pieces that arrive interleaved. Their answers have to be those of the model for some order of the requests that keeps
+the order within each connection.
 
 Then a cache of 1,024 blobs is filled to its limit, a tenth of it pinned, and as many blobs are put three times over;
 every blob that was ever put is asked for. The rest is pinned, until nothing more is taken. Then come clients that

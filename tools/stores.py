@@ -76,7 +76,7 @@ class ServerStore:
 
     def put(self, part, name, content):
         status, _ = self.ask("PUT", part, name, content)
-        if status not in (200, 201, 204):
+        if status not in (200, 201, 202, 204):
             raise NotAnswered(f"PUT {self.place(part, name)}: the server answers {status}")
 
     def close(self):

@@ -4,9 +4,9 @@
     verify_stages.py asked --jobs 4
 
 FOLDER has the file `stages` with the name of a folder a line, each with a plan, a record, sources and a claim. The sources of
-the first stage have to be those in FOLDER, the sources of each other the claim of the one before, and the last claim that in
-FOLDER. Then the verdicts compose: where each is yes, whoever builds the stages one after another from these sources, each from
-what came of the one before, ends in exactly that claim.
+the first stage have to be those in FOLDER, the sources of each later stage the claim of the stage before, and the last claim
+the one in FOLDER. Then the verdicts compose: if each is yes, whoever builds the stages one after another, the first from these
+sources and each later one from what the stage before ended in, ends in exactly the claim in FOLDER.
 
 The last line is `yes CLAIM stages N steps M`, or the no of the first stage that has one, as `no stage K step NAME cause ..`.
 The status is that of `verify`: 0 yes, 1 no, 2 a file is at fault, 3 no verdict.
@@ -120,7 +120,7 @@ def parse(words):
     parser = command_line.Parser("verify_stages.py", __doc__)
     stores.add_options(parser, "the folder with the stages")
     parser.add_argument(
-        "--jobs", metavar="J", type=command_line.number_to(64), default=1, action=command_line.Once, help="so many at once, 1 to 64"
+        "--jobs", metavar="J", type=command_line.number_to(64), default=1, action=command_line.Once, help="stages verified at once, 1 to 64 (default 1)"
     )
     return parser.parse_args(words)
 

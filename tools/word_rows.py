@@ -86,7 +86,7 @@ def try_missing(words):
     words.refuse("no words", 2, [])
     words.refuse("an unknown command", 2, ["verfy"], "verfy")
     words.refuse("the word help", 2, ["help"], "tip: '--help' prints")
-    words.refuse("verify by itself: the place too", 2, ["verify"], "--server <ADDR> or --store <FOLDER>")
+    words.refuse("verify by itself: the place too", 2, ["verify"], "one of --server <ADDR> and --store <FOLDER>")
     for command, (needed, others, own) in COMMANDS.items():
         for option in needed:
             words.refuse(f"{command} without --{option}", 2, words_of(command, without=option), f"--{option}")

@@ -1,8 +1,8 @@
 #!/usr/bin/env python3
-"""Writes a Bazel workspace of so many genrules: many_steps.py FOLDER [COUNT]. Each rule reads a source file and the
+"""Writes a Bazel workspace of COUNT genrules: many_steps.py FOLDER [COUNT]. Each rule reads a source file and the
 outputs of up to three rules before it; every tenth one makes two files. Nothing is fetched.
 
-many_steps.py --log FILE [COUNT [CHANGED]] writes a log as Bazel would of a build of so many spawns, each of which reads 30
+many_steps.py --log FILE [COUNT [CHANGED]] writes a log as Bazel would of a build of COUNT spawns, each of which reads 30
 files: tools that all spawns share, sources of its package, and outputs of spawns before it. The spawn of number CHANGED, from
 1 on, has read something else than the spawn before it made."""
 

@@ -290,7 +290,7 @@ class Artifacts(Shipping):
             with self.assertRaises(SystemExit) as ended, contextlib.redirect_stderr(io.StringIO()) as err:
                 bazel_plan.parse(["log", "asked", option, "1", option, "1"])
             self.assertEqual(ended.exception.code, 2)
-            self.assertEqual(err.getvalue(), f"error: {option} is given twice; --help tells the words\n")
+            self.assertEqual(err.getvalue(), f"error: {option} is given twice; see --help\n")
 
     def test_nothing_is_written_into_the_artifact(self):
         self.ship({"bin/a": "bin/a"})
@@ -309,7 +309,7 @@ class Artifacts(Shipping):
         for name, words in rows.items():
             with self.assertRaises(SystemExit) as ended, contextlib.redirect_stderr(io.StringIO()) as err:
                 bazel_plan.main(words)
-            self.assertEqual((ended.exception.code, err.getvalue()), (2, f"error: argument {name}: '' is no path; --help tells the words\n"))
+            self.assertEqual((ended.exception.code, err.getvalue()), (2, f"error: argument {name}: '' is no path; see --help\n"))
         self.assertTrue(os.path.exists("claim"))
 
     def test_names_are_utf8_in_every_locale(self):

@@ -54,6 +54,13 @@ class Servers(Case):
         self.server.refused.add(path)
         self.fail_to_write(f"{path}: the server answers 507", *self.words)
 
+    def test_what_a_server_answers_where_it_keeps_what_is_put(self):
+        for self.server.taken in (200, 201, 202, 204):
+            self.turn(log(spawn({}, ["a"])), *self.words)
+        shutil.rmtree(self.at("asked"))
+        self.server.taken = 203
+        self.fail_to_write("the server answers 203", *self.words)
+
     def test_a_server_that_is_not_there(self):
         self.fail_to_write("GET http://127.0.0.1:1/ac/", "--server", "127.0.0.1:1")
 
@@ -140,6 +147,15 @@ class Refusals(Case):
             with contextlib.redirect_stderr(err):
                 self.assertEqual(bazel_plan.main([self.at("log"), self.at("asked")]), 2)
             self.assertIn(reason, err.getvalue())
+
+    def test_steps_from_a_cache_where_each_has_to_have_run(self):
+        ran, hit = log(spawn({}, ["a"])), spawn({"c": "c"}, ["b"], remoteCacheHit=True)
+        text = ran + log(hit, spawn({}, ["c"], cacheHit=True))
+        place = f'log": line {1 + ran.count(chr(10))}: spawn "Making b": it came from a cache'
+        self.refuse(f"{place} (2 of 3 steps): build with --remote_cache= and", text, "--refuse-cached")
+        self.refuse(f"{place} (this step): build with", ran + log(hit), "--refuse-cached")
+        self.assertEqual(self.call(text, "--refuse-cached", "--outputs", "a")[1].splitlines()[-1], "steps 1 taken 0 left-out 2")
+        self.turn(text)
 
     def test_an_output_that_two_spawns_made(self):
         self.refuse('it made the output "a", and so did line 1: spawn "Making a"', log(spawn({}, ["a"]), spawn({"x": ""}, ["a"])))

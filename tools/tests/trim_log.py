@@ -1,5 +1,5 @@
 #!/usr/bin/env python3
-"""Writes Bazel's execution log without what a plan doesn't need, a spawn a line: trim_log.py LOG OUTPUT_BASE.
+"""Writes Bazel's execution log without what a plan doesn't need, one spawn a line: trim_log.py LOG OUTPUT_BASE.
 
 OUTPUT_BASE is what `bazel info output_base` says; /bazel is written in its place."""
 

@@ -34,7 +34,7 @@ impl<A: Allocator + Copy> Output<A> {
         ensures called { Calls (Asks 1) (S.tells source.old) (S.tells source.new)
             (IsErrOf result TreeError.Fetch) }
         ensures only { AsksNoOther (OutputLooksAt (recorded_value recorded.now))
-            (S.tells source.old).blobs (S.tells source.new).blobs }
+            (S.tells source.old) (S.tells source.new) }
         ensures unasked { IsWithoutTree (recorded_value recorded.now)
             → S.tells source.new ≡ S.tells source.old }
         // A file takes no memory.
@@ -60,7 +60,7 @@ impl<A: Allocator + Copy> Output<A> {
         ensures called { Calls (Asks 1) (S.tells source.old) (S.tells source.new)
             (IsErrOf result TreeError.Fetch) }
         ensures only { AsksNoOther (OutputLooksAt (recorded_value recorded.now))
-            (S.tells source.old).blobs (S.tells source.new).blobs }
+            (S.tells source.old) (S.tells source.new) }
         ensures unasked { IsWithoutTree (recorded_value recorded.now)
             → S.tells source.new ≡ S.tells source.old }
         // A file takes no memory.
@@ -99,7 +99,7 @@ fn read_outputs<A: Allocator + Copy, S: BlobSource<A>>(
     ensures called { Calls (Asks (length (directories_among (recorded_values recorded.now))))
         (S.tells source.old) (S.tells source.new) (IsErrOf result TreeError.Fetch) }
     ensures only { AsksNoOther (TreesLookAt (directories_among (recorded_values recorded.now)))
-        (S.tells source.old).blobs (S.tells source.new).blobs }
+        (S.tells source.old) (S.tells source.new) }
     ensures few { StopsAtFault (directories_among (recorded_values recorded.now))
         (S.tells source.old) (S.tells source.new) }
 {
@@ -127,7 +127,7 @@ pub fn recorded<A: Allocator + Copy, S: BlobSource<A>>(
         (S.tells source.old) (S.tells source.new) (IsErrOf result TreeError.Fetch) }
     // No blob is asked for but the Trees of the result's directories.
     ensures only { AsksNoOther (TreesLookAt made.now.directories)
-        (S.tells source.old).blobs (S.tells source.new).blobs }
+        (S.tells source.old) (S.tells source.new) }
     ensures few { StopsAtFault made.now.directories (S.tells source.old) (S.tells source.new) }
 {
     let recorded = made.outputs(alloc)?;

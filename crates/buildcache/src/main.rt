@@ -30,6 +30,7 @@ fn main(rt: HostRuntime) -> ExitCode {
         Ok(Some(words)) => ExitCode::from(run_words(
             &rt,
             &System(&rt),
+            System(&rt),
             words.as_slice(),
             &mut rt.stdout(),
             &mut rt.stderr(),

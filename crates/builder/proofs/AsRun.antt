@@ -1,5 +1,5 @@
 -- The calls of a build are the events of a run.
-use Rattle.std.proofs.Common.{◌≡◌, ℕ, List, [], ◌∷◌, ◌++◌, Some, refl, ap, sym, ◌∙◌, subst, inl, inr}
+use Rattle.std.proofs.Common.{◌≡◌, suc, ℕ, List, [], ◌∷◌, ◌++◌, Some, refl, ap, sym, ◌∙◌, subst, arith, inl, inr}
 use Rattle.std.specs.Prelude.{◌⊎◌, Contains}
 use Rattle.std.proofs.lemmas.Option.{slice_get_within}
 use Rattle.blob_digest.specs.Digest.{DigestValue}
@@ -93,12 +93,12 @@ module _ (A : Type 0) (y : Yields) (told : Telling) where
         by (inl (inr (m, is, value, directory, inside, spelled))) = inl (inr (m, is, more (tree_bytes m) value, directory, inside, spelled))
         by (inr other) = inr other
 
-    mirrored : (B : Blobs) (e : EngineValue) → ((b : List ℕ) → IsValue B b → IsValue told.blobs b) → (h : IsAt e) → Grown e last → IsMirrored B e t meaning X h.events h.state
+    mirrored : (B : Blobs) (e : EngineValue) → ((b : List ℕ) → IsValue B b → IsValue told.blobs b) → (h : IsAt e) → Grown e last → IsMirrored B e (record { tree = t; meaning = meaning; table = X; events = h.events; now = h.state })
     mirrored B e more h grown = record {
       ordered = about.ordered;
       fits = subst (λ p. MeaningFits p meaning) (sym h.plan_is) about.fits;
       table = about.table;
-      run = subst (λ p. IsRun X p meaning t opening h.events h.state) (sym h.plan_is) h.run;
+      happened = subst (λ p. IsRun X p meaning t opening h.events h.state) (sym h.plan_is) h.run;
       mirrors = h.mirrors;
       apart = λ a b one other same. about.apart h.events h.state h.run a b (concerned B e h.events more h.plan_is grown a one) (concerned B e h.events more h.plan_is grown b other) same;
     }
@@ -119,11 +119,11 @@ module _ (A : Type 0) (y : Yields) (told : Telling) where
     started_at : (i id : ℕ) (old new : EngineValue) → WasStarted A told.blobs i id old new → (h : IsAt old) → Grown old last → IsAt new
     started_at i id old new w h grown =
         let is : IsStarted told.blobs i old new w.job = started_still w.told told.blobs i old new w.job w.still w.is in
-        let event = (started_event told.blobs i old new w.job (subst IsPlan (sym h.plan_is) valid) h.engine is).of_run t meaning X h.events h.state (mirrored told.blobs old (λ b value. value) h grown) in
+        let event = (started_event told.blobs i old new w.job (subst IsPlan (sym h.plan_is) valid) h.engine is).of_run (record { tree = t; meaning = meaning; table = X; events = h.events; now = h.state }) (mirrored told.blobs old (λ b value. value) h grown) in
         let j : JobValue = record { step = i; action = w.job.digest; input = w.job.action.input } in
         next_at old new h
         (subst IsEngine (sym is.after) (started_engine old w.job.id j h.engine is.least is.few (slice_get_within old.plan.steps i is.prepared.planned is.prepared.at)))
-        (ap (λ (e : EngineValue). e.plan) is.after) (start i w.job.id) tt event.3 event.4 event.5
+        (ap (λ (e : EngineValue). e.plan) is.after) (start i w.job.id) tt event.3.0 event.3.1 event.3.2
 
     finished_at : (id : ℕ) (d : DigestValue) (v : OutcomeValue) (old new : EngineValue) → (f : IsFinished id v old new) → f.job.action ≡ d → FinishedWith all d v → (h : IsAt old) → Grown old last → IsAt new
     finished_at id d v old new f action with_it h grown =
@@ -131,12 +131,12 @@ module _ (A : Type 0) (y : Yields) (told : Telling) where
         let digest : d ≡ action_digest job.0.1 = sym action ∙ ap (λ (j : JobValue). j.action) job.2 in
         let says = about.says h.events h.state h.run id job.0 job.1 v (subst (λ e. FinishedWith all e v) digest with_it) in
         let obeys : Obeys X h.state (finish id says.0) = λ other at. subst (λ (q : ℕ × ActionMeaning). Contains X (q.1, says.0)) (one_answer (job_of id h.state) job.0 other job.1 at) says.1 in
-        let event = (finish_event old new id v h.engine f).of_run t meaning X h.events h.state (mirrored nothing_told old nothing h grown) says.0 obeys says.2 in
+        let event = (finish_event old new id v h.engine f).of_run (record { tree = t; meaning = meaning; table = X; events = h.events; now = h.state }) (mirrored nothing_told old nothing h grown) says.0 obeys says.2 in
         next_at old new h (subst IsEngine (sym f.after) (finished_is_engine old id f.job v h.engine f.is f.taken)) (ap (λ (e : EngineValue). e.plan) f.after) (finish id says.0) obeys event.0 event.1 event.2
 
     lost_at : (id : ℕ) (j : JobValue) (old new : EngineValue) → job_in id old ≡ Some j → new ≡ without_job id old → (h : IsAt old) → Grown old last → IsAt new
     lost_at id j old new at gone h grown =
-        let event = (lost_event old id j at).of_run t meaning X h.events h.state (mirrored nothing_told old nothing h grown) in
+        let event = (lost_event old id j at).of_run (record { tree = t; meaning = meaning; table = X; events = h.events; now = h.state }) (mirrored nothing_told old nothing h grown) in
         subst IsAt (sym gone) (next_at old (without_job id old) h (lost_engine old id h.engine) refl (lose id) tt event.0 event.1 event.2)
 
     -- ---- all calls
@@ -147,16 +147,13 @@ module _ (A : Type 0) (y : Yields) (told : Telling) where
     does_at : (later : List Call) (c : Call) → AreAmong (c ∷ later) → (old new : EngineValue) → Does A y told later c old new → IsAt old → Grown old last → IsAt new
     does_at later (started i id) up old new w h grown = started_at i id old new w h grown
     does_at later (launched id d x) up old new w h grown = subst IsAt (sym w.same) h
-    does_at later (ran id d v) up old new w h grown = finished_at id d v old new w.finished w.action (up d v (inl (refl, refl))) h grown
-    does_at later (taken id d v) up old new w h grown = finished_at id d v old new w.finished w.action (up d v (inl (refl, refl))) h grown
+    does_at later (ran id d v) up old new w h grown = finished_at id d v old new w.finished w.action (up d v (inl (id, (0, omega arith, refl)))) h grown
+    does_at later (taken id d v) up old new w h grown = finished_at id d v old new w.finished w.action (up d v (inr (id, (0, omega arith, refl)))) h grown
     does_at later (lost id) up old new (j, at, gone) h grown = lost_at id j old new at gone h grown
 
     behind : (c : Call) (cs : List Call) → AreAmong (c ∷ cs) → AreAmong cs
-    behind (started i id) cs up d v h = up d v h
-    behind (launched id e x) cs up d v h = up d v h
-    behind (ran id e w) cs up d v h = up d v (inr h)
-    behind (taken id e w) cs up d v h = up d v (inr h)
-    behind (lost id) cs up d v h = up d v h
+    behind c cs up d v (inl (id, (k, lt, is))) = up d v (inl (id, (suc k, omega (arith, lt), is)))
+    behind c cs up d v (inr (id, (k, lt, is))) = up d v (inr (id, (suc k, omega (arith, lt), is)))
 
     leads_at : (cs : List Call) → AreAmong cs → (e : EngineValue) → Leads A y told most cs e last → IsAt e → IsAt last
     leads_at [] up e same h = subst IsAt (sym same) h

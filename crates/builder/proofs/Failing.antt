@@ -8,8 +8,8 @@ use Rattle.runs.specs.declared.error.OpenError.TheVariants as opening
 use Rattle.runs.specs.declared.error.RunsError.TheVariants as runs
 use Rattle.tree.specs.declared.error.TreeError.TheVariants as tree
 use Rattle.worker.specs.Counted.{Counts, IsFetch, IsDevice}
-use Rattle.worker.specs.declared.error.Refusal.{Refusal}
-use Rattle.worker.specs.declared.error.Refusal.TheVariants as refusals
+use Rattle.worker.specs.declared.error.StepRefusal.{StepRefusal}
+use Rattle.worker.specs.declared.error.StepRefusal.TheVariants as refusals
 use Rattle.worker.specs.declared.laid.LayoutError.TheVariants as layouts
 use Rattle.worker.specs.declared.runner.RunError.TheVariants as children
 use Rattle.worker.proofs.Failures.{counts_as, counts_no}
@@ -23,7 +23,7 @@ use Rattle.builder.specs.declared.fault.Place.{Place}
 
 module _ {A : Type 0} (place : Place) where
   -- a fault tells of a failure of the store, or of the runner, where the refusal does
-  tells : (r : Refusal A) → (IsStoreFailure (of_refusal place r) ≡ IsFetch r) × (IsRunnerFailure (of_refusal place r) ≡ IsDevice r)
+  tells : (r : StepRefusal A) → (IsStoreFailure (of_refusal place r) ≡ IsFetch r) × (IsRunnerFailure (of_refusal place r) ≡ IsDevice r)
   tells (refusals.Engine (runs.Source tree.Fetch)) = (refl, refl)
   tells (refusals.Engine (runs.Source (tree.Absent p))) = (refl, refl)
   tells (refusals.Engine (runs.Source (tree.BlobMissing d))) = (refl, refl)
@@ -58,14 +58,14 @@ module _ {A : Type 0} (place : Place) where
   tells refusals.Fetch = (refl, refl)
   tells refusals.Memory = (refl, refl)
 
-  pub counts_refusal : {a b : ℕ} (r : Refusal A) → Counts a b (IsFetch r) → Counts a b (IsStoreFailure (of_refusal place r))
+  pub counts_refusal : {a b : ℕ} (r : StepRefusal A) → Counts a b (IsFetch r) → Counts a b (IsStoreFailure (of_refusal place r))
   counts_refusal {a} {b} r h = subst (Counts a b) (sym (tells r).0) h
 
-  pub device_refusal : (r : Refusal A) → IsRunnerFailure (of_refusal place r) → IsDevice r
+  pub device_refusal : (r : StepRefusal A) → IsRunnerFailure (of_refusal place r) → IsDevice r
   device_refusal r h = subst (λ F. F) (tells r).1 h
 
 module _ {A : Type 0} {a b : ℕ} where
-  pub counts_device : (place : Place) (r : Refusal A) → Counts a b (IsDevice r) → Counts a b (IsRunnerFailure (of_refusal place r))
+  pub counts_device : (place : Place) (r : StepRefusal A) → Counts a b (IsDevice r) → Counts a b (IsRunnerFailure (of_refusal place r))
   counts_device place r h = subst (λ F. Counts a b F) (sym (tells place r).1) h
 
   pub counts_opening : {T : Type 0} (e : OpenError A) → Counts a b ((i : ℕ) × IsErrOf {T = T} (Err e) (opening.Source i tree.Fetch)) → Counts a b (IsStoreFailure (of_opening e))

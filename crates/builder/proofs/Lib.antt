@@ -1,6 +1,5 @@
 pub mod Serving
 pub mod Refusing
-pub mod Within
 mod Failing
 mod Staying
 mod AsRun

@@ -223,7 +223,7 @@ module _ (A : Type 0) (y : Yields) (most : ℕ) (plan : PlanValue) (sources : Di
       let one = lines_together ls of_plan in
       (one.0, subst (λ xs. (merged told.blobs xs).passes one.0) (resolves_once told.blobs last.sources (outcomes_in last.finished) (valid_outcomes last engine) ls one.1.0 xs one.1.1 r) one.1.2)
 
-  module _ (t : Tree Leaf) (meaning : Meaning) (X : List (ActionMeaning × Outcome)) (es : List Event) (s : State) (k : IsMirrored told.blobs last t meaning X es s) where
+  module _ (t : Tree Leaf) (meaning : Meaning) (X : List (ActionMeaning × Outcome)) (es : List Event) (s : State) (k : IsMirrored told.blobs last (record { tree = t; meaning = meaning; table = X; events = es; now = s })) where
     abbrev S : List ℕ → Type 0
     S = IsConcernedIn told.blobs last meaning t es
 
@@ -284,5 +284,5 @@ module _ (A : Type 0) (y : Yields) (most : ℕ) (plan : PlanValue) (sources : Di
 
   pub answered : IsAnsweredYes A told last b
   answered = record {
-    of_run = λ t meaning X es s k apart. end.served.of_run told t meaning X es s b.noted.digests k k kept (serves t meaning X es s k apart);
+    of_run = λ run k apart. end.served.of_run told run b.noted.digests k k kept (serves run.tree run.meaning run.table run.events run.now k apart);
   }

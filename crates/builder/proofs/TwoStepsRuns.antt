@@ -1,12 +1,13 @@
 -- The build of two steps meets what is said of a build: its jobs finished with what the table says, and no two different blobs concerned share a digest.
 use Rattle.std.proofs.Common.{◌≡◌, ℕ, zero, suc, true, false, List, Some, refl, ap, sym, ◌∙◌, subst, arith, inl, inr}
-use Rattle.std.specs.Prelude.{Contains, bytes_eq}
+use Rattle.std.specs.Prelude.{◌⊎◌, Contains, bytes_eq}
 use Rattle.std.proofs.lemmas.Slice.Eq.{bytes_eq-Decides}
 use Rattle.hex.specs.Hex.{decode_pairs}
 use Rattle.blob_digest.specs.Digest.{DigestValue, NoClash}
 use Rattle.messages.specs.Tree.{tree_bytes}
 use Rattle.actions.specs.declared.outcome.Output.TheVariants as outputs
 use Rattle.actions.specs.Outcome.{OutcomeValue, OutputValue}
+use Rattle.actions.proofs.TreeLookups.{all_at}
 use Rattle.tree.specs.Tree.{Name}
 use Rattle.verifier.specs.Build.{ActionMeaning, action_digest, Outcome, Event, State, opening, IsRun}
 use Rattle.verifier.specs.TwoSteps as two
@@ -19,6 +20,7 @@ use Rattle.runs.specs.Engine.{FinishedValue, finished_in}
 use Rattle.runs.specs.Mirrors.{IsFormOf, IsConcernedIn}
 use Rattle.runs.specs.TwoSteps as example
 use Rattle.runs.proofs.TwoStepsServed.{in_engine, gen_form, use_form}
+use Rattle.worker.specs.Calls.{Call, ran, taken}
 use Rattle.worker.specs.Stored.{IsToldOrTree}
 use Rattle.worker.specs.TwoSteps as worked
 use Rattle.builder.specs.AsRun.{FinishedWith, IsAbout}
@@ -48,19 +50,27 @@ unlike same =
     let clash : true ≡ false = sym equal ∙ digests_differ in
     cc
 
+-- a call that finishes a job takes what one of the two steps came to
+abbrev IsOfTwo : Call → Type 0
+IsOfTwo (ran id d v) = ⊥
+IsOfTwo (taken id d v) = ((d ≡ two.gen_action_digest) × (v ≡ example.gen_outcome)) ⊎ ((d ≡ two.use_action_digest) × (v ≡ example.use_outcome))
+IsOfTwo c = Unit {0}
+
+of_two : (d : DigestValue) (v : OutcomeValue) → FinishedWith worked.calls d v → IsOfTwo (taken 0 d v)
+of_two d v (inl (id, at)) = absurd (all_at IsOfTwo worked.calls (ran id d v) (tt, (inl (refl, refl), (tt, (inr (refl, refl), tt)))) at)
+of_two d v (inr (id, at)) = all_at IsOfTwo worked.calls (taken id d v) (tt, (inl (refl, refl), (tt, (inr (refl, refl), tt)))) at
+
 says : (job : ℕ × ActionMeaning) (w : ℕ) → IsOwnJob (w, job) → (v : OutcomeValue) → FinishedWith worked.calls (action_digest job.1) v → (o : Outcome) × Contains two.table (job.1, o) × IsFormOf v o
-says job w (inl is) v h = subst (λ (j : ℕ × ActionMeaning). (o : Outcome) × Contains two.table (j.1, o) × IsFormOf v o) (sym is) (by (subst (λ (j : ℕ × ActionMeaning). FinishedWith worked.calls (action_digest j.1) v) is h))
+says job w (inl is) v h = subst (λ (j : ℕ × ActionMeaning). (o : Outcome) × Contains two.table (j.1, o) × IsFormOf v o) (sym is) (by (of_two _ v (subst (λ (j : ℕ × ActionMeaning). FinishedWith worked.calls (action_digest j.1) v) is h)))
   where
-    by : FinishedWith worked.calls (action_digest two.gen.0) v → (o : Outcome) × Contains two.table (two.gen.0, o) × IsFormOf v o
+    by : IsOfTwo (taken 0 (action_digest two.gen.0) v) → (o : Outcome) × Contains two.table (two.gen.0, o) × IsFormOf v o
     by (inl (named, same)) = (two.gen.1, (0, omega arith, refl), subst (λ (v : OutcomeValue). IsFormOf v two.gen.1) (sym same) gen_form)
-    by (inr (inl (named, same))) = absurd (unlike (sym gen_digest ∙ named))
-    by (inr (inr none)) = absurd none
-says job w (inr is) v h = subst (λ (j : ℕ × ActionMeaning). (o : Outcome) × Contains two.table (j.1, o) × IsFormOf v o) (sym is) (by (subst (λ (j : ℕ × ActionMeaning). FinishedWith worked.calls (action_digest j.1) v) is h))
+    by (inr (named, same)) = absurd (unlike (sym gen_digest ∙ named))
+says job w (inr is) v h = subst (λ (j : ℕ × ActionMeaning). (o : Outcome) × Contains two.table (j.1, o) × IsFormOf v o) (sym is) (by (of_two _ v (subst (λ (j : ℕ × ActionMeaning). FinishedWith worked.calls (action_digest j.1) v) is h)))
   where
-    by : FinishedWith worked.calls (action_digest two.uses.0) v → (o : Outcome) × Contains two.table (two.uses.0, o) × IsFormOf v o
+    by : IsOfTwo (taken 0 (action_digest two.uses.0) v) → (o : Outcome) × Contains two.table (two.uses.0, o) × IsFormOf v o
     by (inl (named, same)) = absurd (unlike (sym named ∙ use_digest))
-    by (inr (inl (named, same))) = (two.uses.1, (1, omega arith, refl), subst (λ (v : OutcomeValue). IsFormOf v two.uses.1) (sym same) use_form)
-    by (inr (inr none)) = absurd none
+    by (inr (named, same)) = (two.uses.1, (1, omega arith, refl), subst (λ (v : OutcomeValue). IsFormOf v two.uses.1) (sym same) use_form)
 
 -- ---- the build is about this
 

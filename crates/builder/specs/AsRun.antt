@@ -1,5 +1,5 @@
 -- That a build is a run, by its list of calls.
-use Rattle.std.specs.Prelude.{◌≡◌, ◌⊎◌, ℕ, List, [], ◌∷◌, Some, Contains}
+use Rattle.std.specs.Prelude.{◌≡◌, ◌⊎◌, ℕ, List, Some, Contains}
 use Rattle.blob_digest.specs.Digest.{DigestValue, NoClash}
 use Rattle.blob_source.specs.Source.{Blobs}
 use Rattle.actions.specs.Outcome.{OutcomeValue}
@@ -10,14 +10,11 @@ use Rattle.tree.specs.Tree.{Tree, Leaf, IsOrdered}
 use Rattle.tree.specs.Form.{form, root}
 use Rattle.verifier.specs.Build.{Meaning, ActionMeaning, action_digest, Outcome, Event, State}
 use Rattle.verifier.specs.Build.{opening, job_of, MeaningFits, IsTable, IsRun}
-use Rattle.worker.specs.Calls.{Call, ran, taken}
+use Rattle.worker.specs.Calls.{Call, taken, CameTo}
 
 -- among the calls a job of the action finished with the outcome
 abbrev pub FinishedWith : List Call → DigestValue → OutcomeValue → Type 0
-FinishedWith [] d v = ⊥
-FinishedWith (ran id e w ∷ cs) d v = ((d ≡ e) × (v ≡ w)) ⊎ FinishedWith cs d v
-FinishedWith (taken id e w ∷ cs) d v = ((d ≡ e) × (v ≡ w)) ⊎ FinishedWith cs d v
-FinishedWith (c ∷ cs) d v = FinishedWith cs d v
+FinishedWith calls d v = CameTo calls d v ⊎ ((id : ℕ) × Contains calls (taken id d v))
 
 -- What the build is about: sources with the digest, what the steps mean, and a table that says of
 -- each action of a run an outcome of the form that a job of it finished with. No two different
@@ -41,4 +38,5 @@ pub record IsARun (B : Blobs) (last : EngineValue) (t : Tree Leaf) (meaning : Me
     (X : List (ActionMeaning × Outcome)) : Type 0 where
   pub events : List Event
   pub state : State
-  pub mirrored : IsMirrored B last t meaning X events state
+  pub mirrored : IsMirrored B last
+      (record { tree = t; meaning = meaning; table = X; events = events; now = state })

@@ -1,6 +1,5 @@
 -- What a build came to.
 use Rattle.std.specs.Prelude.{◌≡◌, ◌+◌, ◌*◌, ◌<◌, ◌≤◌, ◌++◌, ℕ, List, [], length, Option, Some}
-use Rattle.std.specs.Prelude.{None}
 use Rattle.std.specs.Prelude.{Result, Ok, Err}
 use Rattle.std.specs.Result.{IsErrAnd}
 use Rattle.std.specs.List.{AllByRecursion}
@@ -14,15 +13,14 @@ use Rattle.runs.specs.Calls.{recorded_build}
 use Rattle.runs.specs.Engine.{EngineValue}
 use Rattle.runs.specs.Looking.{together_in}
 use Rattle.runs.specs.LooksAt.{RootNeeds}
-use Rattle.runs.specs.Mirrors.{IsMirrored}
+use Rattle.runs.specs.Mirrors.{IsMirrored, EngineRun}
 use Rattle.runs.specs.Served.{IsServedYes}
 use Rattle.runs.specs.declared.error.OpenError.{OpenError}
 use Rattle.runs.specs.declared.error.RunsError.{RunsError}
 use Rattle.tree.specs.Folded.{first_visits}
 use Rattle.tree.specs.Form.{NodeValue, root}
 use Rattle.tree.specs.Memo.{Asked, Covers}
-use Rattle.tree.specs.Tree.{Tree, Leaf}
-use Rattle.verifier.specs.Build.{Meaning, ActionMeaning, Outcome, Event, State}
+use Rattle.tree.specs.Tree.{Tree}
 use Rattle.verifier.specs.Verdict.{IsVerdict}
 use Rattle.verifier.specs.declared.verdict.Verdict.TheVariants.{Yes}
 use Rattle.worker.specs.Calls.{Call, AreTurns, IsBuiltWith, came_of}
@@ -30,7 +28,7 @@ use Rattle.worker.specs.Counted.{Counts}
 use Rattle.worker.specs.Outcomes.{Yields}
 use Rattle.worker.specs.Steps.{IsActionOf, IsOfBuild}
 use Rattle.worker.specs.Stopped.{IsRefusedBuild}
-use Rattle.worker.specs.Stored.{IsToldOrTree, IsStored, KeepsOthers}
+use Rattle.worker.specs.Stored.{IsToldOrTree, IsStored, KeepsAllBut}
 use Rattle.worker.specs.Values.{Starts, StartsNone}
 use Rattle.worker.specs.Watching.{FinishInOrder, IsProgress, IsWatched, turns_in}
 use Rattle.worker.specs.declared.watching.Progress.{Progress}
@@ -66,8 +64,7 @@ pub record IsEnd (A : Type 0) (last : EngineValue) (told : Telling) (b : BuiltVa
 -- of the blobs that are told and of the Trees of the steps share a digest.
 pub record IsAnsweredYes (A : Type 0) (told : Telling) (last : EngineValue)
     (b : BuiltValue) : Type 0 where
-  pub of_run : (t : Tree Leaf) (meaning : Meaning) (X : List (ActionMeaning × Outcome))
-      (es : List Event) (s : State) → IsMirrored told.blobs last t meaning X es s
+  pub of_run : (run : EngineRun) → IsMirrored told.blobs last run
       → NoClash (IsToldOrTree told.blobs last)
       → IsVerdict {A = A} told last.sources last.plan b.noted.digests b.root
       (Yes b.root (length last.plan.steps))
@@ -96,10 +93,6 @@ seen store started alive failed heard = record {
   heard = heard;
 }
 
--- a store that tells this, where nothing is said of the runner and of the watcher
-abbrev pub store_alone : Telling → Seen
-store_alone told = seen told (λ children. Unit {0}) 0 0 None
-
 module _ (A : Type 0) (yields : Yields) (most : ℕ) (plan : PlanValue) (sources : DigestValue)
     (old new : Seen) where
   -- A build of the plan: an engine was opened by what the store told as it was asked, for a frame
@@ -122,7 +115,7 @@ module _ (A : Type 0) (yields : Yields) (most : ℕ) (plan : PlanValue) (sources
     pub of_plan : last.plan ≡ plan
     pub of_sources : last.sources ≡ sources
     -- what stands under the digest of no blob that the build has to put stays
-    pub blobs : KeepsOthers (IsOfBuild A yields ending.blobs last) opening.blobs ending.blobs
+    pub blobs : KeepsAllBut (IsOfBuild A yields ending.blobs last) opening.blobs ending.blobs
     -- each result was put under the action of a step of the plan
     pub own : AllByRecursion (λ d. (i : ℕ) × IsActionOf A ending.blobs last i d) led.built.puts.put
     pub watched : IsWatched (IsProgress A yields ending most first led.built.led.calls)

@@ -6,8 +6,8 @@ use Rattle.runs.specs.declared.error.RunsError.{RunsError}
 use Rattle.runs.specs.declared.error.RunsError.TheVariants as runs
 use Rattle.tree.specs.declared.error.TreeError.{TreeError}
 use Rattle.tree.specs.declared.error.TreeError.TheVariants as tree
-use Rattle.worker.specs.declared.error.Refusal.{Refusal}
-use Rattle.worker.specs.declared.error.Refusal.TheVariants as refusals
+use Rattle.worker.specs.declared.error.StepRefusal.{StepRefusal}
+use Rattle.worker.specs.declared.error.StepRefusal.TheVariants as refusals
 use Rattle.worker.specs.declared.laid.LayoutError.{LayoutError}
 use Rattle.worker.specs.declared.laid.LayoutError.TheVariants as layouts
 use Rattle.worker.specs.declared.runner.RunError.{RunError}
@@ -65,7 +65,7 @@ of_run place (children.Device program cause) = Device place
 of_run place (children.BadOutput path) = Refused place 114
 of_run place children.Memory = Memory
 
-abbrev pub of_refusal : {A : Type 0} → Place → Refusal A → Fault
+abbrev pub of_refusal : {A : Type 0} → Place → StepRefusal A → Fault
 of_refusal place (refusals.Engine e) = of_runs place e
 of_refusal place (refusals.Layout e) = of_layout place e
 of_refusal place (refusals.Run e) = of_run place e

@@ -12,8 +12,8 @@ use Rattle.runs.specs.declared.error.RunsError.{RunsError}
 use Rattle.runs.specs.declared.error.RunsError.TheVariants as runs
 use Rattle.tree.specs.declared.error.TreeError.{TreeError}
 use Rattle.tree.specs.declared.error.TreeError.TheVariants as tree
-use Rattle.worker.specs.declared.error.Refusal.{Refusal}
-use Rattle.worker.specs.declared.error.Refusal.TheVariants as refusals
+use Rattle.worker.specs.declared.error.StepRefusal.{StepRefusal}
+use Rattle.worker.specs.declared.error.StepRefusal.TheVariants as refusals
 use Rattle.worker.specs.declared.laid.LayoutError.{LayoutError}
 use Rattle.worker.specs.declared.laid.LayoutError.TheVariants as layouts
 use Rattle.worker.specs.declared.runner.RunError.{RunError}
@@ -69,7 +69,7 @@ child_words (children.Device program cause) = codes "the process failed"
 child_words (children.BadOutput path) = about_path (codes "path") path (codes "is no output")
 child_words children.Memory = codes "out of memory"
 
-abbrev pub refusal_words : {A : Type 0} → Refusal A → List ℕ
+abbrev pub refusal_words : {A : Type 0} → StepRefusal A → List ℕ
 refusal_words (refusals.Engine error) = runs_words error
 refusal_words (refusals.Layout error) = layout_words error
 refusal_words (refusals.Run error) = child_words error

@@ -7,7 +7,7 @@ use runs::{OpenError, RunsError};
 use std::alloc::Allocator;
 use thiserror::Error;
 use tree::TreeError;
-use worker::{LayoutError, Refusal, RunError};
+use worker::{LayoutError, RunError, StepRefusal};
 
 /// Where a build was refused.
 #[derive(Clone, Copy, Debug, PartialEq, Eq)]
@@ -114,15 +114,15 @@ fn of_run<A: Allocator>(place: Place, error: &RunError<A>) -> Fault
 }
 
 /// The fault of a step.
-fn of_refusal<A: Allocator>(place: Place, refusal: &Refusal<A>) -> Fault
+fn of_refusal<A: Allocator>(place: Place, refusal: &StepRefusal<A>) -> Fault
     ensures { result ≡ of_refusal place refusal.now }
 {
     match refusal {
-        Refusal::Engine(error) => of_runs(place, error),
-        Refusal::Layout(error) => of_layout(place, error),
-        Refusal::Run(error) => of_run(place, error),
-        Refusal::Fetch => Fault::Fetch(place),
-        Refusal::Memory => Fault::Memory,
+        StepRefusal::Engine(error) => of_runs(place, error),
+        StepRefusal::Layout(error) => of_layout(place, error),
+        StepRefusal::Run(error) => of_run(place, error),
+        StepRefusal::Fetch => Fault::Fetch(place),
+        StepRefusal::Memory => Fault::Memory,
     }
 }
 

@@ -19,8 +19,7 @@ pub enum Told<A: Allocator> {
     /// It came to its root.
     Built {
         line: String<A>,
-        /// The record's text.
-        noted: Vec<u8, A>,
+        record_text: Vec<u8, A>,
         /// The Directories of its tree that putting it together made, that of its root first. The
         /// store has those that the steps' outputs and the sources brought.
         directories: Vec<Vec<u8, A>, A>,
@@ -48,7 +47,7 @@ fn tell_root<A: Allocator + Copy>(
     } = built;
     Ok(Told::Built {
         line: built_line(alloc, &root, plan)?,
-        noted: noted.write(alloc)?,
+        record_text: noted.write(alloc)?,
         directories,
     })
 }

@@ -13,7 +13,7 @@ use plan::{Plan, write_path};
 use runs::{OpenError, RunsError};
 use std::alloc::{AllocError, Allocator};
 use tree::TreeError;
-use worker::{LayoutError, Refusal, RunError};
+use worker::{LayoutError, RunError, StepRefusal};
 
 /// What is wrong with the blob.
 fn about_blob<A: Allocator + Copy>(
@@ -127,16 +127,16 @@ fn child_words<A: Allocator + Copy, B: Allocator>(
 
 fn refusal_words<A: Allocator + Copy, B: Allocator>(
     alloc: A,
-    refusal: &Refusal<B>,
+    refusal: &StepRefusal<B>,
 ) -> Result<String<A>, AllocError>
     ensures { IfOk result (λ text. string_bytes text ≡ refusal_words refusal.now) }
 {
     match refusal {
-        Refusal::Engine(error) => runs_words(alloc, error),
-        Refusal::Layout(error) => layout_words(alloc, error),
-        Refusal::Run(error) => child_words(alloc, error),
-        Refusal::Fetch => String::from_str(alloc, "the store failed"),
-        Refusal::Memory => String::from_str(alloc, "out of memory"),
+        StepRefusal::Engine(error) => runs_words(alloc, error),
+        StepRefusal::Layout(error) => layout_words(alloc, error),
+        StepRefusal::Run(error) => child_words(alloc, error),
+        StepRefusal::Fetch => String::from_str(alloc, "the store failed"),
+        StepRefusal::Memory => String::from_str(alloc, "out of memory"),
     }
 }
 

@@ -1,10 +1,10 @@
 -- Signed numbers and their two's complement in 64 bits.
-use Rattle.std.proofs.Common.{◌≡◌, ℕ, zero, suc, ◌+◌, ◌-◌, ◌*◌, ◌/◌, ◌%◌, ◌^◌, ◌<◌, ◌≤◌, Bool, true, false, ltb, not, ◌||◌, length, refl, sym, ap, ◌∙◌, arith, inl, inr}
+use Rattle.std.proofs.Common.{◌≡◌, ℕ, zero, suc, ◌+◌, ◌-◌, ◌*◌, ◌/◌, ◌%◌, ◌^◌, ◌<◌, ◌≤◌, Bool, true, false, ltb, not, ◌||◌, length, refl, arith}
 use Rattle.std.specs.Prelude.{ℤ, pos, negsuc, FitsSigned, ◌<ℤ◌}
 use Rattle.std.specs.Int.{w32, w64, cast_signed, cast_unsigned}
 use Rattle.std.proofs.lemmas.Int.{ints, to_z-of_z, of_z-to_z, to_z_pos}
 use Rattle.std.proofs.Math.Facts.{to_z-neg, sfits_to_z}
-use Rattle.std.proofs.lemmas.Bool.{le-ltb, lt-ltb, ltb-false, cases_lt}
+use Rattle.std.proofs.lemmas.Bool.{le-ltb, lt-ltb}
 use Rattle.wire.specs.Varint.{groups, varint}
 
 pub fits_wide : (z : ℤ) → FitsSigned w32 z → FitsSigned w64 z
@@ -38,25 +38,6 @@ int32_back (negsuc n) f = high_bits n f.sfits
 
 abbrev pub fits_int32 : ℕ → Bool
 fits_int32 n = ltb n 0x8000_0000 || not (ltb n 0xffff_ffff_8000_0000)
-
-or_second : (a b : Bool) → a ≡ false → (a || b) ≡ true → b ≡ true
-or_second true b is h = absurd cc
-or_second false b is h = h
-
-not_false : (b : Bool) → not b ≡ true → b ≡ false
-not_false true h = absurd cc
-not_false false h = refl
-
-pub int32_again : (n : ℕ) → n < 2 ^ 64 → fits_int32 n ≡ true → cast_unsigned w64 (cast_signed w32 (n % 2 ^ 32)) ≡ n
-int32_again n lt fits =
-    elim (cases_lt n 0x8000_0000) [
-      | inl low ↦ ap (cast_unsigned w64) (low_bits n low)
-      | inr high ↦
-          let big : 0xffff_ffff_8000_0000 ≤ n = ltb-false _ _ (not_false _ (or_second (ltb n 0x8000_0000) (not (ltb n 0xffff_ffff_8000_0000)) (le-ltb n 0x8000_0000 high) fits)) in
-          let k = 18446744073709551615 - n in
-          let is : n ≡ 18446744073709551616 - suc k = omega arith in
-          ap (λ (m : ℕ). cast_unsigned w64 (cast_signed w32 (m % 2 ^ 32))) is ∙ ap (cast_unsigned w64) (high_bits k (omega arith)) ∙ sym is
-    ]
 
 pub int32_in_range : (z : ℤ) → FitsSigned w32 z → fits_int32 (cast_unsigned w64 z) ≡ true
 int32_in_range (pos n) f = let low = lt-ltb n 0x8000_0000 f.sfits in rw low refl

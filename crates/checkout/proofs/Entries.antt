@@ -95,7 +95,7 @@ module _ {F W : Type 0} (works : FolderWorks F) (tried : W → Tried) (first : W
 
   pub next_one : {A : Type 0} {told m n : Telling} {es left : List (List Name × FlatEntry A)} {p : List Name} {x : FlatEntry A} (old mid new : F) (before after : W) (place : List ℕ) → es ≡ (p, x) ∷ left → Grows m.blobs n.blobs
       → place ≡ place_below folder (path_text p) → SoFar works (Tries tried first before) told m old mid folder all (path_values es) → MakesEntry works n.blobs mid new place (entry_value x) → Tries tried before after (place ∷ [])
-      → n.calls ≤ m.calls + contents_at (entry_value x) → AsksNoOther (EntryLooksAt (entry_value x)) m.blobs n.blobs → SoFar works (Tries tried first after) told n old new folder all (path_values left)
+      → n.calls ≤ m.calls + contents_at (entry_value x) → AsksNoOther (EntryLooksAt (entry_value x)) m n → SoFar works (Tries tried first after) told n old new folder all (path_values left)
   next_one {told = told} {m} {n} {left = left} {p} {x} old mid new before after place steps grows at yet one call few only =
       let s = entry_value x in
       let so_far = left_is steps yet in
@@ -121,7 +121,7 @@ module _ {F W : Type 0} (works : FolderWorks F) (tried : W → Tried) (first : W
   -- the next one isn't written
   pub next_fails : {A : Type 0} {told m n : Telling} {es left : List (List Name × FlatEntry A)} {p : List Name} {x : FlatEntry A} (refuses : Refuses) (old mid : F) (before after : W) (place : List ℕ) (e : CheckoutError A) → es ≡ (p, x) ∷ left → Grows m.blobs n.blobs
       → place ≡ place_below folder (path_text p) → SoFar works (Tries tried first before) told m old mid folder all (path_values es) → FailsOneEntry refuses (Tries tried before after) n.blobs place (entry_value x) e
-      → n.calls ≤ m.calls + contents_at (entry_value x) → AsksNoOther (EntryLooksAt (entry_value x)) m.blobs n.blobs → FailsEntries (IsGained works old) refuses (Tries tried first after) (AsksContents told n) n.blobs folder all e
+      → n.calls ≤ m.calls + contents_at (entry_value x) → AsksNoOther (EntryLooksAt (entry_value x)) m n → FailsEntries (IsGained works old) refuses (Tries tried first after) (AsksContents told n) n.blobs folder all e
   next_fails {told = told} {m} {n} {left = left} {p} {x} refuses old mid before after place e steps grows at yet fails few only =
       let so_far = left_is steps yet in
       record {

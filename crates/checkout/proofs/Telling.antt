@@ -28,8 +28,8 @@ use Rattle.checkout.specs.Written.AsksEachOnce.{in_entries}
 
 -- ---- what isn't asked for
 
-pub asks_nothing : {looks : Asked → Type 0} {B : Blobs} → AsksNoOther looks B B
-asks_nothing = record { same = λ d not. refl }
+pub asks_nothing : {looks : Asked → Type 0} {t : Telling} → AsksNoOther looks t t
+asks_nothing = record { blobs = λ d not. refl; results = λ d not. refl }
 
 -- the content of an entry that stands among others
 pub entry_looks : (done left : FlatValue) (p : List Name) (s : Standing NodeValue) (all : FlatValue) (a : Asked) → all ≡ done ++ (p, s) ∷ left → EntryLooksAt s a → EntriesLookAt all a
@@ -53,7 +53,7 @@ contents_more e es = sum_by-cons (λ (e : List Name × Standing NodeValue). cont
 pub contents_none : (t : Telling) → AsksContents t t []
 contents_none t = record { few = omega arith; only = asks_nothing }
 
-pub contents_then : {told : Telling} (m n : Telling) (done : FlatValue) (p : List Name) (s : Standing NodeValue) → AsksContents told m done → n.calls ≤ m.calls + contents_at s → AsksNoOther (EntryLooksAt s) m.blobs n.blobs
+pub contents_then : {told : Telling} (m n : Telling) (done : FlatValue) (p : List Name) (s : Standing NodeValue) → AsksContents told m done → n.calls ≤ m.calls + contents_at s → AsksNoOther (EntryLooksAt s) m n
     → AsksContents told n (done ++ (p, s) ∷ [])
 contents_then m n done p s h few only =
     let sum = sum_by-append (λ (e : List Name × Standing NodeValue). contents_at e.1) done ((p, s) ∷ []) in
@@ -73,7 +73,7 @@ contents_among some left whole h =
     }
 
 -- for a tree, and then for entries of it
-pub tree_then : {d : DigestValue} {new : Telling} {entries : FlatValue} (old mid : Telling) (tree : FlatValue) → Grows mid.blobs new.blobs → mid.calls ≤ old.calls + 1 + directories_in tree → AsksNoOther (UnfoldLooksAt mid.blobs d) old.blobs mid.blobs
+pub tree_then : {d : DigestValue} {new : Telling} {entries : FlatValue} (old mid : Telling) (tree : FlatValue) → Grows mid.blobs new.blobs → mid.calls ≤ old.calls + 1 + directories_in tree → AsksNoOther (UnfoldLooksAt mid.blobs d) old mid
     → AsksContents mid new entries → AsksUpTo d old new (of_entries tree entries)
 tree_then {d = d} old mid tree grows few only next = (omega (arith, few, next.few), others_then (λ a h. inl (unfold_still d a grows h)) (λ a h. inr h) only next.only)
 
@@ -81,7 +81,7 @@ tree_then {d = d} old mid tree grows few only next = (omega (arith, few, next.fe
 pub asks_files : {d : DigestValue} {tree : FlatValue} (old new : Telling) → IsUnfolded new.blobs d tree → AsksUpTo d old new (of_entries tree tree) → AsksEachOnce d old new
 asks_files {tree = tree} old new told h = in_entries tree told h.0
 
-pub tree_looked : {d : DigestValue} {tree : FlatValue} (old new : Telling) → IsUnfolded new.blobs d tree → AsksUpTo d old new (of_entries tree tree) → AsksNoOther (CheckoutLooksAt new.blobs d) old.blobs new.blobs
+pub tree_looked : {d : DigestValue} {tree : FlatValue} (old new : Telling) → IsUnfolded new.blobs d tree → AsksUpTo d old new (of_entries tree tree) → AsksNoOther (CheckoutLooksAt new.blobs d) old new
 tree_looked {d} {tree} old new told h = others_more by h.1
   where
     by : (a : Asked) → UnfoldLooksAt new.blobs d a ⊎ EntriesLookAt tree a → CheckoutLooksAt new.blobs d a

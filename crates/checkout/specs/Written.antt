@@ -95,7 +95,7 @@ pub data AsksEachOnce (d : DigestValue) (old new : Telling) : Type 0 where
 -- The contents of these entries were asked for, each at most once, and nothing else was.
 pub record AsksContents (old new : Telling) (entries : FlatValue) : Type 0 where
   pub few : new.calls ≤ old.calls + contents_in entries
-  pub only : AsksNoOther (EntriesLookAt entries) old.blobs new.blobs
+  pub only : AsksNoOther (EntriesLookAt entries) old new
 
 -- how far a check-out came: to Directories of its tree; or it had the tree, and came to these of
 -- the entries
@@ -107,10 +107,10 @@ pub data Reach : Type 0 where
 -- and the contents of those entries.
 abbrev pub AsksUpTo : DigestValue → Telling → Telling → Reach → Type 0
 AsksUpTo d old new of_tree = AsksDirectories new.blobs d old new
-    × AsksNoOther (UnfoldLooksAt new.blobs d) old.blobs new.blobs
+    × AsksNoOther (UnfoldLooksAt new.blobs d) old new
 AsksUpTo d old new (of_entries tree entries) =
     (new.calls ≤ old.calls + 1 + directories_in tree + contents_in entries)
-    × AsksNoOther (λ a. UnfoldLooksAt new.blobs d a ⊎ EntriesLookAt entries a) old.blobs new.blobs
+    × AsksNoOther (λ a. UnfoldLooksAt new.blobs d a ⊎ EntriesLookAt entries a) old new
 
 -- nothing is said of what was asked for
 abbrev pub asked_somehow : Reach → Type 0

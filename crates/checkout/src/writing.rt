@@ -54,7 +54,7 @@ fn read_content<A: Allocator + Copy, S: BlobSource<A>>(
         (IsErrOf result CheckoutError.Fetch) }
     ensures unasked { digest.now ≡ empty_digest → S.tells source.new ≡ S.tells source.old }
     ensures only { AsksNoOther (LooksAtBlob digest.now)
-        (S.tells source.old).blobs (S.tells source.new).blobs }
+        (S.tells source.old) (S.tells source.new) }
 {
     match fetch_content(alloc, source, digest) {
         Ok(content) => Ok(content),
@@ -98,7 +98,7 @@ fn read_tree<A: Allocator + Copy, S: BlobSource<A>>(
     ensures called { Called (S.tells source.old) (S.tells source.new)
         (IsErrOf result CheckoutError.Fetch) }
     ensures only { AsksNoOther (UnfoldLooksAt (S.tells source.new).blobs root.now)
-        (S.tells source.old).blobs (S.tells source.new).blobs }
+        (S.tells source.old) (S.tells source.new) }
 {
     match unfold(alloc, root, source) {
         Ok(tree) => Ok(tree),
@@ -134,7 +134,7 @@ fn write_entry<A: Allocator + Copy, S: BlobSource<A>, W: FolderWriter>(
     ensures called { Called (S.tells source.old) (S.tells source.new)
         (IsErrOf result CheckoutError.Fetch) }
     ensures only { AsksNoOther (EntryLooksAt (entry_value entry.now))
-        (S.tells source.old).blobs (S.tells source.new).blobs }
+        (S.tells source.old) (S.tells source.new) }
 {
     match entry {
         FlatEntry::Dir => {
@@ -213,7 +213,7 @@ pub fn check_out<A: Allocator + Copy, S: BlobSource<A>, W: FolderWriter>(
         (IsErrOf result CheckoutError.Fetch) }
     // No blob is asked for but the tree's Directories and its files' contents.
     ensures only { AsksNoOther (CheckoutLooksAt (S.tells source.new).blobs root.now)
-        (S.tells source.old).blobs (S.tells source.new).blobs }
+        (S.tells source.old) (S.tells source.new) }
 {
     let tree = read_tree(alloc, root, source)?;
     let entries = tree.into_entries(alloc)?;

@@ -1,5 +1,5 @@
 -- What a build tells is that of some build of the plan, and why it tells nothing.
-use Rattle.std.proofs.Common.{◌≡◌, ◌<◌, Bool, false, true, ap, if◌then◌else◌, List, [], Result, Ok, Err, Option, Some, None, ℕ, arith, inl, inr, refl, subst, string_bytes, sym}
+use Rattle.std.proofs.Common.{◌≡◌, ◌<◌, Bool, false, true, ap, if◌then◌else◌, List, [], Result, Err, Option, Some, None, ℕ, arith, inl, inr, refl, subst, string_bytes, sym}
 use Rattle.std.specs.Bool.{Decides}
 use Rattle.std.specs.Prelude.{IsSome, bytes_eq, codes, unwrap_or}
 use Rattle.std.proofs.lemmas.Slice.Eq.{bytes_eq-Decides}
@@ -8,67 +8,69 @@ use Rattle.clap.specs.Words.{Row, first_of}
 use Rattle.command_lines.specs.CommandLine.{IsSet, option_text}
 use Rattle.commands.specs.Faults.{OrMemory}
 use Rattle.commands.specs.Options.{decimal_number}
-use Rattle.commands.specs.Places.{FailsOver, FailsToConnect, IsConnected, IsToldOver, puts_too}
-use Rattle.commands.proofs.Placed.{of_options, opened_to}
-use Rattle.commands.specs.Printed.{IsOfOptions}
+use Rattle.commands.specs.Places.{FailsOver, FailsToConnect, IsConnected, IsFresh, IsToldOver, puts_too}
+use Rattle.commands.proofs.Tellings.{none_unasked}
+use Rattle.commands.proofs.Placed.{opened_to}
+use Rattle.commands.specs.Printed.{IsConnectedTo}
 use Rattle.commands.specs.Words.{AllValid, IsUpTo}
 use Rattle.commands.specs.World.{Sight}
 use Rattle.commands.specs.declared.error.CommandError.{CommandError}
-use Rattle.std.proofs.Math.Logic.{∥∥₁_map}
 use Rattle.std.specs.declared.alloc.Global.{Global}
 use Rattle.blob_digest.specs.Digest.{DigestValue}
-use Rattle.blob_source.specs.Source.{Telling}
-use Rattle.builder.proofs.Within.{told_within}
+use Rattle.blob_source.specs.Memory.{TellsNothing}
 use Rattle.builder.specs.Built.{Seen}
 use Rattle.builder.specs.Telling.{IsBuildTold}
 use Rattle.builder.specs.declared.error.BuildPlanError.{BuildPlanError}
 use Rattle.builder.specs.declared.error.BuildPlanError.TheVariants.{Step}
 use Rattle.builder.specs.declared.telling.Told.{Told}
-use Rattle.builder.specs.declared.telling.Told.TheVariants.{Built, Failed}
 use Rattle.plan.specs.Values.{PlanValue}
 use Rattle.processes.specs.declared.disk.ChildErrors.TheVariants.{Discarded, Shown}
 use Rattle.remote.specs.Line.{ConnectionValue}
-use Rattle.worker.specs.Outcomes.{Yields, YieldsNoMore}
-use Rattle.worker.specs.declared.error.Refusal.TheVariants.{Run}
+use Rattle.remote.specs.Remote.{blobs_of, results_of, telling_of}
+use Rattle.remote.specs.declared.remote.Remote.{Remote}
+use Rattle.worker.specs.Outcomes.{Yields}
+use Rattle.worker.specs.declared.error.StepRefusal.TheVariants.{Run}
 use Rattle.worker.specs.declared.runner.RunError.TheVariants.{Device}
-use Rattle.cli.specs.Built.{Below, HoldsRoot, IsReadOf, IsToldBy, IsToldOf, StartsBuild, TellsAsked, build_words, errors_asked, jobs_asked}
-use Rattle.cli.specs.declared.building.Asked.{Asked}
+use Rattle.cli.proofs.Within.{IsRunBelow, told_below}
+use Rattle.cli.specs.Built.{Below, IsReadOf, IsToldBy, IsToldOf, Processes, StartsBuild, TellsAsked, at_first, at_last, build_words, errors_asked, jobs_asked}
+use Rattle.cli.specs.declared.building.BuildRequest.{BuildRequest}
 use Rattle.cli.specs.Refused.{FailsBuild, FailsTelling, ReachesServer, StopsAtProcess, TellsProcess}
 use Rattle.cli.specs.Running.{EndsFor}
 use Rattle.cli.specs.declared.building.Stopped.{Stopped}
 use Rattle.cli.specs.Refused.FailsBuild.{in_connection, in_memory, in_process, in_request}
 
-module _ (source : Telling → Type 0) (plan : PlanValue) (sources : DigestValue) (most : ℕ) (old new : Seen) (before : ∥ source old.store ∥₁) (after : ∥ source new.store ∥₁)
-    (z yields : Yields) (within : YieldsNoMore z yields) where
-  pub told_as : (r it : Result (Told Global) (BuildPlanError Global)) → IsBuildTold z most plan sources old new r → r ≡ it → IsToldBy source yields most plan sources it
-  told_as r it h is = subst (IsToldBy source yields most plan sources) is
-      (record { before = old.store; before_is = before; after = new.store; after_is = after; is = told_within z yields most plan sources old new within r h })
+-- nothing is told where nothing was asked
+pub nothing_by : {S : Type 0} (r : Remote S Global) → IsFresh r → TellsNothing (telling_of r)
+nothing_by r fresh = record {
+  blobs = λ d. none_unasked (blobs_of r) d (fresh.blobs d);
+  results = λ d. none_unasked (results_of r) d (fresh.results d);
+  failures = fresh.failures;
+  calls = fresh.calls;
+  puts = fresh.puts;
+}
+
+-- What was told of a build by a source that told nothing before, and now over the connection.
+module _ (start : ConnectionValue) (plan : PlanValue) (sources : DigestValue) (most : ℕ) (old new : Seen) (nothing : TellsNothing old.store) (over : ∥ IsToldOver puts_too start new.store ∥₁)
+    (z : Yields) (processes : Processes) (below : IsRunBelow z old new processes) where
+  abbrev pub told_as : (r it : Result (Told Global) (BuildPlanError Global)) → IsBuildTold z most plan sources old new r → r ≡ it → IsToldBy start processes most plan sources it
+  told_as r it h is = record {
+    before = old.store;
+    nothing = nothing;
+    after = new.store;
+    over = over;
+    is = subst (IsBuildTold processes.yields most plan sources (at_first old.store) (at_last processes new.store)) is (told_below z most plan sources old new processes below r h);
+  }
 
   -- a build ended for a process, and the error tells of it
   pub stops_of : (ended : BuildPlanError Global) (stopped : Stopped) (e : CommandError) (r : Result (Told Global) (BuildPlanError Global)) → IsBuildTold z most plan sources old new r
-      → r ≡ Err ended → EndsFor ended stopped → TellsProcess plan stopped.step (string_bytes stopped.program) stopped.cause e → StopsAtProcess source yields most plan sources e
+      → r ≡ Err ended → EndsFor ended stopped → TellsProcess plan stopped.step (string_bytes stopped.program) stopped.cause e → StopsAtProcess start processes most plan sources e
   stops_of ended stopped e r h err so told =
       let came : Result (Told Global) (BuildPlanError Global) = Err (Step (record { step = stopped.step; refusal = Run (Device stopped.program stopped.cause) })) in
       record { step = stopped.step; program = stopped.program; cause = stopped.cause; ended = told_as r came h (subst (λ x. r ≡ Err x) so err); told = told }
 
--- by what another kind of source told
-module _ {P Q : Telling → Type 0} (f : (told : Telling) → P told → Q told) (below : Below) (work path : List ℕ) (at : work ≡ path) (most jobs : ℕ) (is : most ≡ jobs)
-    (plan : PlanValue) (sources : DigestValue) where
-  by_source : (r : Result (Told Global) (BuildPlanError Global)) → IsToldBy P (below work) most plan sources r → IsToldBy Q (below path) jobs plan sources r
-  by_source r h = subst (λ p. IsToldBy Q (below p) jobs plan sources r) at (subst (λ (n : ℕ). IsToldBy Q (below work) n plan sources r) is
-      (record { before = h.before; before_is = ∥∥₁_map h.before_is (f h.before); after = h.after; after_is = ∥∥₁_map h.after_is (f h.after); is = h.is }))
-
-  root_by : (r : Told Global) → HoldsRoot P r → HoldsRoot Q r
-  root_by (Built line noted directories) h = (h.0, ∥∥₁_map h.1 (f h.0), h.2)
-  root_by (Failed line why) h = h
-
-  pub told_by : (r : Told Global) → IsToldOf P (below work) most plan sources r → IsToldOf Q (below path) jobs plan sources r
-  told_by r h = (by_source (Ok r) h.0, root_by r h.1)
-
-  pub stops_by : (e : CommandError) → StopsAtProcess P (below work) most plan sources e → StopsAtProcess Q (below path) jobs plan sources e
-  stops_by e h =
-      let came : Result (Told Global) (BuildPlanError Global) = Err (Step (record { step = h.step; refusal = Run (Device h.program h.cause) })) in
-      record { step = h.step; program = h.program; cause = h.cause; ended = by_source came h.ended; told = h.told }
+-- the folder and the number of jobs are those of the options
+pub by_options : (P : List ℕ → ℕ → Type 0) (work path : List ℕ) (most jobs : ℕ) → work ≡ path → most ≡ jobs → P work most → P path jobs
+by_options P work path most jobs at is h = subst (λ w. P w jobs) at (subst (P work) is h)
 
 -- at least one job
 some_at_once : (said : Option (List ℕ)) → (IsSome said → IsUpTo 64 (unwrap_or said []) × (0 < decimal_number (unwrap_or said []))) → 0 < option_map_or decimal_number said 1
@@ -106,13 +108,13 @@ not_shown false options off none =
     none_set false decides none = refl
 
 -- the server was at fault, or memory ran out
-pub over_fails : (start : ConnectionValue) (address : List ℕ) (yields : Yields) (most : ℕ) (plan : PlanValue) (sources : DigestValue) (e : CommandError)
-    → OrMemory (λ x. ∥ FailsOver puts_too start address x ∥₁) e → FailsTelling start address yields most plan sources e
-over_fails start address yields most plan sources e (inl memory) = inl memory
-over_fails start address yields most plan sources e (inr over) = inr (inr over)
+pub over_fails : (start : ConnectionValue) (address : List ℕ) (processes : Processes) (most : ℕ) (plan : PlanValue) (sources : DigestValue) (e : CommandError)
+    → OrMemory (λ x. ∥ FailsOver puts_too start address x ∥₁) e → FailsTelling start address processes most plan sources e
+over_fails start address processes most plan sources e (inl memory) = inl memory
+over_fails start address processes most plan sources e (inr over) = inr (inr over)
 
 module _ (sees : Sight) (below : Below) (options : List Row) where
-  module _ (asked : Asked) (read : IsReadOf sees options asked) where
+  module _ (asked : BuildRequest) (read : IsReadOf sees options asked) where
     -- the server couldn't be reached
     pub connect_fails : (e : CommandError) → OrMemory (FailsToConnect sees (string_bytes asked.server.address)) e → FailsBuild sees below options e
     connect_fails e (inl memory) = in_memory memory
@@ -126,23 +128,27 @@ module _ (sees : Sight) (below : Below) (options : List Row) where
         starts : StartsBuild sees options asked.plan asked.sources
         starts = record { asks = read.asks; empty = empty; record_fits = fits }
 
-        by : (told : Telling) → IsToldOver puts_too start told → IsOfOptions puts_too sees options told
-        by = of_options sees options asked.server start read.server opened puts_too
+        to : IsConnectedTo sees options start
+        to = opened_to sees options asked.server start read.server opened
+
+        by : (P : List ℕ → ℕ → Type 0) → P (string_bytes asked.work) asked.jobs → P (option_text options (codes "work")) (jobs_asked options)
+        by P = by_options P (string_bytes asked.work) (option_text options (codes "work")) asked.jobs (jobs_asked options) read.work read.jobs
 
         -- what was told is of a build of what was asked for
-        pub tells_of : (told : Told Global) → IsToldOf (IsToldOver puts_too start) (below (string_bytes asked.work)) asked.jobs asked.plan asked.sources told
+        pub tells_of : (told : Told Global) → IsToldOf start (below (string_bytes asked.work)) asked.jobs asked.plan asked.sources told
             → TellsAsked sees below options told
         tells_of told is = record {
           plan = asked.plan;
           sources = asked.sources;
           starts = starts;
-          tells = told_by by below (string_bytes asked.work) (option_text options (codes "work")) read.work asked.jobs (jobs_asked options) read.jobs asked.plan asked.sources told is;
+          start = start;
+          opened = to;
+          tells = by (λ w n. IsToldOf start (below w) n asked.plan asked.sources told) is;
         }
 
         -- or while the build was told there was a fault
         pub telling_fails : (e : CommandError)
             → FailsTelling start (string_bytes asked.server.address) (below (string_bytes asked.work)) asked.jobs asked.plan asked.sources e → FailsBuild sees below options e
         telling_fails e (inl memory) = in_memory memory
-        telling_fails e (inr (inl process)) = in_process asked.plan asked.sources starts
-            (stops_by by below (string_bytes asked.work) (option_text options (codes "work")) read.work asked.jobs (jobs_asked options) read.jobs asked.plan asked.sources e process)
-        telling_fails e (inr (inr over)) = in_request asked.plan asked.sources starts start (opened_to sees options asked.server start read.server opened) (subst (λ a. ∥ FailsOver puts_too start a e ∥₁) read.server.address over)
+        telling_fails e (inr (inl process)) = in_process asked.plan asked.sources starts start to (by (λ w n. StopsAtProcess start (below w) n asked.plan asked.sources e) process)
+        telling_fails e (inr (inr over)) = in_request asked.plan asked.sources starts start to (subst (λ a. ∥ FailsOver puts_too start a e ∥₁) read.server.address over)

@@ -26,7 +26,7 @@ use Rattle.commands.specs.declared.ended.Ended.TheVariants.{Done, No}
 use Rattle.commands.specs.Status.{exit_status}
 use Rattle.commands.specs.Told.{PrintsNoLine}
 use Rattle.commands.specs.declared.error.CommandError.{CommandError}
-use Rattle.commands.specs.declared.error.CommandError.TheVariants.{Words, Digest, Number, Text as TextFault, Unlike, File}
+use Rattle.commands.specs.declared.error.CommandError.TheVariants.{Usage, Digest, Number, Text as TextFault, InvalidValue, File}
 use Rattle.commands.specs.declared.error.CommandError.TheVariants.{NotAFile, TooLarge, Entry, Connection}
 use Rattle.commands.specs.declared.error.CommandError.TheVariants.{Server, Blob, Accept, Address, Random}
 use Rattle.commands.specs.declared.error.CommandError.TheVariants.{Output, Memory, Process}
@@ -111,11 +111,11 @@ not_less k lt = omega arith
 
 -- the status of an error
 status_is : (e : CommandError) → (exit_status e ≡ 2) ⊎ (exit_status e ≡ 3)
-status_is (Words text) = inl refl
+status_is (Usage text) = inl refl
 status_is (Digest option text fault) = inl refl
 status_is (Number option greatest text) = inl refl
 status_is (TextFault path fault hint) = inl refl
-status_is (Unlike option wanted text) = inl refl
+status_is (InvalidValue option expected text) = inl refl
 status_is (File path fault) = inr refl
 status_is (NotAFile path) = inr refl
 status_is (TooLarge path) = inr refl

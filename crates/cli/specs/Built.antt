@@ -1,24 +1,25 @@
 -- What `build` prints.
 use Rattle.std.specs.Prelude.{◌≡◌, ◌⊎◌, ◌<◌, ℕ, Bool, true, false, List, [], ◌∷◌, Option, Some}
-use Rattle.std.specs.Prelude.{Result, Ok, bytes_eq, codes, if◌then◌else◌, string_bytes}
+use Rattle.std.specs.Prelude.{None, Result, Ok, bytes_eq, codes, if◌then◌else◌, string_bytes}
 use Rattle.std.specs.Io.KnownBytes.{Appends}
 use Rattle.std.specs.declared.alloc.Global.{Global}
 use Rattle.blob_digest.specs.Digest.{DigestValue}
+use Rattle.blob_source.specs.Memory.{TellsNothing}
 use Rattle.blob_source.specs.Source.{Telling}
-use Rattle.builder.specs.Built.{store_alone}
+use Rattle.builder.specs.Built.{Seen, seen}
 use Rattle.builder.specs.Telling.{IsBuildTold}
 use Rattle.builder.specs.declared.error.BuildPlanError.{BuildPlanError}
-use Rattle.cli.specs.declared.building.Asked.{Asked}
+use Rattle.cli.specs.declared.building.BuildRequest.{BuildRequest}
 use Rattle.builder.specs.declared.telling.Told.{Told}
 use Rattle.builder.specs.declared.telling.Told.TheVariants.{Built, Failed}
 use Rattle.clap.specs.Words.{Row}
 use Rattle.command_lines.specs.CommandLine.{option_text}
 use Rattle.commands.specs.Options.{IsServerOf, decimal_number, number_or}
-use Rattle.commands.specs.Places.{puts_too}
-use Rattle.commands.specs.Printed.{IsOfOptions}
+use Rattle.commands.specs.Places.{IsToldOver, puts_too}
+use Rattle.commands.specs.Printed.{IsConnectedTo}
 use Rattle.commands.specs.Refusal.{HasPlanRead}
 use Rattle.commands.specs.Told.{AppendsBeginning}
-use Rattle.commands.specs.Words.{AllValid, Check, IsUpTo, is_wanted, server_words, where_said}
+use Rattle.commands.specs.Words.{AllValid, Check, IsUpTo, is_expected, server_words, where_said}
 use Rattle.commands.specs.World.{Sight}
 use Rattle.commands.specs.declared.ended.Ended.{Ended}
 use Rattle.commands.specs.declared.ended.Ended.TheVariants.{Done, No}
@@ -26,36 +27,54 @@ use Rattle.commands.specs.declared.ended.Note.TheVariants.{Refused}
 use Rattle.plan.specs.Values.{PlanValue}
 use Rattle.processes.specs.declared.disk.ChildErrors.{ChildErrors}
 use Rattle.processes.specs.declared.disk.ChildErrors.TheVariants.{Discarded, Shown}
+use Rattle.remote.specs.Line.{ConnectionValue}
 use Rattle.text_verifier.specs.Texts.{IsDigestText}
 use Rattle.worker.specs.Outcomes.{HasAllRight, Yields}
+use Rattle.worker.specs.Values.{Starts}
 use Rattle.tree.specs.Folded.{items_of}
 
--- what may come of a step whose process runs below a folder
+-- What is known of the processes that run below a folder: what may come of one; and which were
+-- started there, one after another, and each waited for. Only the end of their runner tells that.
+pub record Processes : Type 1 where
+  pub yields : Yields
+  pub ran : Starts
+
 abbrev pub Below : Type 1
-Below = List ℕ → Yields
+Below = List ℕ → Processes
 
--- such a source told each Directory that was made for the root of a build that came to it
-abbrev pub HoldsRoot : (Telling → Type 0) → Told Global → Type 0
-HoldsRoot source (Built line noted directories) = (told : Telling) × (∥ source told ∥₁)
-    × HasAllRight told.blobs (items_of directories.items)
-HoldsRoot source (Failed line why) = Unit {0}
+-- What a store tells as no process was started yet, and as these ran. Nothing is said of failures
+-- of their runner, nor of a watcher.
+abbrev pub at_first : Telling → Seen
+at_first told = seen told (λ started. started ≡ []) 0 0 None
 
--- By what such a source told before and after, and such steps, this is told of a build of the plan,
--- at most so many jobs running after each call: of the root, which is answered yes, or of the
--- refusal that stands.
-pub record IsToldBy (source : Telling → Type 0) (yields : Yields) (most : ℕ) (plan : PlanValue)
+abbrev pub at_last : Processes → Telling → Seen
+at_last processes told = seen told processes.ran 0 0 None
+
+-- By what the server told over the connection that stood so at first, where nothing was told
+-- before, and by all the processes that ran, this is told of a build of the plan, at most so many
+-- jobs running after each call: of the root, which is answered yes, or of the refusal that stands.
+pub record IsToldBy (start : ConnectionValue) (processes : Processes) (most : ℕ) (plan : PlanValue)
     (sources : DigestValue) (told : Result (Told Global) (BuildPlanError Global)) : Type 0 where
   pub before : Telling
-  pub before_is : ∥ source before ∥₁
+  pub nothing : TellsNothing before
   pub after : Telling
-  pub after_is : ∥ source after ∥₁
-  pub is : IsBuildTold yields most plan sources (store_alone before) (store_alone after) told
+  pub over : ∥ IsToldOver puts_too start after ∥₁
+  pub is : IsBuildTold processes.yields most plan sources (at_first before)
+      (at_last processes after) told
+
+-- Each Directory that was made for the root of a build that came to it was then told over the
+-- connection, and no result was put since.
+abbrev pub HoldsRoot : ConnectionValue → Telling → Told Global → Type 0
+HoldsRoot start after (Built line noted directories) = (told : Telling)
+    × (∥ IsToldOver puts_too start told ∥₁) × (told.puts ≡ after.puts)
+    × HasAllRight told.blobs (items_of directories.items)
+HoldsRoot start after (Failed line why) = Unit {0}
 
 -- and the Directories of the root are there
-abbrev pub IsToldOf : (Telling → Type 0) → Yields → ℕ → PlanValue → DigestValue → Told Global
-    → Type 0
-IsToldOf source yields most plan sources told =
-    IsToldBy source yields most plan sources (Ok told) × HoldsRoot source told
+pub record IsToldOf (start : ConnectionValue) (processes : Processes) (most : ℕ) (plan : PlanValue)
+    (sources : DigestValue) (told : Told Global) : Type 0 where
+  pub by : IsToldBy start processes most plan sources (Ok told)
+  pub holds : HoldsRoot start by.after told
 
 -- done where it came to its root; else no, with why as its note
 abbrev pub ended_of : Told Global → Ended
@@ -79,7 +98,7 @@ abbrev pub jobs_asked : List Row → ℕ
 jobs_asked options = number_or 1 options (codes "jobs")
 
 abbrev pub may_have_jobs : List Row → Check
-may_have_jobs options = where_said options (codes "jobs") (is_wanted options (codes "jobs")
+may_have_jobs options = where_said options (codes "jobs") (is_expected options (codes "jobs")
     (codes "a number from 1 to 64") (λ text. IsUpTo 64 text × (0 < decimal_number text)))
 
 -- The errors of steps are shown on a terminal, and where the options want that.
@@ -100,7 +119,7 @@ pub record AsksBuild (sees : Sight) (options : List Row) (plan : PlanValue) (sou
   pub plan_is : HasPlanRead sees options plan
 
 -- what was read of the options is what they ask for
-pub record IsReadOf (sees : Sight) (options : List Row) (asked : Asked) : Type 0 where
+pub record IsReadOf (sees : Sight) (options : List Row) (asked : BuildRequest) : Type 0 where
   pub asks : AsksBuild sees options asked.plan asked.sources
   pub jobs : asked.jobs ≡ jobs_asked options
   pub server : IsServerOf options asked.server
@@ -114,14 +133,16 @@ pub record StartsBuild (sees : Sight) (options : List Row) (plan : PlanValue)
   pub record_fits : sees.takes (option_text options (codes "record"))
 
 -- What was told is of a build of that, with as many jobs at once as the options say, by what their
--- server told, and by steps that ran below their folder.
+-- server told over one connection, and by the processes that ran below their folder.
 pub record TellsAsked (sees : Sight) (below : Below) (options : List Row) (told : Told Global)
     : Type 0 where
   pub plan : PlanValue
   pub sources : DigestValue
   pub starts : StartsBuild sees options plan sources
-  pub tells : IsToldOf (IsOfOptions puts_too sees options)
-      (below (option_text options (codes "work"))) (jobs_asked options) plan sources told
+  pub start : ConnectionValue
+  pub opened : IsConnectedTo sees options start
+  pub tells : IsToldOf start (below (option_text options (codes "work"))) (jobs_asked options) plan
+      sources told
 
 -- Its line was printed, and where it came to its root its record written.
 pub record PrintsBuild (sees : Sight) (below : Below) (options : List Row)

@@ -21,7 +21,7 @@ use Rattle.commands.specs.World.{Sight}
 use Rattle.commands.specs.declared.ended.Ended.TheVariants.{Done, No}
 use Rattle.commands.specs.declared.ended.Note.{Note}
 use Rattle.commands.specs.declared.error.CommandError.{CommandError}
-use Rattle.commands.specs.declared.error.CommandError.TheVariants.{Memory, Words}
+use Rattle.commands.specs.declared.error.CommandError.TheVariants.{Memory, Usage}
 
 -- the words ask for help, or for the version
 abbrev pub WantsHelp : List Text → Type 0
@@ -110,7 +110,7 @@ pub record AreFaulty (words : List Text) : Type 0 where
 
 -- the error tells what is wrong with words, in a text that ends with the tip on such a mistake
 abbrev pub TellsOfWords : List Text → ErrorKind → CommandError → Type 0
-TellsOfWords words kind (Words text) = (said : List ℕ) × (tip : List ℕ) × IsTip words kind tip
+TellsOfWords words kind (Usage text) = (said : List ℕ) × (tip : List ℕ) × IsTip words kind tip
     × (string_bytes text ≡ said ++ tip)
 TellsOfWords words kind _ = ⊥
 

@@ -37,7 +37,7 @@ lack_place (name ∷ rest) = bytes_eq name (codes "verify") && not (list_any giv
 pub record IsTip (words : List Text) (kind : ErrorKind) (tip : List ℕ) : Type 0 where
   pub command : kind ≡ InvalidSubcommand → tip ≡ codes "; tip: '--help' prints the commands"
   pub place : kind ≡ MissingRequiredArgument → lack_place words ≡ true
-      → tip ≡ codes "; tip: --server <ADDR> or --store <FOLDER> is needed too"
+      → tip ≡ codes "; tip: one of --server <ADDR> and --store <FOLDER> is required too"
   pub placed : kind ≡ MissingRequiredArgument → lack_place words ≡ false → tip ≡ []
   pub none : kind ≢ InvalidSubcommand → kind ≢ MissingRequiredArgument → tip ≡ []
 

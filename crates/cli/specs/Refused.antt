@@ -7,7 +7,6 @@ use Rattle.std.specs.declared.alloc.Global.{Global}
 use Rattle.std.specs.declared.io.ErrorKind.TheVariants.{DirectoryNotEmpty}
 use Rattle.std.specs.declared.string.String.{String}
 use Rattle.blob_digest.specs.Digest.{DigestValue}
-use Rattle.blob_source.specs.Source.{Telling}
 use Rattle.builder.specs.Lines.{place_text}
 use Rattle.builder.specs.declared.error.BuildPlanError.TheVariants as errors
 use Rattle.builder.specs.declared.fault.Place.TheVariants.{Step}
@@ -15,8 +14,8 @@ use Rattle.builder.specs.declared.telling.Told.{Told}
 use Rattle.clap.specs.Words.{Row}
 use Rattle.command_lines.specs.CommandLine.{option_text}
 use Rattle.commands.specs.Faults.{IsDigestFault, IsFaultAtPath, OrMemory, error_of_file}
-use Rattle.commands.specs.Places.{FailsOver, FailsToConnect, IsToldOver, puts_too}
-use Rattle.commands.specs.Printed.{IsOfOptions, IsConnectedTo}
+use Rattle.commands.specs.Places.{FailsOver, FailsToConnect, puts_too}
+use Rattle.commands.specs.Printed.{IsConnectedTo}
 use Rattle.commands.specs.Refusal.{FailsPlan, IsPrintFault}
 use Rattle.commands.specs.Words.{AllValid, FailsFirst}
 use Rattle.commands.specs.World.{Sight}
@@ -25,17 +24,16 @@ use Rattle.commands.specs.declared.error.CommandError.{CommandError}
 use Rattle.commands.specs.declared.error.CommandError.TheVariants.{Memory, Process}
 use Rattle.commands.specs.declared.process_fault.ProcessCause.{ProcessCause}
 use Rattle.commands.specs.declared.process_fault.ProcessCause.TheVariants.{Signal, Unread}
-use Rattle.commands.specs.declared.process_fault.ProcessCause.TheVariants.{Unstarted}
+use Rattle.commands.specs.declared.process_fault.ProcessCause.TheVariants.{Unstarted, Unwaited}
 use Rattle.plan.specs.Values.{PlanValue}
 use Rattle.remote.specs.Line.{ConnectionValue}
 use Rattle.remote.specs.declared.files.FileError.{FileError}
 use Rattle.text_verifier.specs.Refused.{IsSpelled}
-use Rattle.worker.specs.Outcomes.{Yields}
-use Rattle.worker.specs.declared.error.Refusal.TheVariants.{Run}
-use Rattle.worker.specs.declared.failure.Cause.{Cause}
-use Rattle.worker.specs.declared.failure.Cause.TheVariants as causes
+use Rattle.worker.specs.declared.error.StepRefusal.TheVariants.{Run}
+use Rattle.worker.specs.declared.failure.FailureCause.{FailureCause}
+use Rattle.worker.specs.declared.failure.FailureCause.TheVariants as causes
 use Rattle.worker.specs.declared.runner.RunError.TheVariants.{Device}
-use Rattle.cli.specs.Built.{AsksBuild, Below, IsNoted, IsToldBy, StartsBuild, TellsAsked}
+use Rattle.cli.specs.Built.{AsksBuild, Below, IsNoted, IsToldBy, Processes, StartsBuild, TellsAsked}
 use Rattle.cli.specs.Built.{build_words, ended_of, jobs_asked}
 
 -- the folder at this path has something in it
@@ -58,35 +56,37 @@ abbrev pub FailsFolder : Sight → List ℕ → CommandError → Type 0
 FailsFolder sees path = OrMemory (λ e. HasEntries sees path e ⊎ FailsAtPath sees path e)
 
 -- the cause for which a process came to nothing, as an error tells it
-abbrev pub process_cause : Cause → ProcessCause
+abbrev pub process_cause : FailureCause → ProcessCause
 process_cause (causes.Unstarted fault) = Unstarted fault
+process_cause (causes.Unwaited fault) = Unwaited fault
 process_cause (causes.Unread fault) = Unread fault
 process_cause (causes.Signal number) = Signal number
 
 -- the error tells of a process of this program, at this step of the plan, and of the cause
-abbrev pub TellsProcess : PlanValue → ℕ → List ℕ → Cause → CommandError → Type 0
+abbrev pub TellsProcess : PlanValue → ℕ → List ℕ → FailureCause → CommandError → Type 0
 TellsProcess plan step program cause (Process fault) =
     (string_bytes fault.place ≡ place_text plan.steps (Step step))
     × (string_bytes fault.program ≡ program) × (fault.cause ≡ process_cause cause)
 TellsProcess plan step program cause _ = ⊥
 
--- By what such a source told, and such steps, a build of the plan ended at a step, of which a
--- process of this program came to nothing for this cause. The error tells all three.
-pub record StopsAtProcess (source : Telling → Type 0) (yields : Yields) (most : ℕ)
+-- By what the server told over the connection, and by these processes, a build of the plan ended at
+-- a step, of which a process of this program came to nothing for this cause. The error tells all
+-- three.
+pub record StopsAtProcess (start : ConnectionValue) (processes : Processes) (most : ℕ)
     (plan : PlanValue) (sources : DigestValue) (e : CommandError) : Type 0 where
   pub step : ℕ
   pub program : String Global
-  pub cause : Cause
-  pub ended : IsToldBy source yields most plan sources
+  pub cause : FailureCause
+  pub ended : IsToldBy start processes most plan sources
       (Err (errors.Step (record { step = step; refusal = Run (Device program cause) })))
   pub told : TellsProcess plan step (string_bytes program) cause e
 
 -- memory ran out, or a process was at fault, or the server at the address, over the connection that
 -- stood so at first
-abbrev pub FailsTelling : ConnectionValue → List ℕ → Yields → ℕ → PlanValue → DigestValue
+abbrev pub FailsTelling : ConnectionValue → List ℕ → Processes → ℕ → PlanValue → DigestValue
     → CommandError → Type 0
-FailsTelling start address yields most plan sources =
-    OrMemory (λ e. StopsAtProcess (IsToldOver puts_too start) yields most plan sources e
+FailsTelling start address processes most plan sources =
+    OrMemory (λ e. StopsAtProcess start processes most plan sources e
     ⊎ ∥ FailsOver puts_too start address e ∥₁)
 
 -- what is asked for can be built, and a connection to the server was opened
@@ -120,9 +120,9 @@ pub data FailsBuild (sees : Sight) (below : Below) (options : List Row) (e : Com
       → ∥ FailsOver puts_too start (option_text options (codes "server")) e ∥₁
       → FailsBuild sees below options e
   in_process : (plan : PlanValue) (sources : DigestValue) → StartsBuild sees options plan sources
-      → StopsAtProcess (IsOfOptions puts_too sees options)
-      (below (option_text options (codes "work"))) (jobs_asked options) plan sources e
-      → FailsBuild sees below options e
+      → (start : ConnectionValue) → IsConnectedTo sees options start
+      → StopsAtProcess start (below (option_text options (codes "work"))) (jobs_asked options)
+      plan sources e → FailsBuild sees below options e
   in_record : (told : Told Global) → TellsAsked sees below options told → ended_of told ≡ Done
       → FailsToWrite sees (option_text options (codes "record")) e → FailsBuild sees below options e
   in_output : (told : Told Global) → TellsAsked sees below options told → IsNoted sees options told

@@ -10,12 +10,13 @@ ghost use Rattle.cli.specs.Refused.{FailsBuild, FailsFolder, FailsTelling, Fails
 ghost use Rattle.cli.specs.Refused.{TellsProcess, process_cause};
 ghost use Rattle.cli.specs.Running.{EndsFor};
 ghost use Rattle.commands.specs.Faults.{OrMemory};
-ghost use Rattle.commands.specs.Places.{FailsOver, IsFresh, IsToldOver, puts_too};
+ghost use Rattle.commands.specs.Client.{remote_of};
+ghost use Rattle.commands.specs.Places.{FailsOver, IsFresh, puts_too};
 ghost use Rattle.commands.specs.Refusal.{IsPrintFault};
 ghost use Rattle.commands.specs.Told.{AppendsBeginning};
 ghost use Rattle.commands.specs.Words.{IsCheckedBy};
 ghost use Rattle.command_lines.specs.CommandLine.{option_text};
-ghost use Rattle.remote.specs.Remote.{connection_of};
+ghost use Rattle.remote.specs.Remote.{connection_of, telling_of};
 ghost use Rattle.processes.specs.declared.disk.ChildErrors.{ChildErrors};
 
 use crate::build_progress::BuildProgress;
@@ -26,7 +27,7 @@ use clap::ArgMatches;
 use command_lines::{is_set, option_of, text_of};
 use commands::{
     Client, CommandError, Ended, Note, Opened, ProcessCause, ProcessFault, PutsToo, ServerOptions,
-    World, number_in, open, plan_in_file, print_all, read_digest, read_server, unlike,
+    World, invalid_value, number_in, open, plan_in_file, print_all, read_digest, read_server,
 };
 use plan::Plan;
 use processes::ChildErrors;
@@ -36,14 +37,14 @@ use std::io;
 use std::io::{ErrorKind, Write};
 use std::marker::Brand;
 use tree::FetchError;
-use worker::{BuildError, Cause, Refusal, RunError, put_all};
+use worker::{BuildError, FailureCause, RunError, StepRefusal, put_all};
 
 /// How many steps may run at once.
 const GREATEST_JOBS: u64 = 64;
 
 /// What the words of `build` ask for, as it was read.
 #[derive(Drop)]
-struct Asked {
+struct BuildRequest {
     jobs: usize,
     server: ServerOptions,
     sources: Digest,
@@ -62,27 +63,27 @@ fn read_jobs(alloc: Global, matches: &ArgMatches<'_>) -> Result<usize, CommandEr
     };
     match number_in(text) {
         Some(jobs) if 0 < jobs && jobs <= GREATEST_JOBS => Ok(jobs as usize),
-        _ => Err(unlike(alloc, "jobs", "a number from 1 to 64", text)?),
+        _ => Err(invalid_value(alloc, "jobs", "a number from 1 to 64", text)?),
     }
 }
 
 /// Reads what the words ask for: the number of jobs, the server, the digest, and then the plan; and
 /// copies the path of the folder of the jobs.
-fn read_asked<W: Workplace>(
+fn read_asked<W: World, P: Workplace>(
     alloc: Global,
     world: &W,
     matches: &ArgMatches<'_>,
-) -> Result<Asked, CommandError>
+) -> Result<BuildRequest, CommandError>
     ensures read { IfOk result (IsReadOf W.sees (rows_of (found_of matches.now))) }
     ensures refused { IfErr result (λ e. (errors : ChildErrors)
-        → FailsBuild W.sees (W.below errors) (rows_of (found_of matches.now)) e) }
+        → FailsBuild W.sees (P.below errors) (rows_of (found_of matches.now)) e) }
 {
     let jobs = read_jobs(alloc, matches)?;
     let server = read_server(alloc, matches)?;
     let sources = read_digest(alloc, matches, "sources")?;
     let plan = plan_in_file(alloc, world, matches)?;
     let work = String::from_str(alloc, text_of(matches, "work"))?;
-    Ok(Asked {
+    Ok(BuildRequest {
         jobs,
         server,
         sources,
@@ -111,14 +112,15 @@ fn put_root<S: Stream + Drop, K: Opened>(
     client: &mut Client<S, K, PutsToo>,
     told: &Told<Global>,
 ) -> Result<(), CommandError>
-    ensures held { OnOk result (HoldsRoot (IsToldOver puts_too K.start) told.now) }
+    ensures held { OnOk result
+        (HoldsRoot K.start (telling_of (remote_of client.old)) told.now) }
     ensures fault { IfErr result (OrMemory
         (λ e. ∥ FailsOver puts_too K.start (string_bytes server.now.address) e ∥₁)) }
 {
     match told {
         Told::Built { directories, .. } => match put_all(alloc, client, directories) {
             Ok(()) => Ok(()),
-            Err(Refusal::Fetch) => Err(client.error(alloc, server, FetchError::Failed)?),
+            Err(StepRefusal::Fetch) => Err(client.error(alloc, server, FetchError::Failed)?),
             Err(_e) => Err(CommandError::Memory),
         },
         Told::Failed { .. } => Ok(()),
@@ -126,13 +128,14 @@ fn put_root<S: Stream + Drop, K: Opened>(
 }
 
 /// The cause, as the error of a command tells it.
-fn process_cause(cause: Cause) -> ProcessCause
+fn process_cause(cause: FailureCause) -> ProcessCause
     ensures { result ≡ process_cause cause }
 {
     match cause {
-        Cause::Unstarted(fault) => ProcessCause::Unstarted(fault),
-        Cause::Unread(fault) => ProcessCause::Unread(fault),
-        Cause::Signal(number) => ProcessCause::Signal(number),
+        FailureCause::Unstarted(fault) => ProcessCause::Unstarted(fault),
+        FailureCause::Unwaited(fault) => ProcessCause::Unwaited(fault),
+        FailureCause::Unread(fault) => ProcessCause::Unread(fault),
+        FailureCause::Signal(number) => ProcessCause::Signal(number),
     }
 }
 
@@ -141,7 +144,7 @@ fn process_cause(cause: Cause) -> ProcessCause
 struct Stopped {
     step: usize,
     program: String,
-    cause: Cause,
+    cause: FailureCause,
 }
 
 /// The process for which a build ended with this error.
@@ -153,7 +156,7 @@ fn process_of(error: BuildPlanError<Global>) -> Option<Stopped>
         return None;
     };
     let BuildError { step, refusal } = failed;
-    let Refusal::Run(fault) = refusal else {
+    let StepRefusal::Run(fault) = refusal else {
         return None;
     };
     match fault {
@@ -183,28 +186,28 @@ fn process_error(
 }
 
 /// What a build tells over the marked connection, whose processes run in the folder of the jobs.
-fn build_in_folder<W: Workplace, K: Opened, T: Write + Drop>(
+fn build_in_folder<S: Stream + Drop, K: Opened, P: Workplace + Drop, T: Write + Drop>(
     alloc: Global,
-    world: &W,
-    asked: &Asked,
-    remote: Remote<W::Link, Global>,
+    workplace: P,
+    asked: &BuildRequest,
+    remote: Remote<S, Global>,
     errors: ChildErrors,
     progress: &mut BuildProgress<'_, T>,
 ) -> Result<Told<Global>, CommandError>
     requires some { 0 < asked.now.jobs }
-    requires start { K.start ≡ connection_of W.Link.flow remote }
+    requires start { K.start ≡ connection_of S.flow remote }
     requires fresh { IsFresh remote }
-    ensures told { IfOk result (IsToldOf (IsToldOver puts_too K.start)
-        (W.below errors (string_bytes asked.now.work)) asked.now.jobs asked.now.plan
+    ensures told { IfOk result (IsToldOf K.start
+        (P.below errors (string_bytes asked.now.work)) asked.now.jobs asked.now.plan
         asked.now.sources) }
     ensures fault { IfErr result (FailsTelling K.start (string_bytes asked.now.server.address)
-        (W.below errors (string_bytes asked.now.work)) asked.now.jobs asked.now.plan
+        (P.below errors (string_bytes asked.now.work)) asked.now.jobs asked.now.plan
         asked.now.sources) }
 {
     let work = String::from_str(alloc, asked.work.as_str())?;
-    let mut runner = world.steps(work, errors);
-    let mut client: Client<W::Link, K, PutsToo> = Client::new(remote);
-    match tell_build(
+    let mut runner = workplace.steps(work, errors);
+    let mut client: Client<S, K, PutsToo> = Client::new(remote);
+    let told = tell_build(
         alloc,
         &asked.sources,
         &asked.plan,
@@ -212,7 +215,9 @@ fn build_in_folder<W: Workplace, K: Opened, T: Write + Drop>(
         &mut runner,
         progress,
         asked.jobs,
-    ) {
+    );
+    P::end_steps(asked.work.as_str(), runner);
+    match told {
         Ok(told) => {
             put_root(alloc, &asked.server, &mut client, &told)?;
             Ok(told)
@@ -258,9 +263,9 @@ fn write_record<W: World>(
         (FailsToWrite W.sees (option_text (rows_of (found_of matches.now)) (codes "record"))) }
 {
     match told {
-        Told::Built { noted, .. } => {
+        Told::Built { record_text, .. } => {
             let path = text_of(matches, "record");
-            match world.write(alloc, path, noted) {
+            match world.write(alloc, path, record_text) {
                 Ok(()) => Ok(()),
                 Err(fault) => Err(CommandError::File {
                     path: String::from_str(alloc, path)?,
@@ -273,19 +278,20 @@ fn write_record<W: World>(
 }
 
 /// Builds what the words ask for. On a terminal it tells how far the build is, until that ends.
-fn build_asked<W: Workplace, T: Write + Drop>(
+fn build_asked<W: World, P: Workplace + Drop, T: Write + Drop>(
     alloc: Global,
     world: &W,
+    workplace: P,
     matches: &ArgMatches<'_>,
-    asked: &Asked,
+    asked: &BuildRequest,
     terminal: Option<T>,
 ) -> Result<Told<Global>, CommandError>
     requires read { IsReadOf W.sees (rows_of (found_of matches.now)) asked.now }
     ensures tells { IfOk result (TellsAsked W.sees
-        (W.below (errors_asked (is_some terminal) (rows_of (found_of matches.now))))
+        (P.below (errors_asked (is_some terminal) (rows_of (found_of matches.now))))
         (rows_of (found_of matches.now))) }
     ensures refused { IfErr result (FailsBuild W.sees
-        (W.below (errors_asked (is_some terminal) (rows_of (found_of matches.now))))
+        (P.below (errors_asked (is_some terminal) (rows_of (found_of matches.now))))
         (rows_of (found_of matches.now))) }
 {
     let remote = open(alloc, world, &asked.server)?;
@@ -293,7 +299,14 @@ fn build_asked<W: Workplace, T: Write + Drop>(
     world.check_writable(alloc, text_of(matches, "record"))?;
     let errors = errors_of(matches, &terminal);
     let mut progress = BuildProgress::new(alloc, &asked.plan, terminal);
-    let told = build_in_folder::<W, Brand, T>(alloc, world, asked, remote, errors, &mut progress);
+    let told = build_in_folder::<W::Link, Brand, P, T>(
+        alloc,
+        workplace,
+        asked,
+        remote,
+        errors,
+        &mut progress,
+    );
     progress.clear();
     told
 }
@@ -324,29 +337,30 @@ fn ended_of(told: Told<Global>) -> Ended
 
 /// Builds the plan that the words name, and prints the line of what it came to. Where it came to
 /// its root, the record is written first.
-pub(crate) fn run_build<W: Workplace, O: Write, T: Write + Drop>(
+pub(crate) fn run_build<W: World, P: Workplace + Drop, O: Write, T: Write + Drop>(
     alloc: Global,
     world: &W,
+    workplace: P,
     matches: &ArgMatches<'_>,
     out: &mut O,
     terminal: Option<T>,
 ) -> Result<Ended, CommandError>
     ensures printed { IfOk result (PrintsBuild W.sees
-        (W.below (errors_asked (is_some terminal) (rows_of (found_of matches.now))))
+        (P.below (errors_asked (is_some terminal) (rows_of (found_of matches.now))))
         (rows_of (found_of matches.now)) (O.contents out.old) (O.contents out.new)) }
     // A refusal leaves no byte that isn't of the line of such a build.
     ensures begun { OnErr result (BeginsBuild W.sees
-        (W.below (errors_asked (is_some terminal) (rows_of (found_of matches.now))))
+        (P.below (errors_asked (is_some terminal) (rows_of (found_of matches.now))))
         (rows_of (found_of matches.now)) (O.contents out.old) (O.contents out.new)) }
     // It is for the first fault: what comes before it has none.
     ensures refused { IfErr result (FailsBuild W.sees
-        (W.below (errors_asked (is_some terminal) (rows_of (found_of matches.now))))
+        (P.below (errors_asked (is_some terminal) (rows_of (found_of matches.now))))
         (rows_of (found_of matches.now))) }
     ensures unprinted { IfErr result
         (λ fault. ¬ IsPrintFault fault → O.contents out.new ≡ O.contents out.old) }
 {
-    let asked = read_asked(alloc, world, matches)?;
-    let told = build_asked(alloc, world, matches, &asked, terminal)?;
+    let asked = read_asked::<W, P>(alloc, world, matches)?;
+    let told = build_asked(alloc, world, workplace, matches, &asked, terminal)?;
     write_record(alloc, world, matches, &told)?;
     print_told(&told, out)?;
     Ok(ended_of(told))

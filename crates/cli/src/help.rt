@@ -9,9 +9,9 @@ Usage: buildcache <COMMAND>
 Commands:
   serve   Serve a cache over HTTP
   verify  Say whether every build of a plan ends in exactly the claimed root
-  put     Put a file, or a folder with all below it, and print its digest
-  get     Write a blob's bytes, or a tree into a folder
-  build   Build a plan: run its steps, or take their results from the server, and write the record
+  put     Upload a file, or a folder with all below it, and print its digest
+  get     Write a blob to standard output, or a tree into a folder
+  build   Build a plan, and write the record of the build
 
 Options:
   -h, --help     Print help
@@ -20,7 +20,7 @@ Options:
 Status:
   0  Yes, or done
   1  No, or a step was refused, as standard output says; or no such blob
-  2  The words, a digest, the plan or the record are at fault
+  2  The command line, a digest, the plan or the record is invalid
   3  A file, the server, a process or memory failed: no verdict
 ";
 
@@ -30,14 +30,20 @@ Serve a cache over HTTP
 Usage: buildcache serve [OPTIONS] --listen <ADDR> --limit <BYTES> --result-limit <BYTES>
 
 Options:
-      --listen <ADDR>         Where to listen, HOST:PORT; port 0 is any that is free
-      --limit <BYTES>         How many bytes the blobs may have together; one has at most 16777216
-      --result-limit <BYTES>  The same of the results, and 64 for each
-      --prefix <P>            What stands before /cas and /ac
-      --idle <SECONDS>        How long a client may be silent (60; 0: for ever)
-      --at-once <N>           How many connections to serve at a time (1; at most 1024)
-      --connections <N>       How many connections to serve before it ends (without it: no end)
+      --listen <ADDR>         Address to listen on, HOST:PORT; port 0: any free port
+      --limit <BYTES>         Most bytes of blobs; one blob has at most 16777216
+      --result-limit <BYTES>  Most bytes of action results; each counts its length plus 64
+      --prefix <P>            Path before /cas and /ac, like /team/main
+      --idle <SECONDS>        Seconds of silence after which a client is disconnected; 0: never
+                              [default: 60]
+      --at-once <N>           Most connections held at a time, 1 to 1024 [default: 1]
+      --connections <N>       Exit after this many connections; by default never
   -h, --help                  Print help
+
+Status:
+  0  As many connections as --connections says were served
+  2  The command line is invalid
+  3  Listening, accepting, random bytes, standard output or memory failed
 ";
 
 const VERIFY: &str = "\
@@ -47,71 +53,95 @@ Usage: buildcache verify [OPTIONS] --sources <DIGEST> --plan <FILE> --record <FI
 --claim <DIGEST> <--server <ADDR>|--store <FOLDER>>
 
 Options:
-      --server <ADDR>      The server that has the recorded build, HOST:PORT
-      --store <FOLDER>     In its place a folder, with blobs in cas/HASH and results in ac/HASH
-      --prefix <P>         What stands before /cas and /ac on the server
-      --timeout <SECONDS>  How long the server may be silent (60; 0: for ever)
-      --sources <DIGEST>   The digest of the source tree, as HASH/SIZE
-      --plan <FILE>        The plan
-      --record <FILE>      The record of the recorded build
-      --claim <DIGEST>     The digest of the root that is claimed, as HASH/SIZE
+      --server <ADDR>      Server that has the recorded build, HOST:PORT
+      --store <FOLDER>     Folder that has it: blobs in cas/HASH and results in ac/HASH
+      --prefix <P>         Path before /cas and /ac on the server, like /team/main
+      --timeout <SECONDS>  Seconds of silence after which the server has failed; 0: never
+                           [default: 60]
+      --sources <DIGEST>   Digest of the source tree, HASH/SIZE
+      --plan <FILE>        The plan's file (docs/FORMATS.md)
+      --record <FILE>      The record's file (docs/FORMATS.md)
+      --claim <DIGEST>     Claimed digest of the root, HASH/SIZE
   -h, --help               Print help
 
 Status:
   0  Yes
-  1  No
-  2  The words, a digest, the plan or the record are at fault
-  3  A file, the server or memory failed: no verdict
+  1  No, for the cause on standard output
+  2  The command line, a digest, the plan or the record is invalid
+  3  A file, the server, standard output or memory failed: no verdict
 ";
 
 const PUT: &str = "\
-Put a file, or a folder with all below it, and print its digest
+Upload a file, or a folder with all below it, and print its digest
 
 Usage: buildcache put [OPTIONS] --server <ADDR> <PATH>
 
 Arguments:
-  <PATH>  The file or the folder
+  <PATH>  The file or the folder; files are put without their executable bit
 
 Options:
-      --server <ADDR>      The server, HOST:PORT
-      --prefix <P>         What stands before /cas and /ac on the server
-      --timeout <SECONDS>  How long the server may be silent (60; 0: for ever)
+      --server <ADDR>      Server to upload to, HOST:PORT
+      --prefix <P>         Path before /cas and /ac on the server, like /team/main
+      --timeout <SECONDS>  Seconds of silence after which the server has failed; 0: never
+                           [default: 60]
   -h, --help               Print help
+
+Status:
+  0  All was uploaded, and the digest printed
+  2  The command line is invalid
+  3  A file, the server, standard output or memory failed, or an entry can't be put
 ";
 
 const GET: &str = "\
-Write a blob's bytes, or a tree into a folder
+Write a blob to standard output, or a tree into a folder
 
 Usage: buildcache get [OPTIONS] --server <ADDR> <DIGEST>
 
 Arguments:
-  <DIGEST>  The digest of the blob or of the tree, as HASH/SIZE
+  <DIGEST>  Digest of the blob or of the tree, HASH/SIZE
 
 Options:
-      --server <ADDR>      The server, HOST:PORT
-      --prefix <P>         What stands before /cas and /ac on the server
-      --timeout <SECONDS>  How long the server may be silent (60; 0: for ever)
-      --into <FOLDER>      Write the tree into this folder, which isn't there or is empty
+      --server <ADDR>      Server to ask, HOST:PORT
+      --prefix <P>         Path before /cas and /ac on the server, like /team/main
+      --timeout <SECONDS>  Seconds of silence after which the server has failed; 0: never
+                           [default: 60]
+      --into <FOLDER>      Write the tree into this folder, new or empty
   -h, --help               Print help
+
+Status:
+  0  The blob or the tree was written
+  1  The server has no such blob, or lacks one of the tree
+  2  The command line or the digest is invalid
+  3  The folder, the server, standard output or memory failed
 ";
 
 const BUILD: &str = "\
-Build a plan: run its steps, or take their results from the server, and write the record
+Build a plan, and write the record of the build
+
+A step's result is taken from the server, or else the step is run and its result uploaded. What a
+step writes to its standard output is thrown away.
 
 Usage: buildcache build [OPTIONS] --server <ADDR> --sources <DIGEST> --plan <FILE> \
 --record <FILE> --work <FOLDER>
 
 Options:
-      --server <ADDR>      The server, HOST:PORT
-      --prefix <P>         What stands before /cas and /ac on the server
-      --timeout <SECONDS>  How long the server may be silent (60; 0: for ever)
-      --sources <DIGEST>   The digest of the source tree, as HASH/SIZE
-      --plan <FILE>        The plan
-      --record <FILE>      Where the record of the build is written
-      --work <FOLDER>      An empty folder, in which each step runs in a folder of its own
-      --jobs <J>           How many steps run at once (1; at most 64)
-      --verbose            Show what the steps write to their standard error, as on a terminal
+      --server <ADDR>      Server that has the sources, and takes the results, HOST:PORT
+      --prefix <P>         Path before /cas and /ac on the server, like /team/main
+      --timeout <SECONDS>  Seconds of silence after which the server has failed; 0: never
+                           [default: 60]
+      --sources <DIGEST>   Digest of the source tree, HASH/SIZE
+      --plan <FILE>        The plan's file (docs/FORMATS.md)
+      --record <FILE>      Write the record to this file
+      --work <FOLDER>      An existing empty folder, in which each step runs in a folder of its own
+      --jobs <J>           Most steps that run at once, 1 to 64 [default: 1]
+      --verbose            Show the steps' standard error, which on a terminal is always shown
   -h, --help               Print help
+
+Status:
+  0  Built: the root is printed, and the record written
+  1  A step or the root was refused, as standard output says
+  2  The command line, the digest or the plan is invalid
+  3  A file, the server, a process or memory failed
 ";
 
 /// The help of a command, and that of the program where no command has the name.

@@ -10,7 +10,9 @@ use crate::building::run_build;
 use crate::showing::show;
 use crate::workplace::Workplace;
 use command_lines::parse;
-use commands::{CommandError, Ended, run_get, run_put, run_serve, run_verify, tell, tell_note};
+use commands::{
+    CommandError, Ended, World, run_get, run_put, run_serve, run_verify, tell, tell_note,
+};
 use std::alloc::Global;
 use std::io::Write;
 use std::time::Clock;
@@ -19,9 +21,10 @@ use std::time::Clock;
 /// and 3 it begins `error: `, and for 1, where there is one, `note: `. The status: 0 done or yes, 1
 /// no, 2 where the words or the texts that they name are at fault, 3 where a file, the output or
 /// memory is. On a terminal, where there is one, `put` and `build` tell how far they are.
-pub fn run_words<R, W: Workplace, O: Write, E: Write, T: Write + Drop>(
+pub fn run_words<R, W: World, P: Workplace + Drop, O: Write, E: Write, T: Write + Drop>(
     rt: &R,
     world: &W,
+    workplace: P,
     words: &[String],
     out: &mut O,
     err: &mut E,
@@ -32,18 +35,18 @@ where
     ensures status { result < 4 }
     // With status 0 what the words ask for is done, and nothing else went to standard output.
     ensures done { result ≡ 0 → IsDone W.sees
-        (W.below (errors_asked (is_some terminal) (options_of (map string_bytes words.now))))
+        (P.below (errors_asked (is_some terminal) (options_of (map string_bytes words.now))))
         (map string_bytes words.now) (O.contents out.old) (O.contents out.new) }
     // With status 1, the line of their no, or of a build's refusal; or the blob that they name
     // isn't there. Standard error grew at most by the line of the note that belongs to it.
     ensures no { result ≡ 1 → EndsNo W.sees
-        (W.below (errors_asked (is_some terminal) (options_of (map string_bytes words.now))))
+        (P.below (errors_asked (is_some terminal) (options_of (map string_bytes words.now))))
         (map string_bytes words.now)
         (O.contents out.old) (O.contents out.new) (E.contents err.old) (E.contents err.new) }
     // With another status the first fault was told: standard error grew by one line that begins
     // `error: `, or by a beginning of it. Nothing was printed, unless it is of printing or serving.
     ensures refused { 2 ≤ result → EndsRefused W.sees
-        (W.below (errors_asked (is_some terminal) (options_of (map string_bytes words.now))))
+        (P.below (errors_asked (is_some terminal) (options_of (map string_bytes words.now))))
         (map string_bytes words.now) result
         (O.contents out.old) (O.contents out.new) (E.contents err.old) (E.contents err.new) }
     // With status 0 standard error stays as it was.
@@ -54,10 +57,10 @@ where
         → O.contents out.new ≡ O.contents out.old }
     // With another status than 0 and 1 what was printed is a beginning of what the words ask for.
     ensures begun { 2 ≤ result → BeginsAsked W.sees
-        (W.below (errors_asked (is_some terminal) (options_of (map string_bytes words.now))))
+        (P.below (errors_asked (is_some terminal) (options_of (map string_bytes words.now))))
         (map string_bytes words.now) (O.contents out.old) (O.contents out.new) }
 {
-    match run(rt, world, words, out, terminal) {
+    match run(rt, world, workplace, words, out, terminal) {
         Ok(ended) => tell_ended(rt.alloc(), &ended, err),
         Err(error) => {
             tell(rt.alloc(), &error, err);
@@ -80,9 +83,10 @@ fn tell_ended<E: Write>(alloc: Global, ended: &Ended, err: &mut E) -> u8
     }
 }
 
-fn run<R, W: Workplace, O: Write, T: Write + Drop>(
+fn run<R, W: World, P: Workplace + Drop, O: Write, T: Write + Drop>(
     rt: &R,
     world: &W,
+    workplace: P,
     words: &[String],
     out: &mut O,
     terminal: Option<T>,
@@ -90,17 +94,17 @@ fn run<R, W: Workplace, O: Write, T: Write + Drop>(
 where
     R: AllocGlobal + Clock + Clone + Drop,
     ensures ended { IfOk result (Ends W.sees
-        (W.below (errors_asked (is_some terminal) (options_of (map string_bytes words.now))))
+        (P.below (errors_asked (is_some terminal) (options_of (map string_bytes words.now))))
         (map string_bytes words.now) (O.contents out.old) (O.contents out.new)) }
     ensures refused { IfErr result (Fails W.sees
-        (W.below (errors_asked (is_some terminal) (options_of (map string_bytes words.now))))
+        (P.below (errors_asked (is_some terminal) (options_of (map string_bytes words.now))))
         (map string_bytes words.now)) }
     ensures unprinted { IfErr result (λ fault. ¬ IsPrintFault fault → ¬ IsAcceptFault fault
         → O.contents out.new ≡ O.contents out.old) }
     ensures silent { AreFaulty (map string_bytes words.now)
         → O.contents out.new ≡ O.contents out.old }
     ensures begun { OnErr result (BeginsAsked W.sees
-        (W.below (errors_asked (is_some terminal) (options_of (map string_bytes words.now))))
+        (P.below (errors_asked (is_some terminal) (options_of (map string_bytes words.now))))
         (map string_bytes words.now) (O.contents out.old) (O.contents out.new)) }
 {
     let matches = match parse(rt.alloc(), words) {
@@ -125,7 +129,7 @@ where
             run_serve(rt.alloc(), world, inner, out)?;
             Ok(Ended::Done)
         }
-        "build" => Ok(run_build(rt.alloc(), world, inner, out, terminal)?),
+        "build" => Ok(run_build(rt.alloc(), world, workplace, inner, out, terminal)?),
         _ => unreachable!(),
     }
 }

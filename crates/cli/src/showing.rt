@@ -42,7 +42,7 @@ pub(crate) fn show<O: Write>(
         kind => {
             let text = error.to_string(alloc)?;
             let told = mistake_line(alloc, text.as_str(), tip_on(kind, words))?;
-            Err(CommandError::Words(told))
+            Err(CommandError::Usage(told))
         }
     }
 }
@@ -87,7 +87,7 @@ fn tip_on(kind: ErrorKind, words: &[String]) -> &'static str
     if kind == ErrorKind::InvalidSubcommand {
         "; tip: '--help' prints the commands"
     } else if kind == ErrorKind::MissingRequiredArgument && lack_place(words) {
-        "; tip: --server <ADDR> or --store <FOLDER> is needed too"
+        "; tip: one of --server <ADDR> and --store <FOLDER> is required too"
     } else {
         ""
     }

@@ -1,51 +1,62 @@
-ghost use Rattle.std.specs.Prelude.{◌≡◌, string_bytes};
-ghost use Rattle.processes.specs.Running.{errors_of, may_yield, work_of, workshop_of};
+ghost use Rattle.std.specs.Prelude.{◌≡◌, List, [], string_bytes};
+ghost use Rattle.cli.specs.Running.{HaveRun};
+ghost use Rattle.processes.specs.Running.{HaveStarted, alive_of, errors_of, may_yield, next_of};
+ghost use Rattle.processes.specs.Running.{work_of, workshop_of};
 ghost use Rattle.worker.specs.Outcomes.{YieldsNoMore};
+ghost use Rattle.worker.specs.Values.{StartValue};
 
-use commands::{System, World};
-use log::Log;
+use commands::System;
 use processes::{ChildErrors, Disk, ProcessRunner, Workshop};
-use service::ErrorTerminal;
 use std::alloc::Global;
-use std::net::{Net, TcpListener, TcpStream};
-use std::random::RandomSource;
 use std::rt::{Files, Processes};
-use std::time::Clock;
 use worker::Runner;
 
-/// What a command reaches outside, and the processes of a build's steps.
-pub trait Workplace: World {
+/// Where the processes of a build's steps run. It is spent for its runner, so that there is no
+/// other.
+pub trait Workplace {
     /// What runs the steps of a build.
     type Steps: Runner<Global> + Drop;
 
     ghost use Rattle.cli.specs.Built.{Below};
     ghost use Rattle.processes.specs.declared.disk.ChildErrors.{ChildErrors};
 
-    /// What may come of a step below a folder, where this becomes of its errors.
+    /// What is known of the steps that run below a folder, where this becomes of their errors.
     ghost below: { ChildErrors → Below };
 
-    /// What runs steps below a folder.
-    fn steps(&self, work: String, errors: ChildErrors) -> Self::Steps
-        ensures { YieldsNoMore (Self.Steps.yields result) (below errors (string_bytes work)) };
+    /// What runs steps below a folder. It has started none.
+    fn steps(self, work: String, errors: ChildErrors) -> Self::Steps
+        ensures yields { YieldsNoMore (Self.Steps.yields result)
+            (below errors (string_bytes work)).yields }
+        ensures unstarted { Self.Steps.starts result [] }
+        ensures idle { Self.Steps.alive result ≡ 0 };
+
+    /// Ends what ran steps below a folder. Each process that it has started was waited for.
+    fn end_steps(work: &str, steps: Self::Steps)
+        requires idle { Self.Steps.alive steps ≡ 0 }
+        ensures ran { (errors : ChildErrors) (started : List StartValue)
+            → Self.Steps.starts steps started → (below errors work.now).ran started };
 }
 
-impl<'r, R> Workplace for System<'r, R>
-where
-    R: AllocGlobal + Clock + Clone + Drop + ErrorTerminal + Files + Log + Processes,
-    R: RandomSource,
-    R: Net<Listener = TcpListener, Stream = TcpStream>,
-{
+impl<'r, R: AllocGlobal + Clone + Drop + Files + Processes> Workplace for System<'r, R> {
     type Steps = ProcessRunner<Disk<'r, R>, Global>;
 
-    ghost below = { λ _. may_yield (⟦<Disk<'r, R> as Workshop>⟧.works) };
+    ghost below = { λ _ work. record {
+      yields = may_yield (⟦<Disk<'r, R> as Workshop>⟧.works) work;
+      ran = HaveRun (⟦<Disk<'r, R> as Workshop>⟧.works);
+    } };
 
-    fn steps(&self, work: String, errors: ChildErrors) -> ProcessRunner<Disk<'r, R>, Global>
+    fn steps(self, work: String, errors: ChildErrors) -> ProcessRunner<Disk<'r, R>, Global>
         ensures work { work_of result ≡ string_bytes work }
-        ensures below { YieldsNoMore
+        ensures yields { YieldsNoMore
             (may_yield (⟦<Disk<'r, R> as Workshop>⟧.works) (work_of result))
             (may_yield (⟦<Disk<'r, R> as Workshop>⟧.works) (string_bytes work)) }
+        ensures unstarted { HaveStarted (⟦<Disk<'r, R> as Workshop>⟧.works) (work_of result)
+            (next_of result) [] }
+        ensures idle { alive_of result ≡ 0 }
         ensures errors { errors_of (workshop_of result) ≡ errors }
     {
         ProcessRunner::new(Disk::new(self.0, errors), work)
     }
+
+    fn end_steps(_work: &str, _steps: ProcessRunner<Disk<'r, R>, Global>) {}
 }

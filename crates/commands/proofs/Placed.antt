@@ -15,14 +15,14 @@ use Rattle.text_verifier.specs.declared.lack.Lack.{Lack}
 use Rattle.remote.specs.Line.{ConnectionValue}
 use Rattle.commands.specs.Faults.{OrMemory}
 use Rattle.commands.specs.Options.{IsServerOf}
-use Rattle.commands.specs.Places.{Access, FailsInFolder, IsOfFolder, IsOfServer, IsConnected, IsAnsweredBy, IsToldOver, LacksAtServer, LacksInFolder, gets_alone}
-use Rattle.commands.specs.Printed.{StartsPut, IsConnectedTo, IsOfOptions, IsOfPlace, IsNamedPlace, LacksAtPlace}
+use Rattle.commands.specs.Places.{FailsInFolder, IsOfFolder, IsOfServer, IsConnected, IsAnsweredBy, LacksAtServer, LacksInFolder, gets_alone}
+use Rattle.commands.specs.Printed.{StartsPut, IsConnectedTo, IsOfPlace, IsNamedPlace, LacksAtPlace}
 use Rattle.commands.specs.Refusal.{FailsAtPlace, FailsServer}
 use Rattle.commands.specs.Words.{AllValid, server_words}
 use Rattle.commands.specs.World.{Sight}
 use Rattle.commands.specs.declared.connecting.ServerOptions.{ServerOptions}
 use Rattle.commands.specs.declared.error.CommandError.{CommandError}
-use Rattle.commands.specs.declared.verifying.Build.TheVariants.{Folder, Server}
+use Rattle.commands.specs.declared.verifying.RecordedBuild.TheVariants.{Folder, Server}
 use Rattle.commands.proofs.Refused.{or_weaker}
 
 -- ---- what is missing
@@ -93,7 +93,3 @@ module _ (sees : Sight) (options : List Row) (server : ServerOptions) (start : C
 
   pub starts_put : AllValid (server_words options) → StartsPut sees options start
   starts_put valid = record { valid = valid; opened = opened_to }
-
-  -- a client over it
-  pub of_options : (access : Access) (told : Telling) → IsToldOver access start told → IsOfOptions access sees options told
-  of_options access told over = (server, is, record { start = start; opened = opened; over = over })

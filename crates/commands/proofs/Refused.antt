@@ -18,13 +18,13 @@ use Rattle.commands.specs.Faults.{TellsOfEntry, OrMemory}
 use Rattle.commands.specs.PutRefused.FailsBelow.{below, here, too_deep}
 use Rattle.commands.specs.PutRefused.FailsHere.{file_refused, folder_refused, name_twice, no_name, no_text}
 use Rattle.commands.specs.Refusal.{IsPrintFault}
-use Rattle.commands.specs.Printed.{IsAsked, StartsServe}
+use Rattle.commands.specs.Printed.{IsServeRequest, StartsServe}
 use Rattle.commands.specs.ServeRefused.{FailsToListen, IsAcceptFault}
 use Rattle.commands.specs.Words.{AllValid, FailsFirst, serve_words}
 use Rattle.commands.specs.World.{Sight, a_link}
 use Rattle.commands.specs.declared.connecting.ServerOptions.{ServerOptions}
 use Rattle.commands.specs.declared.error.CommandError.{CommandError}
-use Rattle.commands.specs.declared.serving.Asked.{Asked}
+use Rattle.commands.specs.declared.serving.ServeRequest.{ServeRequest}
 use Rattle.commands.specs.declared.error.CommandError.TheVariants.{Accept, Memory}
 use Rattle.commands.proofs.SoFar.{IsPutSoFar}
 
@@ -116,9 +116,9 @@ module _ (sees : Sight) (start : ConnectionValue) (address place : List ℕ) whe
 
 -- ---- the whole command
 
-pub starts_serve : (sees : Sight) (options : List Row) (asked : Asked) (address : SocketAddr) → IsAsked options asked → AllValid (serve_words options)
-    → sees.listens asked.address.now address → StartsServe sees options address
-starts_serve sees options asked address is valid listens = record { valid = valid; listens = subst (λ a. sees.listens a address) is.address listens }
+pub starts_serve : (sees : Sight) (options : List Row) (request : ServeRequest) (address : SocketAddr) → IsServeRequest options request → AllValid (serve_words options)
+    → sees.listens request.address.now address → StartsServe sees options address
+starts_serve sees options request address is valid listens = record { valid = valid; listens = subst (λ a. sees.listens a address) is.address listens }
 
 -- ---- no fault of connections
 

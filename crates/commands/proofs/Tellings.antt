@@ -1,6 +1,7 @@
 -- What a client and a store keep is what their calls brought.
-use Rattle.std.proofs.Common.{◌≡◌, ◌≢◌, ◌⊎◌, ◌∙◌, ℕ, List, Option, Some, None, Result, Ok, Err, IfOk, inl, inr, refl, sym, ap, subst, Ordering}
+use Rattle.std.proofs.Common.{◌≡◌, ◌≢◌, ◌⊎◌, ◌∙◌, ℕ, List, [], ◌∷◌, ◌++◌, Option, Some, None, Result, Ok, Err, IfOk, OnErr, inl, inr, map, refl, sym, ap, subst, Ordering}
 use Rattle.std.specs.Prelude.{IfErr, IfNone, IsSomeAnd, OnOk}
+use Rattle.std.proofs.lemmas.List.{map-append}
 use Rattle.std.proofs.Math.Logic.{∥∥₁_map₂}
 use Rattle.std.specs.Ordering.{nat_cmp, ordering_reverse, ordering_then}
 use Rattle.std.specs.Cmp.Lexicographic.{slice_cmp}
@@ -14,7 +15,7 @@ use Rattle.blob_source.specs.Source.{Blobs, GrowsAt, bytes_of}
 use Rattle.blob_source.specs.Sink.{IsPut, PutsAt}
 use Rattle.blob_source.specs.declared.source.FetchError.{FetchError}
 use Rattle.http_core.specs.declared.event.Area.{Area}
-use Rattle.http_core.specs.declared.event.Area.TheVariants.{Cas}
+use Rattle.http_core.specs.declared.event.Area.TheVariants.{Ac, Cas}
 use Rattle.remote.specs.Folder.{IsNothingAt, IsReadAt, LooksInFolder}
 use Rattle.blob_source.specs.declared.source.FetchError.TheVariants.{Failed, Memory}
 use Rattle.remote.specs.Line.{ConnectionValue, Gets, Puts, RefusesRequest, get, put}
@@ -24,7 +25,7 @@ use Rattle.remote.specs.declared.files.FileError.{FileError}
 use Rattle.remote.specs.declared.table.Table.{Table}
 use Rattle.text_verifier.specs.declared.lack.Lack.{Lack}
 use Rattle.commands.specs.Got.{GetsFirst}
-use Rattle.commands.specs.Places.{Access, CameAllOver, CameOver, Comes, FailsInStore, LacksAll, LacksOver, MaySend, file_of, gets_alone, puts_blobs, puts_too}
+use Rattle.commands.specs.Places.{Access, CameAllOver, CameOver, Comes, FailsInStore, LacksAll, LacksOver, MaySend, file_of, gets_alone, puts_blobs, puts_too, results_put}
 use Rattle.commands.specs.Places.Comes.{got, taken, refused}
 use Rattle.commands.specs.World.{Sight}
 
@@ -91,14 +92,24 @@ may_get gets_alone area hash = refl
 may_get puts_blobs area hash = tt
 may_get puts_too area hash = tt
 
+-- the connection came to stand so, and the results of these actions were put
+abbrev pub ComesPutting : Access → ConnectionValue → List DigestValue → ConnectionValue → Type 0
+ComesPutting access start puts now = (came : Comes access start now) × (map (λ (d : DigestValue). d.hash) puts ≡ results_put came)
+
+-- the same were
+pub same_put : {access : Access} {start : ConnectionValue} (puts more : List DigestValue) (now : ConnectionValue) → more ≡ puts
+    → ComesPutting access start puts now → ComesPutting access start more now
+same_put puts more now same came = (came.0, ap (map (λ (d : DigestValue). d.hash)) same ∙ came.1)
+
 module _ {A : Type 0} (access : Access) (start : ConnectionValue) (area : Area) (d : DigestValue) (old new : ConnectionValue) (before after : Table A) where
   -- the connection came to stand so
-  pub comes_on : (result : Result (Option (Vec ℕ A)) FetchError) → LooksUp area d old new before after result → Comes access start old → Comes access start new
-  comes_on (Ok answer) looks came = elim (there_or_not (answers before d)) [
-    | inl not ↦ got old new area d.hash (bytes_of answer) came (looks.answered not)
-    | inr has ↦ subst (Comes access start) (sym (looks.kept has)) came
+  pub comes_on : (puts : List DigestValue) (result : Result (Option (Vec ℕ A)) FetchError) → LooksUp area d old new before after result
+      → ComesPutting access start puts old → ComesPutting access start puts new
+  comes_on puts (Ok answer) looks came = elim (there_or_not (answers before d)) [
+    | inl not ↦ (got old new area d.hash (bytes_of answer) came.0 (looks.answered not), came.1)
+    | inr has ↦ subst (ComesPutting access start puts) (sym (looks.kept has)) came
   ]
-  comes_on (Err e) looks came = refused old new (get area d.hash) e came (may_get access area d.hash) looks.refused
+  comes_on puts (Err e) looks came = (refused old new (get area d.hash) e came.0 (may_get access area d.hash) looks.refused, came.1)
 
   -- what is kept came over it
   pub came_on : (result : Result (Option (Vec ℕ A)) FetchError) → LooksUp area d old new before after result → Comes access start old
@@ -116,18 +127,31 @@ module _ {A : Type 0} (access : Access) (start : ConnectionValue) (area : Area) 
       anew : (b : List ℕ) → told_by before d ≡ None → told_by after d ≡ Some b → CameOver access start area d.hash b
       anew b none is = absurd (some_not_none (sym is ∙ ap bytes_kept (looks.unheld.same d) ∙ none))
 
-pub comes_by_put : {T : Type 0} (access : Access) (start : ConnectionValue) (area : Area) (hash bytes : List ℕ) (old new : ConnectionValue) (result : Result T FetchError)
-    → OnOk result (Puts old new area hash bytes) → IfErr result (RefusesRequest old new (put area hash bytes)) → MaySend access (put area hash bytes)
-    → Comes access start old → Comes access start new
-comes_by_put access start area hash bytes old new (Ok x) takes refuses sent came = taken old new area hash bytes came sent takes
-comes_by_put access start area hash bytes old new (Err e) takes refuses sent came = refused old new (put area hash bytes) e came sent refuses
+-- a blob is put
+pub comes_by_blob : {T : Type 0} (access : Access) (start : ConnectionValue) (hash bytes : List ℕ) (old new : ConnectionValue) (puts : List DigestValue)
+    (result : Result T FetchError) → OnOk result (Puts old new Cas hash bytes) → IfErr result (RefusesRequest old new (put Cas hash bytes)) → MaySend access (put Cas hash bytes)
+    → ComesPutting access start puts old → ComesPutting access start puts new
+comes_by_blob access start hash bytes old new puts (Ok x) takes refuses sent came = (taken old new Cas hash bytes came.0 sent takes, came.1)
+comes_by_blob access start hash bytes old new puts (Err e) takes refuses sent came = (refused old new (put Cas hash bytes) e came.0 sent refuses, came.1)
+
+-- a result is put, and listed
+pub comes_by_result : {T : Type 0} (access : Access) (start : ConnectionValue) (d : DigestValue) (bytes : List ℕ) (old new : ConnectionValue) (puts more : List DigestValue)
+    (result : Result T FetchError) → OnOk result (Puts old new Ac d.hash bytes) → IfErr result (RefusesRequest old new (put Ac d.hash bytes)) → MaySend access (put Ac d.hash bytes)
+    → OnOk result (more ≡ puts ++ d ∷ []) → OnErr result (more ≡ puts)
+    → ComesPutting access start puts old → ComesPutting access start more new
+comes_by_result access start d bytes old new puts more (Ok x) takes refuses sent listed unlisted came = (
+  taken old new Ac d.hash bytes came.0 sent takes,
+  ap (map (λ (e : DigestValue). e.hash)) listed ∙ map-append (λ (e : DigestValue). e.hash) puts (d ∷ []) ∙ ap (λ l. l ++ d.hash ∷ []) came.1,
+)
+comes_by_result access start d bytes old new puts more (Err e) takes refuses sent listed unlisted came =
+    same_put puts more new unlisted (refused old new (put Ac d.hash bytes) e came.0 sent refuses, came.1)
 
 module _ {A T : Type 0} (start : ConnectionValue) (area : Area) (d : DigestValue) (bytes : List ℕ) (old new : ConnectionValue) (before after : Table A) where
   -- what is kept came over it, or it took it
-  pub came_by_put : (result : Result T FetchError) → Stores area d bytes old new before after result → Comes puts_too start old
+  pub came_by_put : (result : Result T FetchError) → Stores area d bytes old new before after result → MaySend puts_too (put area d.hash bytes) → Comes puts_too start old
       → PutsAt d bytes (told_by before) (told_by after) → CameAllOver puts_too start area (told_by before) → CameAllOver puts_too start area (told_by after)
-  came_by_put (Err e) stores came puts held f b is = held f b (sym (ap bytes_kept (stores.unheld.same f)) ∙ is)
-  came_by_put (Ok x) stores came puts held f b is = elim (same_or_other d f) [
+  came_by_put (Err e) stores sent came puts held f b is = held f b (sym (ap bytes_kept (stores.unheld.same f)) ∙ is)
+  came_by_put (Ok x) stores sent came puts held f b is = elim (same_or_other d f) [
     | inr other ↦ held f b (sym (puts.others f other) ∙ is)
     | inl same ↦ elim puts.there [
       | inl stays ↦ held f b (subst (λ x. told_by before x ≡ Some b) (sym same) (sym stays ∙ subst (λ x. told_by after x ≡ Some b) same is))
@@ -135,8 +159,8 @@ module _ {A T : Type 0} (start : ConnectionValue) (area : Area) (d : DigestValue
         old = old;
         new = new;
         before = came;
-        is = subst (λ x. Gets old new area x.hash (Some b) ⊎ (Unit {0} × Puts old new area x.hash b)) (sym same)
-            (inr (tt, subst (Puts old new area d.hash) (same_bytes (sym is_put ∙ subst (λ x. told_by after x ≡ Some b) same is)) stores.taken));
+        is = subst (λ x. Gets old new area x.hash (Some b) ⊎ (MaySend puts_too (put area x.hash b) × Puts old new area x.hash b)) (sym same)
+            (inr (subst (λ c. MaySend puts_too (put area d.hash c) × Puts old new area d.hash c) (same_bytes (sym is_put ∙ subst (λ x. told_by after x ≡ Some b) same is)) (sent, stores.taken)));
       }
     ]
   ]

@@ -129,7 +129,7 @@ quoted_words None after = (after, ([], tt, refl))
 
 words_of_note : (note : Note) → (text : List ℕ) × IsNoteText note text
 words_of_note (NoBlob server digest) = (no_blob_text (string_bytes server) digest, refl)
-words_of_note (NoStore path) = quoted_words (debug_str (string_bytes path)) (codes ": there is no such folder")
+words_of_note (NoStore path) = quoted_words (debug_str (string_bytes path)) (codes ": there is no such folder, so what is missing from it says nothing about the build")
 words_of_note (Refused why) = (string_bytes why, refl)
 
 -- nothing is told of the line of a note

@@ -10,9 +10,10 @@ use Rattle.remote.specs.Fault.{fault_text}
 use Rattle.commands.specs.declared.error.CommandError.{CommandError}
 use Rattle.commands.specs.declared.error.CommandError.TheVariants.{Accept, Address, Blob}
 use Rattle.commands.specs.declared.error.CommandError.TheVariants.{Connection, Digest, Entry, File}
+use Rattle.commands.specs.declared.error.CommandError.TheVariants.{InvalidValue}
 use Rattle.commands.specs.declared.error.CommandError.TheVariants.{Memory, NotAFile, Number, Output}
 use Rattle.commands.specs.declared.error.CommandError.TheVariants.{Process, Random, Server, Text}
-use Rattle.commands.specs.declared.error.CommandError.TheVariants.{TooLarge, Unlike, Words}
+use Rattle.commands.specs.declared.error.CommandError.TheVariants.{TooLarge, Usage}
 use Rattle.commands.specs.declared.failure.Method.{Method}
 use Rattle.commands.specs.declared.failure.Method.TheVariants.{GetBlob, GetResult, PutBlob}
 use Rattle.commands.specs.declared.failure.Method.TheVariants.{PutResult}
@@ -22,7 +23,7 @@ use Rattle.commands.specs.declared.hint.Hint.TheVariants.{NoLine, NoNewline, NoS
 use Rattle.commands.specs.declared.hint.Hint.TheVariants.{OwnStep}
 use Rattle.commands.specs.declared.process_fault.ProcessCause.{ProcessCause}
 use Rattle.commands.specs.declared.process_fault.ProcessCause.TheVariants.{Signal, Unread}
-use Rattle.commands.specs.declared.process_fault.ProcessCause.TheVariants.{Unstarted}
+use Rattle.commands.specs.declared.process_fault.ProcessCause.TheVariants.{Unstarted, Unwaited}
 use Rattle.commands.specs.declared.process_fault.ProcessFault.{ProcessFault}
 
 -- a text in quotes, as Rust's `{:?}` shows it, which is stated of ASCII alone
@@ -53,10 +54,10 @@ written_option option =
 -- said of an option, for which this was given
 abbrev pub IsOfOption : List ℕ → List ℕ → List ℕ → List ℕ → Type 0
 IsOfOption option said given text = (quoted : List ℕ) × IsQuoted given quoted
-    × (text ≡ said_of (written_option option) (said ++ (codes ", not " ++ quoted)))
+    × (text ≡ said_of (written_option option) (said ++ (codes ", got " ++ quoted)))
 
 abbrev pub number_at_most : ℕ → List ℕ
-number_at_most greatest = codes "a decimal number of at most " ++ decimal greatest
+number_at_most greatest = codes "a number of at most " ++ decimal greatest
 
 -- what may be wrong with a line that can't be read
 abbrev pub hint_words : Option Hint → List ℕ
@@ -94,6 +95,7 @@ said_of_request server method digest said =
 -- why a process came to nothing, by its program's name in quotes
 abbrev pub IsCauseText : List ℕ → ProcessCause → List ℕ → Type 0
 IsCauseText program (Unstarted fault) text = IsWordsOf (codes "can't run " ++ program) text
+IsCauseText program (Unwaited fault) text = IsWordsOf (codes "can't wait for " ++ program) text
 IsCauseText program (Unread fault) text =
     IsWordsOf (codes "can't read the outputs of " ++ program) text
 IsCauseText program (Signal number) text =
@@ -106,18 +108,18 @@ IsProcessText fault text = (quoted : List ℕ) × (said : List ℕ)
     × (text ≡ said_of (string_bytes fault.place) said)
 
 abbrev pub IsErrorText : CommandError → List ℕ → Type 0
-IsErrorText (Words words) text = text ≡ string_bytes words
+IsErrorText (Usage said) text = text ≡ string_bytes said
 IsErrorText (Digest option given fault) text =
     (said : List ℕ) × IsOfOption option.now said (string_bytes given) text
 IsErrorText (Number option greatest given) text =
-    IsOfOption option.now (number_at_most greatest ++ codes " is wanted") (string_bytes given) text
+    IsOfOption option.now (codes "expected " ++ number_at_most greatest) (string_bytes given) text
 IsErrorText (Text path fault hint) text = IsWordsInLine (string_bytes path) fault.line hint text
 IsErrorText (File path fault) text = IsWordsAt (string_bytes path) text
 IsErrorText (NotAFile path) text = IsOfPath (string_bytes path) (codes "not a file") text
 IsErrorText (TooLarge path) text =
     IsOfPath (string_bytes path) (codes "a file of more than 16777216 bytes") text
-IsErrorText (Unlike option wanted given) text =
-    IsOfOption option.now (wanted.now ++ codes " is wanted") (string_bytes given) text
+IsErrorText (InvalidValue option expected given) text =
+    IsOfOption option.now (codes "expected " ++ expected.now) (string_bytes given) text
 IsErrorText (Entry path fault) text = IsOfPath (string_bytes path) fault.now text
 IsErrorText (Connection server fault) text = (said : List ℕ)
     × IsWordsOf (codes "can't connect") said × (text ≡ said_of (string_bytes server) said)

@@ -13,8 +13,9 @@ use Rattle.std.specs.declared.alloc.Global.{Global}
 use Rattle.std.specs.declared.io.Error.{Error}
 use Rattle.commands.specs.declared.error.CommandError.{CommandError}
 use Rattle.commands.specs.declared.error.CommandError.TheVariants.{Blob, Digest, Entry, File}
+use Rattle.commands.specs.declared.error.CommandError.TheVariants.{InvalidValue}
 use Rattle.commands.specs.declared.error.CommandError.TheVariants.{Memory, NotAFile, Server}
-use Rattle.commands.specs.declared.error.CommandError.TheVariants.{TooLarge, Unlike}
+use Rattle.commands.specs.declared.error.CommandError.TheVariants.{TooLarge}
 use Rattle.commands.specs.declared.failure.Failure.{Failure}
 use Rattle.commands.specs.declared.failure.Method.{Method}
 
@@ -40,11 +41,11 @@ abbrev pub IsFaultAtPath : List ℕ → (Error → Type 0) → CommandError → 
 IsFaultAtPath path is (File p fault) = (string_bytes p ≡ path) × is fault
 IsFaultAtPath path is _ = ⊥
 
--- the text of the option isn't what is wanted
-abbrev pub IsUnlikeWanted : List ℕ → List ℕ → List ℕ → CommandError → Type 0
-IsUnlikeWanted option wanted text (Unlike o w t) =
-    (o.now ≡ option) × (w.now ≡ wanted) × (string_bytes t ≡ text)
-IsUnlikeWanted option wanted text _ = ⊥
+-- the text of the option isn't what is expected
+abbrev pub IsInvalidValue : List ℕ → List ℕ → List ℕ → CommandError → Type 0
+IsInvalidValue option expected text (InvalidValue o x t) =
+    (o.now ≡ option) × (x.now ≡ expected) × (string_bytes t ≡ text)
+IsInvalidValue option expected text _ = ⊥
 
 -- the error tells which server refused what, of which digest and for which fault
 abbrev pub IsServerFault : List ℕ → Failure → CommandError → Type 0

@@ -41,7 +41,7 @@ pub data FailsGetBlob (start : ConnectionValue) (address : List ℕ) (digest : D
   in_reply : digest ≢ empty_digest → RefusesAt gets_alone start address GetBlob digest [] e
       → FailsGetBlob start address digest e
   in_bytes : digest ≢ empty_digest → ComesWrong start digest
-      → IsBadBlob address digest (codes "other bytes came") e
+      → IsBadBlob address digest (codes "the server sent other bytes") e
       → FailsGetBlob start address digest e
   in_output : (bytes : List ℕ) → IsBlobOver start digest bytes → IsPrintFault e
       → FailsGetBlob start address digest e
@@ -53,9 +53,10 @@ pub data FailsGetBlob (start : ConnectionValue) (address : List ℕ) (digest : D
 abbrev pub TellsCheckout : ConnectionValue → List ℕ → CheckoutError Global → CommandError → Type 0
 TellsCheckout start address (trees.Missing d) e = ∥ FailsOver gets_alone start address e ∥₁
     ⊎ (∥ LacksOver gets_alone start Cas d.hash ∥₁ × IsPrintFault e)
-TellsCheckout start address (trees.Wrong d) e = IsBadBlob address d (codes "other bytes came") e
+TellsCheckout start address (trees.Wrong d) e =
+    IsBadBlob address d (codes "the server sent other bytes") e
 TellsCheckout start address (trees.Malformed d) e =
-    IsBadBlob address d (codes "not a Directory; the bytes of a file are got without --into") e
+    IsBadBlob address d (codes "not a Directory; leave out --into to get a file's bytes") e
 TellsCheckout start address (trees.TooDeep path) e =
     TellsOfEntry (path_text path) (codes "a path of more than 64 names") e
 TellsCheckout start address trees.Fetch e = ∥ FailsOver gets_alone start address e ∥₁

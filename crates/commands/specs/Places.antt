@@ -1,6 +1,6 @@
 -- What a source over a place outside tells: a store folder, or a server.
-use Rattle.std.specs.Prelude.{◌≡◌, ◌≢◌, ◌⊎◌, ℕ, false, List, [], Option, Some, None, codes}
-use Rattle.std.specs.Prelude.{IfSome, string_bytes}
+use Rattle.std.specs.Prelude.{◌≡◌, ◌≢◌, ◌⊎◌, ℕ, false, List, [], ◌∷◌, ◌++◌, Option, Some, None}
+use Rattle.std.specs.Prelude.{IfSome, codes, map, string_bytes}
 use Rattle.std.specs.IoError.{error_kind}
 use Rattle.std.specs.declared.alloc.Global.{Global}
 use Rattle.std.specs.declared.io.ErrorKind.TheVariants.{OutOfMemory}
@@ -14,7 +14,7 @@ use Rattle.remote.specs.Flow.{unknown_flow}
 use Rattle.remote.specs.Folder.{IsNothingAt, entry_path}
 use Rattle.remote.specs.Folder as folders
 use Rattle.remote.specs.Line.{ConnectionValue, Gets, Puts, RefusesRequest, Request, get, put}
-use Rattle.remote.specs.Remote.{blobs_of, results_of}
+use Rattle.remote.specs.Remote.{blobs_of, results_of, telling_of}
 use Rattle.remote.specs.Table.{HasAnswer, KeepsNone}
 use Rattle.remote.specs.declared.fault.Fault.{Fault}
 use Rattle.remote.specs.declared.files.FileError.{FileError}
@@ -36,10 +36,13 @@ use Rattle.commands.specs.declared.failure.Method.{Method}
 use Rattle.commands.specs.declared.failure.Method.TheVariants.{GetBlob, GetResult, PutBlob}
 use Rattle.commands.specs.declared.failure.Method.TheVariants.{PutResult}
 
--- nothing was asked so far
+-- nothing was asked or put so far
 pub record IsFresh {S A : Type 0} (r : Remote S A) : Type 0 where
   pub blobs : (d : DigestValue) → HasAnswer (blobs_of r) d → ⊥
   pub results : (d : DigestValue) → HasAnswer (results_of r) d → ⊥
+  pub failures : (telling_of r).failures ≡ 0
+  pub calls : (telling_of r).calls ≡ 0
+  pub puts : (telling_of r).puts ≡ []
 
 -- The answer to the question by what such a source told. What it says is missing is so lacked.
 abbrev pub IsAnsweredBy : (Telling → Type 0) → (Lack → Type 0) → Question → Answer Global → Type 0
@@ -121,12 +124,19 @@ pub data Access : Type 0 where
   puts_blobs : Access
   puts_too : Access
 
--- this is such a request; where only blobs are put, each is put under its own hash
+-- a blob is put under its own hash
+abbrev pub IsBlobPut : Request → List ℕ → Type 0
+IsBlobPut request bytes = request ≡ put Cas (digest_of bytes).hash bytes
+
+abbrev pub IsResultPut : Request → List ℕ → Type 0
+IsResultPut request bytes = (hash : List ℕ) × (request ≡ put Ac hash bytes)
+
+-- this is such a request
 abbrev pub MaySend : Access → Request → Type 0
 MaySend gets_alone request = request.body ≡ None
-MaySend puts_blobs request =
-    IfSome request.body (λ bytes. request ≡ put Cas (digest_of bytes).hash bytes)
-MaySend puts_too request = Unit {0}
+MaySend puts_blobs request = IfSome request.body (IsBlobPut request)
+MaySend puts_too request =
+    IfSome request.body (λ bytes. IsBlobPut request bytes ⊎ IsResultPut request bytes)
 
 -- the connection came to stand so by such requests, one after another, and replies to them
 pub data Comes (access : Access) (start : ConnectionValue) : ConnectionValue → Type 0 where
@@ -139,6 +149,15 @@ pub data Comes (access : Access) (start : ConnectionValue) : ConnectionValue →
   refused : (old new : ConnectionValue) (request : Request) (e : FetchError)
       → Comes access start old → MaySend access request
       → RefusesRequest old new request e → Comes access start new
+
+-- the hashes under which results were put, the latest last
+abbrev pub results_put : {access : Access} {start now : ConnectionValue} → Comes access start now
+    → List (List ℕ)
+results_put fresh = []
+results_put (got old new area hash answer before is) = results_put before
+results_put (taken old new Ac hash body before sent is) = results_put before ++ hash ∷ []
+results_put (taken old new area hash body before sent is) = results_put before
+results_put (refused old new request e before sent is) = results_put before
 
 -- These bytes came over the connection as a reply for the hash; or it took them, where PUTs go over
 -- it.
@@ -167,12 +186,14 @@ abbrev pub LacksIt : Access → ConnectionValue → Lack → Type 0
 LacksIt access start (Blob d) = LacksOver access start Cas d.hash
 LacksIt access start (ActionResult d) = LacksOver access start Ac d.hash
 
--- a client over the connection told this, which now stands so
+-- A client over the connection told this, which now stands so. It lists the results that were put,
+-- in this order; where memory runs out after the reply, the PUT counts as refused.
 pub record IsClientOver (access : Access) (start now : ConnectionValue) (told : Telling)
     : Type 0 where
   pub came : Comes access start now
   pub blobs : CameAllOver access start Cas told.blobs
   pub results : CameAllOver access start Ac told.results
+  pub puts : map (λ d. d.hash) told.puts ≡ results_put came
 
 -- what is asked for under a hash, or put there with this body
 abbrev pub request_of : Method → List ℕ → List ℕ → Request

@@ -23,7 +23,7 @@ use Rattle.commands.specs.Got.{BeginsBlob, Writes}
 use Rattle.commands.specs.Options.{IsServerOf, OnNamedServer, decimal_number, greatest_number}
 use Rattle.commands.specs.Options.{number_or}
 use Rattle.commands.specs.Places.{IsOfFolder, IsOfServer, IsConnected, LacksAtServer}
-use Rattle.commands.specs.Places.{Access, LacksInFolder, gets_alone}
+use Rattle.commands.specs.Places.{LacksInFolder, gets_alone}
 use Rattle.commands.specs.Put.{PutsPath}
 use Rattle.commands.specs.Told.{AppendsBeginning}
 use Rattle.commands.specs.Trees.{BeginsLack, IsTreeGot}
@@ -32,9 +32,9 @@ use Rattle.commands.specs.World.{Serving, Sight}
 use Rattle.commands.specs.declared.ended.Ended.{Ended}
 use Rattle.commands.specs.declared.ended.Ended.TheVariants.{Done, No}
 use Rattle.commands.specs.declared.ended.Note.TheVariants.{NoStore}
-use Rattle.commands.specs.declared.serving.Asked.{Asked}
-use Rattle.commands.specs.declared.verifying.Build.{Build}
-use Rattle.commands.specs.declared.verifying.Build.TheVariants.{Folder, Server}
+use Rattle.commands.specs.declared.serving.ServeRequest.{ServeRequest}
+use Rattle.commands.specs.declared.verifying.RecordedBuild.{RecordedBuild}
+use Rattle.commands.specs.declared.verifying.RecordedBuild.TheVariants.{Folder, Server}
 use Rattle.command_lines.specs.CommandLine.{option_text}
 
 -- the options name a store folder, and nothing of a server
@@ -53,21 +53,17 @@ pub record NamesServer (options : List Row) : Type 0 where
 -- ---- verify
 
 -- the folder, or the server, that the options name
-abbrev pub IsNamedPlace : List Row → Build → Type 0
+abbrev pub IsNamedPlace : List Row → RecordedBuild → Type 0
 IsNamedPlace options (Folder folder) =
     NamesStore options × (string_bytes folder ≡ option_text options (codes "store"))
 IsNamedPlace options (Server server) = NamesServer options × IsServerOf options server
-
--- a client of the server that the options name told this
-abbrev pub IsOfOptions : Access → Sight → List Row → Telling → Type 0
-IsOfOptions access sees options told =
-    OnNamedServer options (λ server. IsOfServer access sees server told)
 
 -- A source over the place that the options name told this. Nothing is put into it.
 abbrev pub IsOfPlace : Sight → List Row → Telling → Type 0
 IsOfPlace sees options told =
     (NamesStore options × IsOfFolder sees (option_text options (codes "store")) told)
-    ⊎ (NamesServer options × IsOfOptions gets_alone sees options told)
+    ⊎ (NamesServer options
+    × OnNamedServer options (λ server. IsOfServer gets_alone sees server told))
 
 -- The store folder that they name has no file of it, as the world told; or the server that they
 -- name replied that it has no such blob or result.
@@ -233,12 +229,12 @@ BeginsListening sees options old new = (new ≡ old) ⊎ ((address : SocketAddr)
     × StartsServe sees options address × AppendsBeginning old new (listening_line address))
 
 -- what the words of `serve` ask for is as they say
-pub record IsAsked (options : List Row) (asked : Asked) : Type 0 where
-  pub address : asked.address.now ≡ option_text options (codes "listen")
-  pub limit : asked.limit ≡ decimal_number (option_text options (codes "limit"))
-  pub result_limit : asked.result_limit
+pub record IsServeRequest (options : List Row) (request : ServeRequest) : Type 0 where
+  pub address : request.address.now ≡ option_text options (codes "listen")
+  pub limit : request.limit ≡ decimal_number (option_text options (codes "limit"))
+  pub result_limit : request.result_limit
       ≡ decimal_number (option_text options (codes "result-limit"))
-  pub prefix : asked.prefix ≡ option_text options (codes "prefix")
-  pub connections : asked.connections ≡ number_or greatest_number options (codes "connections")
-  pub at_once : asked.at_once ≡ number_or 1 options (codes "at-once")
-  pub idle : asked.idle ≡ number_or 60 options (codes "idle")
+  pub prefix : request.prefix ≡ option_text options (codes "prefix")
+  pub connections : request.connections ≡ number_or greatest_number options (codes "connections")
+  pub at_once : request.at_once ≡ number_or 1 options (codes "at-once")
+  pub idle : request.idle ≡ number_or 60 options (codes "idle")

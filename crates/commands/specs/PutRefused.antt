@@ -29,12 +29,12 @@ use Rattle.commands.specs.declared.failure.Method.TheVariants.{PutBlob}
 -- what stands at the place has no name that can be put
 pub record HasNoName (place name : List ℕ) (e : CommandError) : Type 0 where
   pub none : ¬ IsName name
-  pub told : TellsOfEntry place (codes "no name of at most 255 bytes") e
+  pub told : TellsOfEntry place (codes "not a name of at most 255 bytes") e
 
 -- the link at the place leads to this, which can't be put
 pub record LinksToNoText (place target : List ℕ) (e : CommandError) : Type 0 where
   pub none : ¬ IsTarget target
-  pub told : TellsOfEntry place (codes "a link to no text of at most 4096 bytes") e
+  pub told : TellsOfEntry place (codes "a link whose target is not text of at most 4096 bytes") e
 
 -- the names in the folder at the place are in order, and don't ascend: one of them stands twice
 pub record HasNameTwice (place : List ℕ) (names : List (List ℕ)) (e : CommandError) : Type 0 where

@@ -16,7 +16,7 @@ use Rattle.command_lines.specs.CommandLine.{option_text}
 use Rattle.commands.specs.declared.connecting.ServerOptions.{ServerOptions}
 use Rattle.commands.specs.declared.error.CommandError.{CommandError}
 use Rattle.commands.specs.declared.error.CommandError.TheVariants.{Memory, Output, Text}
-use Rattle.commands.specs.Faults.{IsDigestFault, error_of_file}
+use Rattle.commands.specs.Faults.{IsDigestFault, OrMemory, error_of_file}
 use Rattle.commands.specs.Hints.{IsHint, TellsOfFault}
 use Rattle.commands.specs.Options.{OnNamedServer}
 use Rattle.commands.specs.Places.{FailsInFolder, FailsOver, FailsToConnect, IsConnected}
@@ -53,13 +53,21 @@ FailsDigests options e =
     ⊎ (IsSpelled (option_text options (codes "sources"))
     × IsDigestFault (codes "claim") (option_text options (codes "claim")) e)
 
+-- the error tells of this fault in a text at the path, with the hint on it
+abbrev pub IsTextFault : List ℕ → List ℕ → PlanError → CommandError → Type 0
+IsTextFault path text fault (Text p f hint) =
+    (string_bytes p ≡ path) × (f ≡ fault) × IsHint (TellsOfFault text fault) hint
+IsTextFault path text fault _ = ⊥
+
+-- the text that was read at the path is at fault
+abbrev pub HasTextFault : Sight → List ℕ → (List ℕ → PlanError → Type 0) → CommandError → Type 0
+HasTextFault sees path faulty e = (text : List ℕ) × (fault : PlanError)
+    × sees.reads path text × faulty text fault × IsTextFault path text fault e
+
 -- a file can't be read, or the text that was read of it is at fault, or memory ran out
 abbrev pub FailsText : Sight → List ℕ → (List ℕ → PlanError → Type 0) → CommandError → Type 0
-FailsText sees path faulty (Text p fault hint) =
-    (string_bytes p ≡ path) × ((bytes : List ℕ) × sees.reads path bytes × faulty bytes fault
-    × IsHint (TellsOfFault bytes fault) hint)
-FailsText sees path faulty e =
-    (e ≡ Memory) ⊎ ((f : FileError Global) × sees.fails path f × (e ≡ error_of_file f))
+FailsText sees path faulty = OrMemory (λ e. HasTextFault sees path faulty e
+    ⊎ ((f : FileError Global) × sees.fails path f × (e ≡ error_of_file f)))
 
 abbrev pub FailsPlan : Sight → List Row → CommandError → Type 0
 FailsPlan sees options = FailsText sees (option_text options (codes "plan")) IsPlanFault

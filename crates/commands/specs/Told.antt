@@ -72,7 +72,8 @@ abbrev pub no_blob_text : List ℕ → DigestValue → List ℕ
 no_blob_text server digest = server ++ (codes " has no blob " ++ digest_text digest)
 
 abbrev pub IsNoStoreText : List ℕ → List ℕ → Type 0
-IsNoStoreText path = IsOfPath path (codes "there is no such folder")
+IsNoStoreText path = IsOfPath path
+    (codes "there is no such folder, so what is missing from it says nothing about the build")
 
 -- those of a note
 abbrev pub IsNoteText : Note → List ℕ → Type 0

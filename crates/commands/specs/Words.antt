@@ -5,10 +5,10 @@ use Rattle.clap.specs.Words.{Row, first_of}
 use Rattle.command_lines.specs.CommandLine.{option_text}
 use Rattle.http_core.specs.Host.{is_host}
 use Rattle.http_core.specs.Prefix.{is_prefix}
-use Rattle.commands.specs.Faults.{IsUnlikeWanted, OrMemory}
+use Rattle.commands.specs.Faults.{IsInvalidValue, OrMemory}
 use Rattle.commands.specs.Options.{IsAddress, IsNumber, decimal_number, greatest_number}
 use Rattle.commands.specs.declared.error.CommandError.{CommandError}
-use Rattle.commands.specs.declared.error.CommandError.TheVariants.{Number, Words}
+use Rattle.commands.specs.declared.error.CommandError.TheVariants.{Number, Usage}
 
 -- what has to be so, and the error where it isn't
 pub record Check : Type 1 where
@@ -50,11 +50,11 @@ has_number_up_to options option greatest = record {
   fault = IsNumberFault option greatest (option_text options option);
 }
 
--- the text of an option is what is wanted
-abbrev pub is_wanted : List Row → List ℕ → List ℕ → (List ℕ → Type 0) → Check
-is_wanted options option wanted IsRight = record {
+-- the text of an option is what is expected
+abbrev pub is_expected : List Row → List ℕ → List ℕ → (List ℕ → Type 0) → Check
+is_expected options option expected IsRight = record {
   valid = IsRight (option_text options option);
-  fault = IsUnlikeWanted option wanted (option_text options option);
+  fault = IsInvalidValue option expected (option_text options option);
 }
 
 abbrev pub IsSaid : List Row → List ℕ → Type 0
@@ -73,15 +73,15 @@ may_have_number_up_to options option greatest =
 -- ---- a server
 
 abbrev pub names_server : List Row → Check
-names_server options = is_wanted options (codes "server") (codes "HOST:PORT")
+names_server options = is_expected options (codes "server") (codes "HOST:PORT")
     (λ text. IsAddress text × IsTrue (is_host text))
 
 abbrev pub has_timeout : List Row → Check
 has_timeout options = where_said options (codes "timeout")
-    (is_wanted options (codes "timeout") (codes "a number of seconds") IsNumber)
+    (is_expected options (codes "timeout") (codes "a number of seconds") IsNumber)
 
 abbrev pub has_prefix : List Row → Check
-has_prefix options = is_wanted options (codes "prefix") (codes "/SEGMENT or more of them")
+has_prefix options = is_expected options (codes "prefix") (codes "a path like /team/main")
     (λ text. is_prefix text ≡ true)
 
 abbrev pub server_words : List Row → List Check
@@ -89,28 +89,28 @@ server_words options = names_server options ∷ has_timeout options ∷ has_pref
 
 -- ---- where a recorded build is
 
-abbrev pub IsToldInWords : List ℕ → CommandError → Type 0
-IsToldInWords words (Words text) = string_bytes text ≡ words
-IsToldInWords words _ = ⊥
+abbrev pub IsUsageError : List ℕ → CommandError → Type 0
+IsUsageError words (Usage text) = string_bytes text ≡ words
+IsUsageError words _ = ⊥
 
 -- so it is, or these words tell that it isn't
 abbrev pub else_told : Type 0 → List ℕ → Check
-else_told valid words = record { valid = valid; fault = IsToldInWords words }
+else_told valid words = record { valid = valid; fault = IsUsageError words }
 
 -- a store folder, or a server, and not both
 abbrev pub names_place : List Row → Check
 names_place options = else_told (IsSaid options (codes "store") ⊎ IsSaid options (codes "server"))
-    (codes "--store or --server is wanted")
+    (codes "one of --store and --server is required")
 
 abbrev pub names_one_place : List Row → Check
 names_one_place options =
     else_told (¬ (IsSaid options (codes "store") × IsSaid options (codes "server")))
-    (codes "--store and --server exclude each other")
+    (codes "--store cannot be used with --server")
 
 abbrev pub goes_with_server : List Row → List ℕ → Check
 goes_with_server options option =
     else_told (IsSaid options (codes "store") → ¬ IsSaid options option)
-    (codes "--" ++ (option ++ codes " goes with --server alone"))
+    (codes "--" ++ (option ++ codes " cannot be used with --store"))
 
 abbrev pub place_words : List Row → List Check
 place_words options =
@@ -121,12 +121,12 @@ place_words options =
 -- ---- what is served
 
 abbrev pub listens_at : List Row → Check
-listens_at options = is_wanted options (codes "listen") (codes "HOST:PORT") IsAddress
+listens_at options = is_expected options (codes "listen") (codes "HOST:PORT") IsAddress
 
 abbrev pub is_at_once : List Row → List Check
 is_at_once options =
     may_have_number_up_to options (codes "at-once") 1024
-    ∷ where_said options (codes "at-once") (is_wanted options (codes "at-once")
+    ∷ where_said options (codes "at-once") (is_expected options (codes "at-once")
     (codes "a number from 1 to 1024") (λ text. decimal_number text ≢ 0)) ∷ []
 
 abbrev pub serve_words : List Row → List Check

@@ -9,7 +9,7 @@ ghost use Rattle.commands.specs.Words.{IsCheckedBy, has_prefix, has_timeout, nam
 ghost use Rattle.commands.specs.Words.{server_words};
 
 use crate::error::CommandError;
-use crate::options::{is_address, limit_of, number_in, unlike};
+use crate::options::{invalid_value, is_address, limit_of, number_in};
 use clap::ArgMatches;
 use command_lines::{option_of, text_of};
 use http_core::{Host, Prefix};
@@ -42,7 +42,7 @@ fn read_host(alloc: Global, matches: &ArgMatches<'_>) -> Result<Host<Global>, Co
     let host = Host::read(alloc, address)?;
     match host {
         Some(host) if is_address(address) => Ok(host),
-        _ => Err(unlike(alloc, "server", "HOST:PORT", address)?),
+        _ => Err(invalid_value(alloc, "server", "HOST:PORT", address)?),
     }
 }
 
@@ -58,7 +58,7 @@ fn read_timeout(alloc: Global, matches: &ArgMatches<'_>) -> Result<Option<Durati
     let text = text_of(matches, "timeout");
     match number_in(text) {
         Some(seconds) => Ok(limit_of(seconds)),
-        None => Err(unlike(alloc, "timeout", "a number of seconds", text)?),
+        None => Err(invalid_value(alloc, "timeout", "a number of seconds", text)?),
     }
 }
 
@@ -74,7 +74,7 @@ pub(crate) fn read_prefix(
     let text = text_of(matches, "prefix");
     match Prefix::read(alloc, text.as_bytes())? {
         Some(prefix) => Ok(prefix),
-        None => Err(unlike(alloc, "prefix", "/SEGMENT or more of them", text)?),
+        None => Err(invalid_value(alloc, "prefix", "a path like /team/main", text)?),
     }
 }
 

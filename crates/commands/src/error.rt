@@ -15,8 +15,8 @@ use std::io;
 /// Why a command ends without its answer. Each is told in one line (`tell`).
 #[derive(Debug, Drop)]
 pub enum CommandError {
-    /// The words are at fault, as this says.
-    Words(String),
+    /// The command line is invalid, as this says.
+    Usage(String),
     /// The text of an option is no digest.
     Digest {
         option: &'static str,
@@ -48,10 +48,10 @@ pub enum CommandError {
     TooLarge {
         path: String,
     },
-    /// The text of an option isn't what is wanted.
-    Unlike {
+    /// The text of an option isn't what is expected.
+    InvalidValue {
         option: &'static str,
-        wanted: &'static str,
+        expected: &'static str,
         text: String,
     },
     /// What stands at the path can't be put or be part of a tree.
@@ -93,15 +93,15 @@ pub enum CommandError {
 }
 
 impl CommandError {
-    /// 2 where the command's words or the texts that they name are at fault, and else 3.
+    /// 2 where the command line or a text that it names is invalid, and else 3.
     pub fn status(&self) -> u8
         ensures { result ≡ exit_status self.now }
     {
         match self {
-            CommandError::Words(_)
+            CommandError::Usage(_)
             | CommandError::Digest { .. }
             | CommandError::Number { .. }
-            | CommandError::Unlike { .. }
+            | CommandError::InvalidValue { .. }
             | CommandError::Text { .. } => 2,
             CommandError::File { .. }
             | CommandError::NotAFile { .. }
@@ -153,7 +153,7 @@ pub(crate) fn entry_error(alloc: Global, place: &str, fault: &'static str) -> Co
 }
 
 /// What is said of bytes that haven't the digest for which they came.
-pub(crate) const OTHER_BYTES: &str = "other bytes came";
+pub(crate) const OTHER_BYTES: &str = "the server sent other bytes";
 
 /// The error of what a server sent for a digest and can't be taken.
 pub(crate) fn blob_error(

@@ -66,7 +66,7 @@ fn of_option(alloc: Global, option: &str, said: &str, given: &str) -> Result<Str
 {
     let written = written_option(alloc, option)?;
     let quoted = format!(in alloc; "{given:?}")?;
-    format!(in alloc; "{written}: {said}, not {quoted}")
+    format!(in alloc; "{written}: {said}, got {quoted}")
 }
 
 /// That the text of an option is no digest.
@@ -86,18 +86,23 @@ fn no_digest(
 /// That it is no number, or is greater than this one.
 fn no_number(alloc: Global, option: &str, greatest: u64, given: &str) -> Result<String, AllocError>
     ensures { IfOk result (λ text. IsOfOption option.now
-        (number_at_most greatest ++ codes " is wanted") given.now (string_bytes text)) }
+        (codes "expected " ++ number_at_most greatest) given.now (string_bytes text)) }
 {
-    let wanted = format!(in alloc; "a decimal number of at most {greatest}")?;
-    not_wanted(alloc, option, wanted.as_str(), given)
+    let expected = format!(in alloc; "a number of at most {greatest}")?;
+    not_expected(alloc, option, expected.as_str(), given)
 }
 
-/// That it isn't what is wanted.
-fn not_wanted(alloc: Global, option: &str, wanted: &str, given: &str) -> Result<String, AllocError>
-    ensures { IfOk result (λ text. IsOfOption option.now (wanted.now ++ codes " is wanted")
+/// That it isn't what is expected.
+fn not_expected(
+    alloc: Global,
+    option: &str,
+    expected: &str,
+    given: &str,
+) -> Result<String, AllocError>
+    ensures { IfOk result (λ text. IsOfOption option.now (codes "expected " ++ expected.now)
         given.now (string_bytes text)) }
 {
-    let said = format!(in alloc; "{wanted} is wanted")?;
+    let said = format!(in alloc; "expected {expected}")?;
     of_option(alloc, option, said.as_str(), given)
 }
 
@@ -197,6 +202,10 @@ fn cause_text(alloc: Global, quoted: &str, cause: &ProcessCause) -> Result<Strin
             let head = format!(in alloc; "can't run {quoted}")?;
             fault_of(alloc, head.as_str(), fault)
         }
+        ProcessCause::Unwaited(fault) => {
+            let head = format!(in alloc; "can't wait for {quoted}")?;
+            fault_of(alloc, head.as_str(), fault)
+        }
         ProcessCause::Unread(fault) => {
             let head = format!(in alloc; "can't read the outputs of {quoted}")?;
             fault_of(alloc, head.as_str(), fault)
@@ -222,7 +231,7 @@ pub(crate) fn error_text(alloc: Global, error: &CommandError) -> Result<String, 
     ensures { IfOk result (λ text. IsErrorText error.now (string_bytes text)) }
 {
     match error {
-        CommandError::Words(words) => String::from_str(alloc, words.as_str()),
+        CommandError::Usage(said) => String::from_str(alloc, said.as_str()),
         CommandError::Digest {
             option,
             text,
@@ -233,11 +242,11 @@ pub(crate) fn error_text(alloc: Global, error: &CommandError) -> Result<String, 
             greatest,
             text,
         } => no_number(alloc, option, *greatest, text.as_str()),
-        CommandError::Unlike {
+        CommandError::InvalidValue {
             option,
-            wanted,
+            expected,
             text,
-        } => not_wanted(alloc, option, wanted, text.as_str()),
+        } => not_expected(alloc, option, expected, text.as_str()),
         CommandError::Text { path, fault, hint } => faulty_line(alloc, path.as_str(), fault, hint),
         CommandError::File { path, fault } => fault_at(alloc, path.as_str(), fault),
         CommandError::NotAFile { path } => of_path(alloc, path.as_str(), "not a file"),

@@ -1,7 +1,7 @@
 ghost use Rattle.std.specs.Prelude.{◌↔◌, IfErr, IfOk, IsTrue, SomeIff};
 ghost use Rattle.clap.specs.Words.{found_of, rows_of};
 ghost use Rattle.command_lines.specs.CommandLine.{option_text};
-ghost use Rattle.commands.specs.Faults.{IsDigestFault, IsUnlikeWanted};
+ghost use Rattle.commands.specs.Faults.{IsDigestFault, IsInvalidValue};
 ghost use Rattle.commands.specs.Options.{IsAddress, IsNumber, IsTimeout, decimal_number};
 ghost use Rattle.text_verifier.specs.Texts.{IsDigestText};
 
@@ -44,7 +44,7 @@ pub fn number_in(text: &str) -> Option<u64>
     text.parse().ok()
 }
 
-/// How long something may take, by a number of seconds; 0: for ever.
+/// How long something may take, by a number of seconds; 0: without end.
 pub(crate) fn limit_of(seconds: u64) -> Option<Duration>
     ensures { IsTimeout seconds result }
 {
@@ -67,18 +67,18 @@ pub(crate) fn is_address(text: &str) -> bool
     }
 }
 
-/// The error of words of which an option's text isn't what is wanted.
-pub fn unlike(
+/// The error of an option whose text isn't what is expected.
+pub fn invalid_value(
     alloc: Global,
     option: &'static str,
-    wanted: &'static str,
+    expected: &'static str,
     text: &str,
 ) -> Result<CommandError, AllocError>
-    ensures { IfOk result (IsUnlikeWanted option.now wanted.now text.now) }
+    ensures { IfOk result (IsInvalidValue option.now expected.now text.now) }
 {
-    Ok(CommandError::Unlike {
+    Ok(CommandError::InvalidValue {
         option,
-        wanted,
+        expected,
         text: String::from_str(alloc, text)?,
     })
 }

@@ -5,6 +5,8 @@ use std::io;
 pub enum ProcessCause {
     /// It couldn't be started.
     Unstarted(io::Error),
+    /// It couldn't be waited for.
+    Unwaited(io::Error),
     /// What it left at its output paths couldn't be read.
     Unread(io::Error),
     /// The signal with this number ended it.

@@ -45,7 +45,7 @@ fn name_at(alloc: Global, place: &str, name: &str) -> Result<Name<Global>, Comma
     match Name::new(alloc, name.as_bytes()) {
         Ok(name) => Ok(name),
         Err(MessageError::Memory) => Err(CommandError::Memory),
-        Err(_e) => Err(entry_error(alloc, place, "no name of at most 255 bytes")),
+        Err(_e) => Err(entry_error(alloc, place, "not a name of at most 255 bytes")),
     }
 }
 
@@ -57,100 +57,108 @@ fn target_at(alloc: Global, place: &str, target: &str) -> Result<Target<Global>,
     match Target::new(alloc, target.as_bytes()) {
         Ok(target) => Ok(target),
         Err(MessageError::Memory) => Err(CommandError::Memory),
-        Err(_e) => Err(entry_error(alloc, place, "a link to no text of at most 4096 bytes")),
+        Err(_e) => Err(entry_error(
+            alloc,
+            place,
+            "a link whose target is not text of at most 4096 bytes",
+        )),
     }
 }
 
-/// Puts the file at a place; gives its digest.
-fn put_file<W: World, K: Opened, P: Counter>(
+/// Uploads what stands at the places of a world to a server.
+#[derive(Drop)]
+struct Uploader<'a, W: World> {
     alloc: Global,
-    world: &W,
-    server: &ServerOptions,
-    client: &mut Client<W::Link, K, PutsBlobs>,
-    progress: &mut P,
-    place: &str,
-) -> Result<Digest, CommandError>
-    ensures put { IfOk result (λ digest. (left : ℕ)
-        → IsPutAt W.sees K.start (suc left) place.now (nodes.File digest false)) }
-    ensures refused { IfErr result (OrMemory (λ e. (left : ℕ)
-        → FailsHere W.sees K.start (string_bytes server.now.address) left place.now e)) }
-    ensures counted { OnOk result
-        (P.files progress.new ≡ min (P.files progress.old + 1) 18446744073709551615) }
-    ensures sized { IfOk result (λ digest.
-        P.size progress.new ≡ min (P.size progress.old + digest.size) 18446744073709551615) }
-    ensures uncounted { OnErr result (progress.new ≡ progress.old) }
-{
-    let bytes = world.read(alloc, place)?;
-    let digest = client.put(alloc, server, &bytes)?;
-    progress.count(digest.size());
-    Ok(digest)
+    world: &'a W,
+    server: &'a ServerOptions,
 }
 
-/// Puts what stands at a place, below which paths have so many names at most; gives its node.
-#[cycle(put_folder)]
-fn put_node<W: World, K: Opened, P: Counter>(
-    alloc: Global,
-    world: &W,
-    server: &ServerOptions,
-    client: &mut Client<W::Link, K, PutsBlobs>,
-    progress: &mut P,
-    place: &str,
-    left: u32,
-) -> Result<Node<Global>, CommandError>
-    ensures stands { IfOk result (λ node. StandsAs W.sees place.now (node_value node)) }
-    ensures put { IfOk result
-        (λ node. IsPutAt W.sees K.start (suc left) place.now (node_value node)) }
-    ensures refused { IfErr result (OrMemory
-        (λ e. FailsBelow W.sees K.start (string_bytes server.now.address) e left place.now)) }
-{
-    let found = world.look(alloc, place)?;
-    let node = match found {
-        Found::Folder => Node::Dir(put_folder(
-            alloc, world, server, client, progress, place, left,
-        )?),
-        Found::Link(target) => Node::Link {
-            target: target_at(alloc, place, target.as_str())?,
-        },
-        Found::File => Node::File {
-            digest: put_file(alloc, world, server, client, progress, place)?,
-            executable: false,
-        },
-    };
-    Ok(node)
-}
+impl<W: World> Uploader<'_, W> {
+    /// Uploads the file at a place; gives its digest.
+    fn upload_file<K: Opened, P: Counter>(
+        &self,
+        client: &mut Client<W::Link, K, PutsBlobs>,
+        progress: &mut P,
+        place: &str,
+    ) -> Result<Digest, CommandError>
+        ensures put { IfOk result (λ digest. (left : ℕ)
+            → IsPutAt W.sees K.start (suc left) place.now (nodes.File digest false)) }
+        ensures refused { IfErr result (OrMemory (λ e. (left : ℕ)
+            → FailsHere W.sees K.start (string_bytes self.now.server.now.address) left
+            place.now e)) }
+        ensures counted { OnOk result
+            (P.files progress.new ≡ min (P.files progress.old + 1) 18446744073709551615) }
+        ensures sized { IfOk result (λ digest. P.size progress.new
+            ≡ min (P.size progress.old + digest.size) 18446744073709551615) }
+        ensures uncounted { OnErr result (progress.new ≡ progress.old) }
+    {
+        let bytes = self.world.read(self.alloc, place)?;
+        let digest = client.put(self.alloc, self.server, &bytes)?;
+        progress.count(digest.size());
+        Ok(digest)
+    }
 
-/// Puts what stands in the folder at a place, and then its Directory; gives that one's digest. The
-/// paths below it have so many names at most.
-#[cycle(put_folder)]
-fn put_folder<W: World, K: Opened, P: Counter>(
-    alloc: Global,
-    world: &W,
-    server: &ServerOptions,
-    client: &mut Client<W::Link, K, PutsBlobs>,
-    progress: &mut P,
-    place: &str,
-    left: u32,
-) -> Result<Digest, CommandError>
-    ensures put { IfOk result
-        (λ digest. IsPutAt W.sees K.start (suc left) place.now (nodes.Dir digest)) }
-    ensures refused { IfErr result (OrMemory
-        (λ e. FailsBelow W.sees K.start (string_bytes server.now.address) e left place.now)) }
-{
-    let names = world.list(alloc, place)?;
-    let mut children = Children::new(alloc);
-    for name in names.iter() {
-        let below = format!(in alloc; "{place}/{name}")?;
-        let name = name_at(alloc, below.as_str(), name.as_str())?;
-        if left == 0 {
-            return Err(entry_error(alloc, below.as_str(), "more than 64 names deep"));
+    /// Uploads what stands at a place; gives its node.
+    #[cycle(upload_folder)]
+    fn upload_node<K: Opened, P: Counter>(
+        &self,
+        client: &mut Client<W::Link, K, PutsBlobs>,
+        progress: &mut P,
+        place: &str,
+        levels_left: u32,
+    ) -> Result<Node<Global>, CommandError>
+        ensures stands { IfOk result (λ node. StandsAs W.sees place.now (node_value node)) }
+        ensures put { IfOk result
+            (λ node. IsPutAt W.sees K.start (suc levels_left) place.now (node_value node)) }
+        ensures refused { IfErr result (OrMemory (λ e. FailsBelow W.sees K.start
+            (string_bytes self.now.server.now.address) e levels_left place.now)) }
+    {
+        let found = self.world.look(self.alloc, place)?;
+        let node = match found {
+            Found::Folder => Node::Dir(self.upload_folder(client, progress, place, levels_left)?),
+            Found::Link(target) => Node::Link {
+                target: target_at(self.alloc, place, target.as_str())?,
+            },
+            Found::File => Node::File {
+                digest: self.upload_file(client, progress, place)?,
+                executable: false,
+            },
+        };
+        Ok(node)
+    }
+
+    /// Uploads what stands in the folder at a place, so many levels of names deep at most, and then
+    /// its Directory; gives that one's digest.
+    #[cycle(upload_folder)]
+    fn upload_folder<K: Opened, P: Counter>(
+        &self,
+        client: &mut Client<W::Link, K, PutsBlobs>,
+        progress: &mut P,
+        place: &str,
+        levels_left: u32,
+    ) -> Result<Digest, CommandError>
+        ensures put { IfOk result
+            (λ digest. IsPutAt W.sees K.start (suc levels_left) place.now (nodes.Dir digest)) }
+        ensures refused { IfErr result (OrMemory (λ e. FailsBelow W.sees K.start
+            (string_bytes self.now.server.now.address) e levels_left place.now)) }
+    {
+        let alloc = self.alloc;
+        let names = self.world.list(alloc, place)?;
+        let mut children = Children::new(alloc);
+        for name in names.iter() {
+            let below = format!(in alloc; "{place}/{name}")?;
+            let path = below.as_str();
+            let name = name_at(alloc, path, name.as_str())?;
+            if levels_left == 0 {
+                return Err(entry_error(alloc, path, "more than 64 names deep"));
+            }
+            let node = self.upload_node(client, progress, path, levels_left - 1)?;
+            children.push(name, node)?;
         }
-        let path = below.as_str();
-        let node = put_node(alloc, world, server, client, progress, path, left - 1)?;
-        children.push(name, node)?;
+        let directory = children.into_directory(alloc, place)?;
+        let bytes = directory.write(alloc)?;
+        client.put(alloc, self.server, &bytes)
     }
-    let directory = children.into_directory(alloc, place)?;
-    let bytes = directory.write(alloc)?;
-    client.put(alloc, server, &bytes)
 }
 
 /// Puts what stands at the path, over the marked connection; gives its digest.
@@ -169,19 +177,16 @@ fn put_over<W: World, K: Opened, P: Counter>(
         (string_bytes server.now.address) e 64 (string_bytes place))) }
 {
     let mut client: Client<W::Link, K, PutsBlobs> = Client::new(remote);
+    let uploader = Uploader {
+        alloc,
+        world,
+        server,
+    };
     let place = place.as_str();
     if world.is_folder(alloc, place)? {
-        put_folder(
-            alloc,
-            world,
-            server,
-            &mut client,
-            progress,
-            place,
-            GREATEST_DEPTH,
-        )
+        uploader.upload_folder(&mut client, progress, place, GREATEST_DEPTH)
     } else {
-        put_file(alloc, world, server, &mut client, progress, place)
+        uploader.upload_file(&mut client, progress, place)
     }
 }
 

@@ -4,8 +4,8 @@ ghost use Rattle.std.specs.Io.KnownBytes.{Appends};
 ghost use Rattle.clap.specs.Words.{found_of, rows_of};
 ghost use Rattle.command_lines.specs.CommandLine.{option_text};
 ghost use Rattle.commands.specs.Options.{IsNumber, decimal_number, number_or};
-ghost use Rattle.commands.specs.Printed.{BeginsListening, IsAsked, PrintsListening, ServesAsked};
-ghost use Rattle.commands.specs.Printed.{listening_line};
+ghost use Rattle.commands.specs.Printed.{BeginsListening, IsServeRequest, PrintsListening};
+ghost use Rattle.commands.specs.Printed.{ServesAsked, listening_line};
 ghost use Rattle.commands.specs.Faults.{OrMemory};
 ghost use Rattle.commands.specs.Refusal.{IsPrintFault};
 ghost use Rattle.commands.specs.ServeRefused.{FailsServe, FailsToListen, IsAcceptFault};
@@ -15,7 +15,7 @@ ghost use Rattle.commands.specs.Words.{may_have_number_up_to, serve_words};
 
 use crate::connecting::read_prefix;
 use crate::error::CommandError;
-use crate::options::{is_address, number_in, unlike};
+use crate::options::{invalid_value, is_address, number_in};
 use crate::printing::print_all;
 use crate::world::{Listening, Service, World};
 use cache_server::Cache;
@@ -37,7 +37,7 @@ const GREATEST_AT_ONCE: u64 = 1024;
 
 /// What the words of `serve` ask for.
 #[derive(Drop)]
-struct Asked<'a> {
+struct ServeRequest<'a> {
     address: &'a str,
     connections: u64,
     limit: u64,
@@ -82,7 +82,7 @@ fn read_address<'a>(alloc: Global, matches: &ArgMatches<'a>) -> Result<&'a str, 
     if is_address(text) {
         Ok(text)
     } else {
-        Err(unlike(alloc, "listen", "HOST:PORT", text)?)
+        Err(invalid_value(alloc, "listen", "HOST:PORT", text)?)
     }
 }
 
@@ -115,7 +115,7 @@ fn read_at_once(alloc: Global, matches: &ArgMatches<'_>) -> Result<usize, Comman
         return Ok(1);
     }
     match read_number(alloc, matches, "at-once", GREATEST_AT_ONCE)? {
-        0 => Err(unlike(
+        0 => Err(invalid_value(
             alloc,
             "at-once",
             "a number from 1 to 1024",
@@ -126,10 +126,13 @@ fn read_at_once(alloc: Global, matches: &ArgMatches<'_>) -> Result<usize, Comman
 }
 
 /// What the words ask for.
-fn read_asked<'a>(alloc: Global, matches: &ArgMatches<'a>) -> Result<Asked<'a>, CommandError>
+fn read_request<'a>(
+    alloc: Global,
+    matches: &ArgMatches<'a>,
+) -> Result<ServeRequest<'a>, CommandError>
     ensures few { IfOk result
-        (λ asked. (asked.limit < 2 ^ 63) × (asked.result_limit < 2 ^ 63)) }
-    ensures asked { IfOk result (IsAsked (rows_of (found_of matches.now))) }
+        (λ request. (request.limit < 2 ^ 63) × (request.result_limit < 2 ^ 63)) }
+    ensures request { IfOk result (IsServeRequest (rows_of (found_of matches.now))) }
     ensures checked { IsCheckedBy (serve_words (rows_of (found_of matches.now))) result }
 {
     let address = read_address(alloc, matches)?;
@@ -139,7 +142,7 @@ fn read_asked<'a>(alloc: Global, matches: &ArgMatches<'a>) -> Result<Asked<'a>, 
     let idle = read_number_or(alloc, matches, "idle", GREATEST_LIMIT, IDLE_SECONDS)?;
     let at_once = read_at_once(alloc, matches)?;
     let prefix = read_prefix(alloc, matches)?;
-    Ok(Asked {
+    Ok(ServeRequest {
         address,
         connections,
         limit,
@@ -208,17 +211,17 @@ pub fn run_serve<W: World, O: Write>(
     // It is for the first fault: what comes before it has none.
     ensures refused { IfErr result (FailsServe W.sees (rows_of (found_of matches.now))) }
 {
-    let asked = read_asked(alloc, matches)?;
+    let request = read_request(alloc, matches)?;
     let keys = world.random_keys().map_err(CommandError::Random)?;
-    let cache: Cache<Global> = Cache::new(alloc, keys, asked.limit, asked.result_limit)?;
-    let listening = listen(alloc, world, asked.address)?;
+    let cache: Cache<Global> = Cache::new(alloc, keys, request.limit, request.result_limit)?;
+    let listening = listen(alloc, world, request.address)?;
     print_address(alloc, &listening.address, out)?;
     let service = Service {
         cache,
-        prefix: asked.prefix,
-        connections: asked.connections,
-        at_once: asked.at_once,
-        idle: asked.idle,
+        prefix: request.prefix,
+        connections: request.connections,
+        at_once: request.at_once,
+        idle: request.idle,
     };
     match world.serve(listening, service) {
         Ok(()) => Ok(()),

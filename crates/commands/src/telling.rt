@@ -87,6 +87,10 @@ pub fn tell<E: Write>(alloc: Global, error: &CommandError, err: &mut E)
     let _ = err.flush();
 }
 
+/// What is said of a store folder that isn't there: a no about it is none about the build.
+const NO_STORE: &str =
+    "there is no such folder, so what is missing from it says nothing about the build";
+
 fn no_blob_text(alloc: Global, server: &str, digest: &Digest) -> Result<String, AllocError>
     ensures { IfOk result (λ text. string_bytes text ≡ no_blob_text server.now digest.now) }
 {
@@ -97,7 +101,7 @@ fn no_blob_text(alloc: Global, server: &str, digest: &Digest) -> Result<String, 
 fn no_store_text(alloc: Global, path: &str) -> Result<String, AllocError>
     ensures { IfOk result (λ text. IsNoStoreText path.now (string_bytes text)) }
 {
-    of_path(alloc, path, "there is no such folder")
+    of_path(alloc, path, NO_STORE)
 }
 
 /// The note's words.

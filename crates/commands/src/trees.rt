@@ -21,7 +21,7 @@ use text_verifier::Lack;
 use tree::FetchError;
 
 /// What is said of a blob that stands for a tree and is none.
-const NO_DIRECTORY: &str = "not a Directory; the bytes of a file are got without --into";
+const NO_DIRECTORY: &str = "not a Directory; leave out --into to get a file's bytes";
 
 /// The line of a blob that a server lacks.
 fn missing_line(alloc: Global, digest: &Digest) -> Result<String, AllocError>

@@ -13,8 +13,9 @@ ghost use Rattle.commands.specs.Printed.{LacksAtPlace, LacksFolder, MayHaveFolde
 ghost use Rattle.commands.specs.Printed.{NotesStore, PrintsVerdict};
 ghost use Rattle.commands.specs.Refusal.{FailsDigests, FailsAtPlace, FailsPlan, FailsRecord};
 ghost use Rattle.commands.specs.Refusal.{FailsServer, FailsVerify, HasPlanRead, IsPrintFault};
+ghost use Rattle.commands.specs.Refusal.{IsTextFault};
 ghost use Rattle.commands.specs.Told.{AppendsBeginning, PrintsNoLine};
-ghost use Rattle.commands.specs.Words.{IsCheckedBy, IsSaid, IsToldInWords, goes_with_server};
+ghost use Rattle.commands.specs.Words.{IsCheckedBy, IsSaid, IsUsageError, goes_with_server};
 ghost use Rattle.commands.specs.Words.{place_words};
 ghost use Rattle.remote.specs.Remote.{connection_of};
 ghost use Rattle.report.specs.Line.{IsOneLine};
@@ -25,14 +26,14 @@ use crate::client::{Client, GetsAlone, Opened, open};
 use crate::connecting::{ServerOptions, read_server};
 use crate::ended::{Ended, Note};
 use crate::error::CommandError;
+use crate::folder_store::{FolderMark, FolderStore};
 use crate::hint::Hint;
 use crate::options::read_digest;
-use crate::shelf::{Shelf, StoreFolder};
 use crate::telling::write_bytes;
 use crate::world::{FilesOf, World};
 use clap::ArgMatches;
 use command_lines::{option_of, text_of};
-use plan::Plan;
+use plan::{Plan, PlanError};
 use remote::{FileError, Remote, Stream};
 use std::alloc::{AllocError, Global};
 use std::io::{ErrorKind, Write};
@@ -42,7 +43,7 @@ use tree::FetchError;
 
 /// Where the recorded build is.
 #[derive(Drop)]
-enum Build {
+enum RecordedBuild {
     Folder(String),
     Server(ServerOptions),
 }
@@ -61,8 +62,21 @@ fn typed_digests(alloc: Global, matches: &ArgMatches<'_>) -> Result<Digests, Com
     Ok(Digests { sources, claim })
 }
 
+/// The error of a text that was read at a path, of which a line is at fault so.
+fn text_error(alloc: Global, path: &str, text: &[u8], fault: PlanError) -> CommandError
+    ensures { OrMemory (IsTextFault path.now text.now fault) result }
+{
+    match String::from_str(alloc, path) {
+        Ok(path) => CommandError::Text {
+            path,
+            fault,
+            hint: Hint::of(text, &fault),
+        },
+        Err(_) => CommandError::Memory,
+    }
+}
+
 /// The plan in the file that the words name.
-#[tactic(auto, using(crate::proofs::Unread::text_fails, crate::proofs::Unread::memory_fails))]
 pub fn plan_in_file<W: World>(
     alloc: Global,
     world: &W,
@@ -72,24 +86,16 @@ pub fn plan_in_file<W: World>(
     ensures fault { IfErr result (FailsPlan W.sees (rows_of (found_of matches.now))) }
 {
     let path = text_of(matches, "plan");
-    let bytes = match world.read(alloc, path) {
-        Ok(bytes) => bytes,
-        Err(error) => return Err(CommandError::from(error)),
-    };
+    let bytes = world.read(alloc, path)?;
     let text = bytes.as_slice();
     match read_plan(alloc, text) {
         Ok(plan) => Ok(plan),
-        Err(TextError::Plan(fault)) => Err(CommandError::Text {
-            path: String::from_str(alloc, path)?,
-            fault,
-            hint: Hint::of(text, &fault),
-        }),
+        Err(TextError::Plan(fault)) => Err(text_error(alloc, path, text, fault)),
         Err(_e) => Err(CommandError::Memory),
     }
 }
 
 /// What is asked: the digests, the plan, and the record of it in the file that the words name.
-#[tactic(auto, using(crate::proofs::Unread::text_fails, crate::proofs::Unread::memory_fails))]
 fn read_case<W: World>(
     alloc: Global,
     world: &W,
@@ -106,27 +112,20 @@ fn read_case<W: World>(
     ensures fault { IfErr result (FailsRecord W.sees (rows_of (found_of matches.now)) plan) }
 {
     let path = text_of(matches, "record");
-    let bytes = match world.read(alloc, path) {
-        Ok(bytes) => bytes,
-        Err(error) => return Err(CommandError::from(error)),
-    };
+    let bytes = world.read(alloc, path)?;
     let text = bytes.as_slice();
     match Case::read(alloc, digests, plan, text) {
         Ok(case) => Ok(case),
-        Err(TextError::Record(fault)) => Err(CommandError::Text {
-            path: String::from_str(alloc, path)?,
-            fault,
-            hint: Hint::of(text, &fault),
-        }),
+        Err(TextError::Record(fault)) => Err(text_error(alloc, path, text, fault)),
         Err(_e) => Err(CommandError::Memory),
     }
 }
 
-/// The error of these words.
-fn told_in(alloc: Global, words: &str) -> Result<CommandError, AllocError>
-    ensures { IfOk result (IsToldInWords words.now) }
+/// The error of an invalid command line, told in these words.
+fn usage_error(alloc: Global, words: &str) -> Result<CommandError, AllocError>
+    ensures { IfOk result (IsUsageError words.now) }
 {
-    Ok(CommandError::Words(String::from_str(alloc, words)?))
+    Ok(CommandError::Usage(String::from_str(alloc, words)?))
 }
 
 /// An option that says something of a server isn't said beside `--store`.
@@ -143,11 +142,11 @@ fn check_beside_store(
     if option_of(matches, option).is_none() {
         return Ok(());
     }
-    Err(CommandError::Words(format!(in alloc; "--{option} goes with --server alone")?))
+    Err(CommandError::Usage(format!(in alloc; "--{option} cannot be used with --store")?))
 }
 
 /// Where the words say that the recorded build is: a store folder or a server, and not both.
-fn read_place(alloc: Global, matches: &ArgMatches<'_>) -> Result<Build, CommandError>
+fn read_place(alloc: Global, matches: &ArgMatches<'_>) -> Result<RecordedBuild, CommandError>
     ensures place { IfOk result (IsNamedPlace (rows_of (found_of matches.now))) }
     ensures checked { IsCheckedBy (place_words (rows_of (found_of matches.now))) result }
 {
@@ -155,16 +154,16 @@ fn read_place(alloc: Global, matches: &ArgMatches<'_>) -> Result<Build, CommandE
         (Some(folder), None) => {
             check_beside_store(alloc, matches, "prefix")?;
             check_beside_store(alloc, matches, "timeout")?;
-            Ok(Build::Folder(String::from_str(alloc, folder)?))
+            Ok(RecordedBuild::Folder(String::from_str(alloc, folder)?))
         }
-        (None, Some(_)) => Ok(Build::Server(read_server(alloc, matches)?)),
-        (Some(_), Some(_)) => Err(told_in(alloc, "--store and --server exclude each other")?),
-        (None, None) => Err(told_in(alloc, "--store or --server is wanted")?),
+        (None, Some(_)) => Ok(RecordedBuild::Server(read_server(alloc, matches)?)),
+        (Some(_), Some(_)) => Err(usage_error(alloc, "--store cannot be used with --server")?),
+        (None, None) => Err(usage_error(alloc, "one of --store and --server is required")?),
     }
 }
 
 /// The answer over the store in the marked folder.
-fn judge_folder<W: World, K: StoreFolder>(
+fn judge_folder<W: World, K: FolderMark>(
     alloc: Global,
     world: &W,
     folder: String,
@@ -176,15 +175,15 @@ fn judge_folder<W: World, K: StoreFolder>(
     ensures fault { IfErr result (OrMemory (λ e. ∥ FailsInFolder W.sees K.folder e ∥₁)) }
 {
     let files = FilesOf(world);
-    let mut shelf: Shelf<'_, W, K> = Shelf::new(alloc, &files, folder);
-    match answer_question(alloc, case, &mut shelf) {
+    let mut store: FolderStore<'_, W, K> = FolderStore::new(alloc, &files, folder);
+    match answer_question(alloc, case, &mut store) {
         Ok(answer) => {
-            if shelf.confirms(&answer.lack) {
+            if store.confirms(&answer.lack) {
                 return Ok(answer);
             }
-            Err(shelf.into_error())
+            Err(store.into_error())
         }
-        Err(TextError::Fetch) => Err(shelf.into_error()),
+        Err(TextError::Fetch) => Err(store.into_error()),
         Err(_e) => Err(CommandError::Memory),
     }
 }
@@ -254,7 +253,7 @@ fn judge<W: World>(
     alloc: Global,
     world: &W,
     matches: &ArgMatches<'_>,
-    build: Build,
+    build: RecordedBuild,
     case: &Case<Global>,
 ) -> Result<Answer<Global>, CommandError>
     requires { IsNamedPlace (rows_of (found_of matches.now)) build }
@@ -265,8 +264,8 @@ fn judge<W: World>(
         (OrMemory (λ e. ∥ FailsAtPlace W.sees (rows_of (found_of matches.now)) e ∥₁)) }
 {
     match build {
-        Build::Folder(folder) => judge_folder::<W, Brand>(alloc, world, folder, case),
-        Build::Server(server) => judge_server(alloc, world, &server, case),
+        RecordedBuild::Folder(folder) => judge_folder::<W, Brand>(alloc, world, folder, case),
+        RecordedBuild::Server(server) => judge_server(alloc, world, &server, case),
     }
 }
 

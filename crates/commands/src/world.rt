@@ -151,7 +151,7 @@ pub trait World {
         ensures few { AsksEachOnce root.now (S.tells source.old) (S.tells source.new) }
         // No blob is asked for but the tree's Directories and its files' contents.
         ensures only { AsksNoOther (CheckoutLooksAt (S.tells source.new).blobs root.now)
-            (S.tells source.old).blobs (S.tells source.new).blobs }
+            (S.tells source.old) (S.tells source.new) }
         ensures called { Called (S.tells source.old) (S.tells source.new)
             (IsErrOf result CheckoutError.Fetch) };
 

@@ -3,6 +3,7 @@ pub mod Names
 pub mod Connection
 pub mod Event
 pub mod Judging
+pub mod Method
 pub mod Host
 pub mod Prefix
 pub mod Reply

@@ -57,7 +57,7 @@ fn is_close(part: &[u8]) -> bool
 fn lists_close(value: &[u8]) -> bool
     ensures { result ≡ lists_close value.now }
 {
-    value.split(|b| *b == b',').any(is_close)
+    value.split(|byte| *byte == b',').any(is_close)
 }
 
 /// Whether the session closes by a `Connection` field.

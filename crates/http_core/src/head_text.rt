@@ -2,6 +2,11 @@ ghost use Rattle.std.specs.Prelude.{◌≡◌, ◌+◌, ◌≤◌, ◌++◌, len
 ghost use Rattle.arrayvec.specs.ArrayVec.{array_vec_len};
 ghost use Rattle.http_core.specs.Reply.{allow_line, connection_line, head_text, reason};
 
+use crate::status::{
+    BAD_REQUEST, CONFLICT, CONTENT_TOO_LARGE, EXPECTATION_FAILED, HTTP_VERSION_NOT_SUPPORTED,
+    INSUFFICIENT_STORAGE, LENGTH_REQUIRED, METHOD_NOT_ALLOWED, NOT_FOUND, NOT_IMPLEMENTED, OK,
+    REQUEST_HEADER_FIELDS_TOO_LARGE,
+};
 use arrayvec::ArrayVec;
 use itoa::Buffer;
 use std::marker::Model;
@@ -68,18 +73,18 @@ fn reason_of(status: u16) -> &'static [u8]
     ensures short { length result.now ≤ 31 }
 {
     match status {
-        200 => b"OK",
-        400 => b"Bad Request",
-        404 => b"Not Found",
-        405 => b"Method Not Allowed",
-        409 => b"Conflict",
-        411 => b"Length Required",
-        413 => b"Content Too Large",
-        417 => b"Expectation Failed",
-        431 => b"Request Header Fields Too Large",
-        501 => b"Not Implemented",
-        505 => b"HTTP Version Not Supported",
-        507 => b"Insufficient Storage",
+        OK => b"OK",
+        BAD_REQUEST => b"Bad Request",
+        NOT_FOUND => b"Not Found",
+        METHOD_NOT_ALLOWED => b"Method Not Allowed",
+        CONFLICT => b"Conflict",
+        LENGTH_REQUIRED => b"Length Required",
+        CONTENT_TOO_LARGE => b"Content Too Large",
+        EXPECTATION_FAILED => b"Expectation Failed",
+        REQUEST_HEADER_FIELDS_TOO_LARGE => b"Request Header Fields Too Large",
+        NOT_IMPLEMENTED => b"Not Implemented",
+        HTTP_VERSION_NOT_SUPPORTED => b"HTTP Version Not Supported",
+        INSUFFICIENT_STORAGE => b"Insufficient Storage",
         _ => b"",
     }
 }
@@ -88,7 +93,7 @@ fn allow_of(status: u16) -> &'static [u8]
     ensures text { result.now ≡ allow_line status }
     ensures short { length result.now ≤ 18 }
 {
-    if status == 405 {
+    if status == METHOD_NOT_ALLOWED {
         b"Allow: GET, PUT\r\n"
     } else {
         b""

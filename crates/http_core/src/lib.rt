@@ -10,12 +10,14 @@ mod head_text;
 mod host;
 mod judging;
 mod laws;
+mod method;
 mod prefix;
 mod reply;
 mod reply_head;
 mod request;
 mod rules;
 mod session;
+mod status;
 
 pub use event::{Area, Ask, Event};
 pub use fail_stream::FailStream;

@@ -47,7 +47,7 @@ fn is_segment(text: &[u8]) -> bool
 fn all_are_segments(text: &[u8]) -> bool
     ensures { result ≡ list_all is_prefix_segment (slice_split (λ b. b == 47) text.now) }
 {
-    text.split(|b| *b == b'/').all(is_segment)
+    text.split(|byte| *byte == b'/').all(is_segment)
 }
 
 /// Whether it is a list of segments, each after a slash.

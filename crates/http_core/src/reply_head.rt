@@ -6,8 +6,9 @@ ghost use Rattle.http_core.specs.ReplyHead.{reply_length, reply_of};
 
 use crate::block::{MAX_BLOCK, is_block};
 use crate::connection::closes;
-use crate::judging::{MAX_PAIRS, count_pairs};
-use crate::rules::{Length, body_length, count_named};
+use crate::judging::{MAX_FIELDS, MAX_PAIRS, count_pairs};
+use crate::rules::{Length, MINOR_OF_HTTP_1_0, body_length, count_named};
+use crate::status::NO_CONTENT;
 use blob_digest::GREATEST_BLOB;
 use httparse::Status;
 use httparse::spans::{EMPTY_HEADER_SPAN, HeaderSpan, ResponseSpans, parse_response};
@@ -23,9 +24,9 @@ pub struct ReplyHead {
 
 /// Where the parts of a reply's head lie.
 #[derive(Drop)]
-pub(crate) struct Response {
+pub(crate) struct ResponseParts {
     pub spans: ResponseSpans,
-    pub headers: [HeaderSpan; 64],
+    pub headers: [HeaderSpan; MAX_FIELDS],
 }
 
 /// Reads the head of a reply from its block, if it is valid: of at most 16,384 bytes up to its
@@ -46,23 +47,18 @@ pub fn read_reply_head(block: &[u8]) -> Option<ReplyHead>
 }
 
 /// The reply head that the whole block is.
-fn read_response(block: &[u8]) -> Option<Response>
+fn read_response(block: &[u8]) -> Option<ResponseParts>
     ensures within { IfSome result (λ x. IsResponseWithin block.now x.headers x.spans) }
     ensures head { IfSome result (λ x. (h : ResponseHead) × IsResponseOf block.now h
         × IsResponseAt block.now x.headers x.spans h) }
     ensures none { IfNone result ((h : ResponseHead) → IsResponseOf block.now h → ⊥) }
 {
-    let mut headers = [EMPTY_HEADER_SPAN; 64];
+    let mut headers = [EMPTY_HEADER_SPAN; MAX_FIELDS];
     match parse_response(block, &mut headers) {
-        Ok(Status::Complete(spans)) => {
-            if spans.len == block.len() {
-                Some(Response { spans, headers })
-            } else {
-                None
-            }
+        Ok(Status::Complete(spans)) if spans.len == block.len() => {
+            Some(ResponseParts { spans, headers })
         }
-        Ok(Status::Partial) => None,
-        Err(_) => None,
+        _ => None,
     }
 }
 
@@ -74,7 +70,7 @@ fn head_in(block: &[u8], spans: &ResponseSpans, headers: &[HeaderSpan]) -> Optio
         (map (header_bytes block.now) (take spans.now.headers headers.now)) }
 {
     let (fields, _) = headers.split_at(spans.headers);
-    if spans.version == 0 {
+    if spans.version == MINOR_OF_HTTP_1_0 {
         return None;
     }
     if count_named(block, fields, b"transfer-encoding") > 0 {
@@ -92,13 +88,13 @@ fn head_in(block: &[u8], spans: &ResponseSpans, headers: &[HeaderSpan]) -> Optio
 fn reply_length(status: u16, length: Length) -> Option<u64>
     ensures { result ≡ reply_length status length }
 {
-    let most = if status == 204 {
+    let most = if status == NO_CONTENT {
         0
     } else {
         GREATEST_BLOB as u64
     };
     match length {
-        Length::Absent => if status == 204 { Some(0) } else { None },
+        Length::Absent => if status == NO_CONTENT { Some(0) } else { None },
         Length::Bad => None,
         Length::Is(length) => if length > most { None } else { Some(length) },
     }

@@ -1,5 +1,5 @@
 ghost use Rattle.std.specs.Prelude.{true, false, ◌≡◌, ℕ, ◌≤◌, ◌<◌, ◌++◌, List, length, take, All};
-ghost use Rattle.std.specs.Prelude.{count_by, map, IfSome, IfNone};
+ghost use Rattle.std.specs.Prelude.{count_by, map, IfSome, IfNone, IfOk, IfErr, OnOk, OnErr};
 ghost use Rattle.std.specs.Char.{is_ascii_digit};
 ghost use Rattle.std.specs.List.{list_all};
 ghost use Rattle.httparse.specs.Grammar.{RequestHead};
@@ -8,14 +8,26 @@ ghost use Rattle.blob_digest.specs.DigestValue.{IsHash};
 ghost use Rattle.http_core.specs.Names.{same_name};
 ghost use Rattle.http_core.specs.Rules.{count_of, length_of, read_length, is_length, is_bad};
 ghost use Rattle.http_core.specs.Rules.{is_absent, body_size, refused_status, area_text};
-ghost use Rattle.http_core.specs.Rules.{target_text};
+ghost use Rattle.http_core.specs.Rules.{target_text, is_put};
+ghost use Rattle.http_core.specs.Method.{is_put_method};
 ghost use Rattle.http_core.specs.Rules.{Names, Targets, JudgesHead};
 
 use crate::connection::closes;
 use crate::event::Area;
 use crate::judging::Judgement;
+use crate::method::Method;
+use crate::status::{
+    BAD_REQUEST, CONTENT_TOO_LARGE, EXPECTATION_FAILED, HTTP_VERSION_NOT_SUPPORTED,
+    LENGTH_REQUIRED, METHOD_NOT_ALLOWED, NOT_FOUND, NOT_IMPLEMENTED,
+};
 use blob_digest::{GREATEST_BLOB, read_hash};
 use httparse::spans::{HeaderSpan, RequestSpans};
+
+/// The minor version of HTTP/1.0, which the server and the client refuse.
+pub(crate) const MINOR_OF_HTTP_1_0: u8 = 0;
+
+/// The most digits that a length may have.
+const MAX_DIGITS: usize = 19;
 
 /// What the fields say of the body's length.
 #[derive(Clone, Copy, Debug, PartialEq, Eq)]
@@ -79,7 +91,7 @@ fn are_digits(text: &[u8]) -> bool
 fn is_length(text: &[u8]) -> bool
     ensures { result ≡ is_length text.now }
 {
-    !text.is_empty() && text.len() <= 19 && are_digits(text)
+    !text.is_empty() && text.len() <= MAX_DIGITS && are_digits(text)
 }
 
 /// Reads a length: 1 to 19 decimal digits.
@@ -117,49 +129,49 @@ pub(crate) fn body_length(block: &[u8], headers: &[HeaderSpan]) -> Length
     found
 }
 
-/// The status of the first rule that applies to the head, but for its target.
+/// The status, as an error, where the rule applies.
+fn refuse_if(applies: bool, status: u16) -> Result<(), u16>
+    ensures ok { OnOk result (applies ≡ false) }
+    ensures err { OnErr result (applies ≡ true) }
+    ensures status { IfErr result (λ told. told ≡ status) }
+{
+    if applies { Err(status) } else { Ok(()) }
+}
+
+/// The method of a head that no rule refuses, but perhaps its target's; or else the status of the
+/// first rule that applies.
 #[tactic(auto, unfolding(crate::specs::Rules::refused_status))]
-fn refusal(
+fn method_in(
     minor: u8,
-    method: &[u8],
+    name: &[u8],
     body: Length,
     block: &[u8],
     headers: &[HeaderSpan],
-) -> Option<u16>
+) -> Result<Method, u16>
     requires within { All (IsHeaderWithin (length block.now)) headers.now }
     requires body { body ≡ length_of (map (header_bytes block.now) headers.now) }
-    ensures { result ≡ refused_status minor method.now (map (header_bytes block.now) headers.now) }
+    ensures ok { OnOk result
+        (refused_status minor name.now (map (header_bytes block.now) headers.now) ≡ None) }
+    ensures method { IfOk result (λ method. is_put name.now ≡ is_put_method method) }
+    ensures err { IfErr result (λ status.
+        refused_status minor name.now (map (header_bytes block.now) headers.now) ≡ Some status) }
 {
-    let get = method == b"GET".as_slice();
-    let put = method == b"PUT".as_slice();
-    if minor == 0 {
-        return Some(505);
-    }
-    if count_named(block, headers, b"host") != 1 {
-        return Some(400);
-    }
-    if count_named(block, headers, b"transfer-encoding") > 0 {
-        return Some(501);
-    }
-    if body.is_bad() {
-        return Some(400);
-    }
-    if count_named(block, headers, b"expect") > 0 {
-        return Some(417);
-    }
-    if !get && !put {
-        return Some(405);
-    }
-    if put && body.is_absent() {
-        return Some(411);
-    }
-    if body.size() > GREATEST_BLOB as u64 {
-        return Some(413);
-    }
-    if get && body.size() > 0 {
-        return Some(400);
-    }
-    None
+    refuse_if(minor == MINOR_OF_HTTP_1_0, HTTP_VERSION_NOT_SUPPORTED)?;
+    refuse_if(count_named(block, headers, b"host") != 1, BAD_REQUEST)?;
+    refuse_if(
+        count_named(block, headers, b"transfer-encoding") > 0,
+        NOT_IMPLEMENTED,
+    )?;
+    refuse_if(body.is_bad(), BAD_REQUEST)?;
+    refuse_if(
+        count_named(block, headers, b"expect") > 0,
+        EXPECTATION_FAILED,
+    )?;
+    let method = Method::read(name).ok_or(METHOD_NOT_ALLOWED)?;
+    refuse_if(method.is_put() && body.is_absent(), LENGTH_REQUIRED)?;
+    refuse_if(body.size() > GREATEST_BLOB as u64, CONTENT_TOO_LARGE)?;
+    refuse_if(!method.is_put() && body.size() > 0, BAD_REQUEST)?;
+    Ok(method)
 }
 
 /// What follows the front.
@@ -192,11 +204,12 @@ fn hash_in(prefix: &[u8], area: Area, target: &[u8]) -> Option<[u8; 32]>
     read_hash(strip(text_of(area), rest)?)
 }
 
-/// What the target names.
-fn named(prefix: &[u8], put: bool, target: &[u8]) -> Option<(Area, [u8; 32])>
-    ensures found { IfSome result (λ x. Names prefix.now put target.now x.0 x.1) }
-    ensures none { IfNone result
-        ((area : Area) (hash : List ℕ) → Names prefix.now put target.now area hash → ⊥) }
+/// The area and the hash that the target names, if such a request may name the area.
+fn named(prefix: &[u8], method: Method, target: &[u8]) -> Option<(Area, [u8; 32])>
+    ensures found { IfSome result
+        (λ x. Names prefix.now (is_put_method method) target.now x.0 x.1) }
+    ensures none { IfNone result ((area : Area) (hash : List ℕ)
+        → Names prefix.now (is_put_method method) target.now area hash → ⊥) }
 {
     if let Some(hash) = hash_in(prefix, Area::Ac, target) {
         return Some((Area::Ac, hash));
@@ -204,7 +217,7 @@ fn named(prefix: &[u8], put: bool, target: &[u8]) -> Option<(Area, [u8; 32])>
     if let Some(hash) = hash_in(prefix, Area::Cas, target) {
         return Some((Area::Cas, hash));
     }
-    if !put {
+    if !method.is_put() {
         return None;
     }
     if let Some(hash) = hash_in(prefix, Area::Pin, target) {
@@ -215,17 +228,30 @@ fn named(prefix: &[u8], put: bool, target: &[u8]) -> Option<(Area, [u8; 32])>
 }
 
 /// Judges the target of a request whose body has this many bytes.
-fn judge_target(prefix: &[u8], put: bool, target: &[u8], size: usize, close: bool) -> Judgement
-    ensures { Targets prefix.now put close target.now size result }
+fn judge_target(
+    prefix: &[u8],
+    method: Method,
+    target: &[u8],
+    length: usize,
+    close: bool,
+) -> Judgement
+    ensures { Targets prefix.now (is_put_method method) close target.now length result }
 {
-    let Some(found) = named(prefix, put, target) else {
-        return Judgement::Refuse(404, put || close);
+    let Some(found) = named(prefix, method, target) else {
+        return Judgement::Refuse {
+            status: NOT_FOUND,
+            close: method.is_put() || close,
+        };
     };
     let (area, hash) = found;
-    if put {
-        Judgement::Put(area, hash, size, close)
-    } else {
-        Judgement::Get(area, hash, close)
+    match method {
+        Method::Get => Judgement::Get { area, hash, close },
+        Method::Put => Judgement::Put {
+            area,
+            hash,
+            length,
+            close,
+        },
     }
 }
 
@@ -241,18 +267,17 @@ pub(crate) fn judge_head(
         → JudgesHead prefix.now h result }
 {
     let (fields, _) = headers.split_at(spans.headers);
-    let method = spans.method.of(block);
-    let body = body_length(block, fields);
-    if let Some(status) = refusal(spans.version, method, body, block, fields) {
-        return Judgement::Refuse(status, true);
-    }
-    let put = method == b"PUT".as_slice();
+    let name = spans.method.of(block);
     let target = spans.path.of(block);
-    judge_target(
-        prefix,
-        put,
-        target,
-        body.size() as usize,
-        closes(block, fields),
-    )
+    let body = body_length(block, fields);
+    match method_in(spans.version, name, body, block, fields) {
+        Err(status) => Judgement::Refuse {
+            status,
+            close: true,
+        },
+        Ok(method) => {
+            let close = closes(block, fields);
+            judge_target(prefix, method, target, body.size() as usize, close)
+        }
+    }
 }

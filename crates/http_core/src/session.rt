@@ -9,24 +9,29 @@ ghost use Rattle.http_core.specs.Event.{IsValid, event_of};
 ghost use Rattle.http_core.specs.Judging.{Judges};
 ghost use Rattle.http_core.specs.Session.{SessionValue, Reading, Taking, Stands, Feeds, FeedsFirst};
 ghost use Rattle.http_core.specs.Session.{IsOpen, IsClosed, MayRunShort, Takes, Follows, ended};
-ghost use Rattle.http_core.specs.Session.{held_bytes};
+ghost use Rattle.http_core.specs.Session.{held_bytes, HoldsNoMore, session_state};
 ghost use Rattle.http_core.specs.Stream.{body_length, outcome};
 
 use crate::block::{MAX_BLOCK, ends_block, first_line};
 use crate::event::{Area, Ask, Event};
 use crate::judging::{Judgement, judge};
 use crate::prefix::Prefix;
+use crate::status::REQUEST_HEADER_FIELDS_TOO_LARGE;
 use blob_digest::Body;
 use std::alloc::{AllocError, Allocator};
 use std::marker::Model;
 use std::mem;
 
-/// What comes next: a byte of a block, or of the body that a PUT has, of which the area, the hash,
-/// the length and whether it closes are known.
+/// What comes next: a byte of a block, or of the body of a PUT whose head has come.
 #[derive(Clone, Copy, Debug)]
 enum Stage {
     Block,
-    Body(Area, [u8; 32], usize, bool),
+    Body {
+        area: Area,
+        hash: [u8; 32],
+        length: usize,
+        close: bool,
+    },
     Closed,
 }
 
@@ -57,10 +62,7 @@ impl<A: Allocator> Session<A> {
     pub fn is_open(&self) -> bool
         ensures { IsTrue result ↔ IsOpen self.now }
     {
-        match self.stage {
-            Stage::Closed => false,
-            _ => true,
-        }
+        !matches!(self.stage, Stage::Closed)
     }
 }
 
@@ -87,13 +89,11 @@ impl<A: Allocator + Copy> Session<A> {
         ensures memory { OnErr result (MayRunShort self.old piece.now) }
         ensures prefix { self.new.prefix ≡ self.old.prefix }
     {
-        match self.cut(alloc, piece) {
-            Ok(events) => Ok(events),
-            Err(error) => {
-                self.close(alloc);
-                Err(error)
-            }
+        let events = self.cut(alloc, piece);
+        if events.is_err() {
+            self.close(alloc);
         }
+        events
     }
 
     /// Takes the next piece of the stream as far as its first event, and answers how many bytes
@@ -119,7 +119,7 @@ impl<A: Allocator + Copy> Session<A> {
     {
         match self.stage {
             Stage::Block => self.block.len(),
-            Stage::Body(..) => self.body.len(),
+            Stage::Body { .. } => self.body.len(),
             Stage::Closed => 0,
         }
     }
@@ -129,7 +129,7 @@ impl<A: Allocator + Copy> Session<A> {
         ensures state { IsClosed self.new }
         ensures prefix { self.new.prefix ≡ self.old.prefix }
     {
-        self.end(alloc, true);
+        self.start(alloc, Stage::Closed);
     }
 
     /// Takes the piece. After an `Err` the session is in the middle of it.
@@ -186,7 +186,7 @@ impl<A: Allocator + Copy> Session<A> {
     {
         match self.stage {
             Stage::Block => self.read_line(alloc, piece),
-            Stage::Body(..) => self.take_body(alloc, piece),
+            Stage::Body { .. } => self.take_body(alloc, piece),
             Stage::Closed => Ok((piece.len(), None)),
         }
     }
@@ -209,7 +209,8 @@ impl<A: Allocator + Copy> Session<A> {
             return Ok((line.len(), None));
         }
         self.close(alloc);
-        Ok((line.len(), Some(Event::Refuse(431, true))))
+        let refusal = Event::Refuse(REQUEST_HEADER_FIELDS_TOO_LARGE, true);
+        Ok((line.len(), Some(refusal)))
     }
 
     /// Goes on after a block.
@@ -223,23 +224,32 @@ impl<A: Allocator + Copy> Session<A> {
         ensures prefix { self.new.prefix ≡ self.old.prefix }
     {
         match judgement {
-            Judgement::Refuse(status, close) => {
+            Judgement::Refuse { status, close } => {
                 self.end(alloc, close);
                 Some(Event::Refuse(status, close))
             }
-            Judgement::Get(area, hash, close) => {
+            Judgement::Get { area, hash, close } => {
                 self.end(alloc, close);
                 Some(Event::Ask(Ask::Get(area, hash), close))
             }
-            Judgement::Put(area, hash, length, close) => {
+            Judgement::Put {
+                area,
+                hash,
+                length,
+                close,
+            } => {
                 if length == 0 {
                     self.end(alloc, close);
                     let body = Body::new(alloc).seal();
                     return Some(Event::Ask(Ask::Put(area, hash, body), close));
                 }
-                self.block.clear();
-                self.body = Body::new(alloc);
-                self.stage = Stage::Body(area, hash, length, close);
+                let stage = Stage::Body {
+                    area,
+                    hash,
+                    length,
+                    close,
+                };
+                self.start(alloc, stage);
                 None
             }
         }
@@ -254,7 +264,13 @@ impl<A: Allocator + Copy> Session<A> {
             (λ x. Takes self.old piece.now x.0 (option_map event_of x.1) self.new) }
         ensures prefix { self.new.prefix ≡ self.old.prefix }
     {
-        let Stage::Body(area, hash, length, close) = self.stage else {
+        let Stage::Body {
+            area,
+            hash,
+            length,
+            close,
+        } = self.stage
+        else {
             return Ok((piece.len(), None));
         };
         let missing = length - self.body.len();
@@ -274,8 +290,18 @@ impl<A: Allocator + Copy> Session<A> {
         ensures prefix { self.new.prefix ≡ self.old.prefix }
         ensures state { self.new.state ≡ ended close }
     {
+        let stage = if close { Stage::Closed } else { Stage::Block };
+        self.start(alloc, stage);
+    }
+
+    /// Begins a stage, at which nothing is kept yet.
+    fn start(&mut self, alloc: A, stage: Stage)
+        requires { HoldsNoMore stage [] [] }
+        ensures state { self.new.state ≡ session_state stage [] [] }
+        ensures prefix { self.new.prefix ≡ self.old.prefix }
+    {
         self.block.clear();
         self.body = Body::new(alloc);
-        self.stage = if close { Stage::Closed } else { Stage::Block };
+        self.stage = stage;
     }
 }

@@ -5,7 +5,7 @@ use Rattle.std.specs.declared.io.Error.{Error}
 use Rattle.std.specs.declared.string.String.{String}
 use Rattle.worker.specs.Counted.{IsFailure, TellsRunFailure}
 use Rattle.worker.specs.Values.{ProducedValue, EndValue, bad_at, failed}
-use Rattle.worker.specs.declared.failure.Cause.TheVariants.{Unread}
+use Rattle.worker.specs.declared.failure.FailureCause.TheVariants.{Unread}
 use Rattle.worker.specs.declared.runner.RunError.{RunError}
 use Rattle.worker.specs.declared.runner.RunError.TheVariants as children
 use Rattle.processes.specs.declared.trouble.Trouble.{Trouble}

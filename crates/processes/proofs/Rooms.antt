@@ -5,10 +5,9 @@ use Rattle.std.specs.Path.{path_parent}
 use Rattle.std.specs.declared.vec.Vec.{Vec}
 use Rattle.std.proofs.lemmas.List.{map-append, take_more}
 use Rattle.messages.specs.Path.{path_text}
-use Rattle.action_messages.specs.Command.{CommandValue}
-use Rattle.worker.specs.Values.{LayoutValue, contents_of}
-use Rattle.processes.specs.Workshop.{Works, RoomValue, Becomes, StartsIn, with_folders, with_files}
-use Rattle.processes.specs.Laying.{place_in, start_of, folders_below, files_placed, working_folders, above_in, folders_above, room_of_layout, room_of_job}
+use Rattle.worker.specs.Values.{contents_of}
+use Rattle.processes.specs.Workshop.{Works, Becomes, with_folders, with_files}
+use Rattle.processes.specs.Laying.{place_in, files_placed, above_in, folders_above}
 use Rattle.processes.proofs.Lists.{map_taken}
 
 above_append : (start : List ℕ) (ps qs : List (List (List ℕ))) → folders_above start (ps ++ qs) ≡ folders_above start ps ++ folders_above start qs
@@ -18,12 +17,6 @@ above_append start (p ∷ ps) qs =
     ∙ sym (append_assoc (above_in start (path_parent (path_text p))) (folders_above start ps) (folders_above start qs))
 
 module _ {R C E : Type 0} (works : Works R C E) where
-  pub no_folders : (room : R) → Becomes works room room (with_folders [])
-  no_folders room v h = subst (λ xs. works.has room (record v { folders = xs })) (sym (append-nil v.folders)) h
-
-  pub no_files : (room : R) → Becomes works room room (with_files [])
-  no_files room v h = subst (λ xs. works.has room (record v { files = xs })) (sym (append-nil v.files)) h
-
   pub folders_then : (old mid new : R) (xs ys zs : List (List ℕ)) → zs ≡ xs ++ ys → Becomes works old mid (with_folders xs) → Becomes works mid new (with_folders ys)
       → Becomes works old new (with_folders zs)
   folders_then old mid new xs ys zs is first then v h =
@@ -33,14 +26,6 @@ module _ {R C E : Type 0} (works : Works R C E) where
       → Becomes works old new (with_files zs)
   files_then old mid new xs ys zs is first then v h =
       subst (λ all. works.has new (record v { files = all })) (append_assoc v.files xs ys ∙ ap (λ more. v.files ++ more) (sym is)) (then (with_files xs v) (first v h))
-
-  pub folder_more : (old mid new : R) (folder : List ℕ) (paths : List (List (List ℕ))) (i : ℕ) (p : List (List ℕ)) (place : List ℕ) → i < length paths → p ≡ get_or paths i p
-      → place ≡ place_in folder (path_text p) → Becomes works old mid (with_folders (folders_below folder (take i paths))) → Becomes works mid new (with_folders (place ∷ []))
-      → Becomes works old new (with_folders (folders_below folder (take (i + 1) paths)))
-  folder_more old mid new folder paths i p place lt is at first then =
-      let f : List (List ℕ) → List ℕ = λ q. place_in folder (path_text q) in
-      folders_then old mid new (folders_below folder (take i paths)) (place ∷ []) (folders_below folder (take (i + 1) paths))
-      (map_taken f paths i p lt is ∙ ap (λ x. folders_below folder (take i paths) ++ x ∷ []) (sym at)) first then
 
   pub file_more : {A : Type 0} (old mid new : R) (folder : List ℕ) (files : List (List (List ℕ) × Vec ℕ A)) (i : ℕ) (f : List (List ℕ) × Vec ℕ A) (place bytes : List ℕ)
       → i < length files → f ≡ get_or files i f → place ≡ place_in folder (path_text f.0) → bytes ≡ f.1.items
@@ -63,12 +48,3 @@ module _ {R C E : Type 0} (works : Works R C E) where
       let one : folders_above start (p ∷ []) ≡ above_in start (path_parent (path_text p)) = append-nil (above_in start (path_parent (path_text p))) in
       folders_then old mid new (folders_above start (take i paths)) (above_in start (path_parent (path_text p))) (folders_above start (take (i + 1) paths))
       (ap (folders_above start) taken ∙ above_append start (take i paths) (p ∷ []) ∙ ap (λ xs. folders_above start (take i paths) ++ xs) one) first then
-
-  pub job_started : (laid at_start ready : R) (folder start : List ℕ) (l : LayoutValue) (c : CommandValue) (outputs : List (List (List ℕ))) (child : C)
-      → start ≡ start_of folder c.working_directory → outputs ≡ c.output_paths → works.has laid (room_of_layout folder l)
-      → Becomes works laid at_start (with_folders (working_folders folder c.working_directory)) → Becomes works at_start ready (with_folders (folders_above start outputs))
-      → StartsIn works ready c start child → works.runs child (room_of_job folder l c) c start
-  job_started laid at_start ready folder start l c outputs child is listed has made prepared started =
-      let all : RoomValue = with_folders (folders_above (start_of folder c.working_directory) c.output_paths) (with_folders (working_folders folder c.working_directory) (room_of_layout folder l)) in
-      let above : folders_above start outputs ≡ folders_above (start_of folder c.working_directory) c.output_paths = cc in
-      started all (subst (λ fs. works.has ready (with_folders fs (with_folders (working_folders folder c.working_directory) (room_of_layout folder l)))) above (prepared _ (made _ has)))

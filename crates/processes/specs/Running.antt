@@ -1,11 +1,12 @@
 -- Jobs in a workshop, and what may come of them.
-use Rattle.std.specs.Prelude.{suc, ◌≡◌, ◌⊎◌, ◌≤◌, ℕ, ℤ, List, [], ◌∷◌, Result, Ok, Err}
+use Rattle.std.specs.Prelude.{suc, ◌≡◌, ◌≤◌, ℕ, ℤ, List, [], ◌∷◌, Result, Ok, Err}
 use Rattle.std.specs.Prelude.{string_bytes}
 use Rattle.action_messages.specs.Command.{CommandValue}
 use Rattle.std.specs.declared.io.Error.{Error}
 use Rattle.worker.specs.Values.{LayoutValue, ProducedValue, EndValue, made, bad_at, failed}
 use Rattle.worker.specs.Values.{StartValue, IsAbsolute, program_of}
-use Rattle.worker.specs.declared.failure.Cause.TheVariants.{Unstarted, Unread, Signal}
+use Rattle.worker.specs.declared.failure.FailureCause.TheVariants.{Signal, Unread, Unstarted}
+use Rattle.worker.specs.declared.failure.FailureCause.TheVariants.{Unwaited}
 use Rattle.worker.specs.declared.runner.RunError.{RunError}
 use Rattle.worker.specs.declared.runner.RunError.TheVariants as children
 use Rattle.processes.specs.declared.disk.ChildErrors.{ChildErrors}
@@ -70,13 +71,15 @@ pub record EndedWith {R C E : Type 0} (works : Works R C E) (child : C) (start :
   pub left : WasLeft works end start paths code e
 
 -- A child of a program came to this: it ended so, with a code; or a signal ended it; or the call
--- that waits for it, or one that looks at what it left, was refused by this error.
+-- that waits for it was refused by this error.
 abbrev pub CameOf : {R C E : Type 0} → Works R C E → C → List ℕ → List ℕ → List (List (List ℕ))
     → EndValue → Type 0
 CameOf {R} {C} {E} works child program start paths (failed p (Signal number)) =
     (p ≡ program) × ((end : E) × works.ended child end (exits.Signal number))
-CameOf works child program start paths (failed p (Unread error)) = (p ≡ program)
-    × (works.unwaited child error ⊎ EndedWith works child start paths (failed p (Unread error)))
+CameOf works child program start paths (failed p (Unwaited error)) =
+    (p ≡ program) × works.unwaited child error
+CameOf works child program start paths (failed p (Unread error)) =
+    (p ≡ program) × EndedWith works child start paths (failed p (Unread error))
 CameOf works child program start paths (failed p (Unstarted error)) = ⊥
 CameOf works child program start paths e = EndedWith works child start paths e
 

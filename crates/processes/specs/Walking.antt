@@ -11,7 +11,7 @@ use Rattle.tree.specs.declared.error.AddError.TheVariants as adding
 use Rattle.std.specs.declared.string.String.{String}
 use Rattle.tree.specs.Tree.{Name, nothing, a_directory}
 use Rattle.tree.specs.FlatTree.{FlatValue, standing_in}
-use Rattle.worker.specs.declared.failure.Cause.{Cause}
+use Rattle.worker.specs.declared.failure.FailureCause.{FailureCause}
 use Rattle.worker.specs.declared.runner.RunError.{RunError}
 use Rattle.worker.specs.declared.runner.RunError.TheVariants as children
 use Rattle.processes.specs.declared.trouble.Trouble.{Trouble}
@@ -93,6 +93,6 @@ abbrev pub AreOfNoTree : List (List ℕ) → Type 0
 AreOfNoTree bs = (m : TreeValue) → IsTree m → directories_of m ≡ bs → ⊥
 
 -- the refusal of a program that failed by a cause, which is of this error of the system
-abbrev pub IsFailedBy : {A : Type 0} → String A → Error → Cause → RunError A → Type 0
+abbrev pub IsFailedBy : {A : Type 0} → String A → Error → FailureCause → RunError A → Type 0
 IsFailedBy program error cause r = ((error_kind error ≡ OutOfMemory) × (r ≡ children.Memory))
     ⊎ ((error_kind error ≢ OutOfMemory) × (r ≡ children.Device program cause))

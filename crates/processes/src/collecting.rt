@@ -4,7 +4,7 @@ ghost use Rattle.std.specs.declared.io.Error.{Error};
 ghost use Rattle.worker.specs.Counted.{TellsRunFailure};
 ghost use Rattle.worker.specs.Values.{failed};
 ghost use Rattle.tree.specs.Folded.{items_of};
-ghost use Rattle.worker.specs.declared.failure.Cause.TheVariants.{Unread};
+ghost use Rattle.worker.specs.declared.failure.FailureCause.TheVariants.{Unread};
 ghost use Rattle.processes.specs.Collected.{AreCollected, HasNoOutput, IsFirstBad, IsMore};
 ghost use Rattle.processes.specs.Collected.{IsUnread};
 ghost use Rattle.processes.specs.Walking.{IsUnreadOutput, TellsTrouble};
@@ -12,7 +12,7 @@ ghost use Rattle.processes.specs.Walking.{IsUnreadOutput, TellsTrouble};
 use crate::laying::place_in;
 use crate::trouble::Trouble;
 use crate::walking::{keep_file, keep_folder};
-use crate::workshop::{Standing, Workshop};
+use crate::workshop::{Left, Standing, Workshop};
 use actions::{Outcome, Output};
 use messages::Path;
 use std::alloc::Allocator;
@@ -21,27 +21,27 @@ use worker::{Produced, RunError};
 /// Takes what stands at a place as the output of a path.
 fn take_output<A: Allocator + Copy, W: Workshop>(
     alloc: A,
-    workshop: &W,
-    ended: &W::Ended,
+    left: &Left<'_, W>,
     place: &str,
     path: &Path<A>,
     outcome: &mut Outcome<A>,
     blobs: &mut Vec<Vec<u8, A>, A>,
 ) -> Result<(), Trouble>
-    ensures more { OnOk result (IsMore W.works ended.now place.now path.now outcome.old
+    ensures more { OnOk result (IsMore W.works left.now.ended.now place.now path.now outcome.old
         (items_of blobs.old.items) outcome.new (items_of blobs.new.items)) }
-    ensures bad { IsErrOf result Trouble.NoOutput → HasNoOutput W.works ended.now place.now }
-    ensures failed { IfErr result
-        (TellsTrouble (IsUnreadOutput W.works ended.now place.now outcome.old path.now)) }
+    ensures bad { IsErrOf result Trouble.NoOutput
+        → HasNoOutput W.works left.now.ended.now place.now }
+    ensures failed { IfErr result (TellsTrouble
+        (IsUnreadOutput W.works left.now.ended.now place.now outcome.old path.now)) }
 {
-    let output = match workshop.look(ended, place)? {
+    let output = match left.workshop.look(left.ended, place)? {
         Standing::Nothing => return Ok(()),
         Standing::File => {
-            let digest = keep_file(alloc, workshop, ended, place, blobs)?;
+            let digest = keep_file(alloc, left, place, blobs)?;
             let executable = false;
             Output::File { digest, executable }
         }
-        Standing::Folder => Output::Tree(keep_folder(alloc, workshop, ended, place, blobs)?),
+        Standing::Folder => Output::Tree(keep_folder(alloc, left, place, blobs)?),
         Standing::Other => return Err(Trouble::NoOutput),
     };
     outcome.add(alloc, Path::copy_of(alloc, path)?, output)?;
@@ -52,8 +52,7 @@ fn take_output<A: Allocator + Copy, W: Workshop>(
 /// folder as its outputs, and their blobs.
 pub(crate) fn collect<A: Allocator + Copy, W: Workshop>(
     alloc: A,
-    workshop: &W,
-    ended: &W::Ended,
+    left: &Left<'_, W>,
     program: String<A>,
     folder: &str,
     paths: &[Path<A>],
@@ -61,13 +60,13 @@ pub(crate) fn collect<A: Allocator + Copy, W: Workshop>(
 ) -> Result<Produced<A>, RunError<A>>
     ensures code { IfOk result (λ p. p.outcome.exit_code ≡ exit_code) }
     ensures outputs { IfOk result
-        (λ p. AreCollected W.works ended.now folder.now paths.now p.outcome p.blobs) }
+        (λ p. AreCollected W.works left.now.ended.now folder.now paths.now p.outcome p.blobs) }
     ensures error { result ≡ Err RunError.NotAbsolute → ⊥ }
     ensures bad { (path : List (List ℕ)) → IsErrOf result (RunError.BadOutput path)
-        → IsFirstBad W.works ended.now folder.now paths.now path }
+        → IsFirstBad W.works left.now.ended.now folder.now paths.now path }
     ensures failed { IfErr result (TellsRunFailure (λ e. (error : Error)
         × (e ≡ failed (string_bytes program) (Unread error))
-        × IsUnread W.works ended.now folder.now paths.now error)) }
+        × IsUnread W.works left.now.ended.now folder.now paths.now error)) }
 {
     let mut outcome = Outcome::new(alloc, exit_code);
     let mut blobs = Vec::new(alloc);
@@ -75,15 +74,7 @@ pub(crate) fn collect<A: Allocator + Copy, W: Workshop>(
         let Ok(place) = place_in(alloc, folder, path.as_str()) else {
             return Err(RunError::Memory);
         };
-        match take_output(
-            alloc,
-            workshop,
-            ended,
-            place.as_str(),
-            path,
-            &mut outcome,
-            &mut blobs,
-        ) {
+        match take_output(alloc, left, place.as_str(), path, &mut outcome, &mut blobs) {
             Ok(()) => {}
             Err(trouble) => return Err(trouble.at(alloc, program, path)),
         }

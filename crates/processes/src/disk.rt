@@ -1,4 +1,5 @@
-ghost use Rattle.std.specs.Prelude.{◌≡◌, IfSome};
+ghost use Rattle.std.specs.Prelude.{◌≡◌, ℤ, IfSome, Some};
+ghost use Rattle.std.specs.Fs.{IsDir, IsFile, file_type};
 ghost use Rattle.std.specs.Process.{exit_code, exit_signal};
 ghost use Rattle.processes.specs.Running.{errors_of};
 
@@ -58,7 +59,12 @@ pub struct NewFolder;
 pub struct HasEnded;
 
 /// What stands at a path with this metadata.
-fn standing_of(metadata: &fs::Metadata) -> Standing {
+fn standing_of(metadata: &fs::Metadata) -> Standing
+    ensures folder { IsDir (file_type metadata.now) → result ≡ Standing.Folder }
+    ensures file { IsFile (file_type metadata.now) → result ≡ Standing.File }
+    ensures other { ¬ IsDir (file_type metadata.now) → ¬ IsFile (file_type metadata.now)
+        → result ≡ Standing.Other }
+{
     if metadata.is_dir() {
         Standing::Folder
     } else if metadata.is_file() {
@@ -72,6 +78,8 @@ fn standing_of(metadata: &fs::Metadata) -> Standing {
 fn exit_of(status: &ExitStatus) -> Exit
     ensures code { IfSome (exit_code status.now) (λ code. result ≡ Exit.Code code) }
     ensures signal { IfSome (exit_signal status.now) (λ number. result ≡ Exit.Signal number) }
+    // No other code is told.
+    ensures only { (code : ℤ) → result ≡ Exit.Code code → exit_code status.now ≡ Some code }
 {
     match status.code() {
         Some(code) => Exit::Code(code),

@@ -5,7 +5,7 @@ ghost use Rattle.blob_source.specs.Source.{greatest_count};
 ghost use Rattle.worker.specs.Counted.{Counts, IsFailure, TellsRunFailure};
 ghost use Rattle.worker.specs.Outcomes.{YieldsFor, YieldsNoMore};
 ghost use Rattle.worker.specs.Values.{EndValue, IsAbsolute, StartsNone, StartsOne, bad_at, made};
-ghost use Rattle.worker.specs.declared.failure.Cause.TheVariants.{Signal};
+ghost use Rattle.worker.specs.declared.failure.FailureCause.TheVariants.{Signal};
 ghost use Rattle.messages.specs.Path.{begins_with_slash};
 ghost use Rattle.processes.specs.Laying.{IsUnstarted, folder_of};
 ghost use Rattle.processes.specs.Running.{CameOf, HaveStarted, IsEnded, IsJobLaunched, TellsCame};
@@ -16,12 +16,12 @@ use crate::collecting::collect;
 use crate::laying::{lay_out, make_parents, make_start};
 use crate::tally::Tally;
 use crate::trouble::failed_by;
-use crate::workshop::{Exit, Workshop};
+use crate::workshop::{Exit, Left, Workshop};
 use actions::Command;
 use messages::Path;
 use std::alloc::{AllocError, Allocator};
 use std::io;
-use worker::{Cause, Layout, Produced, RunError, Runner, program_of};
+use worker::{FailureCause, Layout, Produced, RunError, Runner, program_of};
 
 /// Runs jobs as processes, each in a new folder of its own, which is named by a number.
 #[derive(Drop)]
@@ -166,7 +166,7 @@ fn ended_by<A: Allocator>(program: String<A>, number: i32) -> RunError<A>
 {
     RunError::Device {
         program,
-        cause: Cause::Signal(number),
+        cause: FailureCause::Signal(number),
     }
 }
 
@@ -185,10 +185,16 @@ fn come_to<A: Allocator + Copy, W: Workshop>(
 {
     let (end, exit) = match ended {
         Ok(told) => told,
-        Err(error) => return Err(failed_by(program, error, Cause::Unread(error))),
+        Err(error) => return Err(failed_by(program, error, FailureCause::Unwaited(error))),
     };
     match exit {
-        Exit::Code(code) => collect(alloc, workshop, &end, program, start, outputs, code),
+        Exit::Code(code) => {
+            let left = Left {
+                workshop,
+                ended: &end,
+            };
+            collect(alloc, &left, program, start, outputs, code)
+        }
         Exit::Signal(number) => Err(ended_by(program, number)),
     }
 }
@@ -255,7 +261,7 @@ impl<W: Workshop + Drop, A: Allocator + Copy> Runner<A> for ProcessRunner<W, A> 
         match self.launch(alloc, layout, command) {
             Ok(started) => Ok(ProcessJob { started, program }),
             Err(error) => {
-                let refusal = failed_by(program, error, Cause::Unstarted(error));
+                let refusal = failed_by(program, error, FailureCause::Unstarted(error));
                 Err(self.tally.refuse(refusal))
             }
         }

@@ -3,14 +3,14 @@ ghost use Rattle.std.specs.declared.io.Error.{Error};
 ghost use Rattle.processes.specs.Walking.{IsFailedBy, IsOfAdding, IsOfMessage, IsOfSystem};
 ghost use Rattle.processes.specs.declared.trouble.Trouble.TheVariants as troubles;
 ghost use Rattle.worker.specs.Counted.{IsFailure};
-ghost use Rattle.worker.specs.declared.failure.Cause.TheVariants.{Unread};
+ghost use Rattle.worker.specs.declared.failure.FailureCause.TheVariants.{Unread};
 
 use messages::{MessageError, Path};
 use std::alloc::{AllocError, AllocFailed, Allocator};
 use std::io;
 use std::io::ErrorKind;
 use tree::AddError;
-use worker::{Cause, RunError};
+use worker::{FailureCause, RunError};
 
 /// Why nothing is collected at a place, before it is counted.
 #[derive(Drop)]
@@ -90,7 +90,7 @@ impl Trouble {
         match self {
             Trouble::Unread(error) => RunError::Device {
                 program,
-                cause: Cause::Unread(error),
+                cause: FailureCause::Unread(error),
             },
             Trouble::Memory => RunError::Memory,
             Trouble::NoOutput => match Path::copy_of(alloc, path) {
@@ -106,7 +106,7 @@ impl Trouble {
 pub(crate) fn failed_by<A: Allocator>(
     program: String<A>,
     error: io::Error,
-    cause: Cause,
+    cause: FailureCause,
 ) -> RunError<A>
     ensures { IsFailedBy program error cause result }
 {

@@ -16,7 +16,7 @@ ghost use Rattle.processes.specs.Walking.{AreOfNone, AreOfNoTree, IsBare, IsWalk
 
 use crate::laying::place_in;
 use crate::trouble::Trouble;
-use crate::workshop::{Standing, Workshop};
+use crate::workshop::{Left, Standing, Workshop};
 use blob_digest::{Digest, Sealed};
 use messages::{Directory, Name, Path, Tree};
 use std::alloc::Allocator;
@@ -30,17 +30,18 @@ const MOST_NAMES: usize = 64;
 /// Reads the file at a place, and keeps its content.
 pub(crate) fn keep_file<A: Allocator + Copy, W: Workshop>(
     alloc: A,
-    workshop: &W,
-    ended: &W::Ended,
+    left: &Left<'_, W>,
     place: &str,
     blobs: &mut Vec<Vec<u8, A>, A>,
 ) -> Result<Digest, Trouble>
-    ensures kept { IfOk result (λ d. (b : List ℕ) × W.works.holds ended.now place.now (Some b)
-        × (d ≡ digest_of b) × (items_of blobs.new.items ≡ items_of blobs.old.items ++ b ∷ [])) }
-    ensures bad { IsErrOf result Trouble.NoOutput → W.works.holds ended.now place.now None }
-    ensures failed { IfErr result (TellsTrouble (W.works.unread ended.now place.now)) }
+    ensures kept { IfOk result (λ d. (b : List ℕ)
+        × W.works.holds left.now.ended.now place.now (Some b) × (d ≡ digest_of b)
+        × (items_of blobs.new.items ≡ items_of blobs.old.items ++ b ∷ [])) }
+    ensures bad { IsErrOf result Trouble.NoOutput
+        → W.works.holds left.now.ended.now place.now None }
+    ensures failed { IfErr result (TellsTrouble (W.works.unread left.now.ended.now place.now)) }
 {
-    let Some(bytes) = workshop.read(alloc, ended, place)? else {
+    let Some(bytes) = left.workshop.read(alloc, left.ended, place)? else {
         return Err(Trouble::NoOutput);
     };
     let sealed = Sealed::of(bytes);
@@ -70,16 +71,16 @@ fn path_below<A: Allocator + Copy>(
 /// The names in the folder at a place. `NoOutput` where one is no text.
 fn list_names<A: Allocator + Copy, W: Workshop>(
     alloc: A,
-    workshop: &W,
-    ended: &W::Ended,
+    left: &Left<'_, W>,
     place: &str,
 ) -> Result<Vec<String<A>, A>, Trouble>
     ensures listed { IfOk result (λ names.
-        W.works.lists ended.now place.now (Some (map string_bytes names.items))) }
-    ensures bad { IsErrOf result Trouble.NoOutput → W.works.lists ended.now place.now None }
-    ensures failed { IfErr result (TellsTrouble (W.works.unread ended.now place.now)) }
+        W.works.lists left.now.ended.now place.now (Some (map string_bytes names.items))) }
+    ensures bad { IsErrOf result Trouble.NoOutput
+        → W.works.lists left.now.ended.now place.now None }
+    ensures failed { IfErr result (TellsTrouble (W.works.unread left.now.ended.now place.now)) }
 {
-    match workshop.list(alloc, ended, place)? {
+    match left.workshop.list(alloc, left.ended, place)? {
         Some(names) => Ok(names),
         None => Err(Trouble::NoOutput),
     }
@@ -89,8 +90,7 @@ fn list_names<A: Allocator + Copy, W: Workshop>(
 /// of the files. A path below it has at most `most` more names.
 fn walk<A: Allocator + Copy, W: Workshop>(
     alloc: A,
-    workshop: &W,
-    ended: &W::Ended,
+    left: &Left<'_, W>,
     place: &str,
     above: &Option<Path<A>>,
     most: usize,
@@ -99,39 +99,31 @@ fn walk<A: Allocator + Copy, W: Workshop>(
 ) -> Result<(), Trouble>
     requires bare { IsBare tree.old (names_in above.now) }
     requires most { length (names_in above.now) + most ≡ 64 }
-    ensures walked { OnOk result (IsWalked W.works ended.now place.now (names_in above.now)
-        tree.old tree.new (items_of blobs.old.items) (items_of blobs.new.items)) }
+    ensures walked { OnOk result (IsWalked W.works left.now.ended.now place.now
+        (names_in above.now) tree.old tree.new (items_of blobs.old.items)
+        (items_of blobs.new.items)) }
     ensures bad { IsErrOf result Trouble.NoOutput
-        → IsBadFolder W.works ended.now most place.now }
+        → IsBadFolder W.works left.now.ended.now most place.now }
     ensures failed { IfErr result
-        (TellsTrouble (λ error. IsUnwalked W.works ended.now error place.now)) }
+        (TellsTrouble (λ error. IsUnwalked W.works left.now.ended.now error place.now)) }
 {
-    let names = list_names(alloc, workshop, ended, place)?;
+    let names = list_names(alloc, left, place)?;
     for name in &names {
         let Some(fewer) = most.checked_sub(1) else {
             return Err(Trouble::NoOutput);
         };
         let path = path_below(alloc, above, name.as_str())?;
         let place = place_in(alloc, place, name.as_str())?;
-        match workshop.look(ended, place.as_str())? {
+        match left.workshop.look(left.ended, place.as_str())? {
             Standing::File => {
-                let digest = keep_file(alloc, workshop, ended, place.as_str(), blobs)?;
+                let digest = keep_file(alloc, left, place.as_str(), blobs)?;
                 let executable = false;
                 tree.add(alloc, path, FlatEntry::File { digest, executable })?;
             }
             Standing::Folder => {
                 tree.add(alloc, Path::copy_of(alloc, &path)?, FlatEntry::Dir)?;
                 let above = Some(path);
-                walk(
-                    alloc,
-                    workshop,
-                    ended,
-                    place.as_str(),
-                    &above,
-                    fewer,
-                    tree,
-                    blobs,
-                )?;
+                walk(alloc, left, place.as_str(), &above, fewer, tree, blobs)?;
             }
             // A link that leads nowhere stands where nothing does.
             Standing::Nothing | Standing::Other => return Err(Trouble::NoOutput),
@@ -188,23 +180,21 @@ fn no_tree(trouble: Trouble) -> Trouble
 /// Reads the folder at a place as a Tree, and keeps the contents of the files in it.
 pub(crate) fn keep_folder<A: Allocator + Copy, W: Workshop>(
     alloc: A,
-    workshop: &W,
-    ended: &W::Ended,
+    left: &Left<'_, W>,
     place: &str,
     blobs: &mut Vec<Vec<u8, A>, A>,
 ) -> Result<Tree<A>, Trouble>
     ensures tree { IfOk result (λ t. (own : List (List ℕ))
-        × IsTreeAt W.works ended.now place.now t own
+        × IsTreeAt W.works left.now.ended.now place.now t own
         × (items_of blobs.new.items ≡ items_of blobs.old.items ++ own)) }
-    ensures bad { IsErrOf result Trouble.NoOutput → IsBadFolder W.works ended.now 64 place.now }
+    ensures bad { IsErrOf result Trouble.NoOutput
+        → IsBadFolder W.works left.now.ended.now 64 place.now }
     ensures failed { IfErr result
-        (TellsTrouble (λ error. IsUnreadAt W.works ended.now error place.now)) }
+        (TellsTrouble (λ error. IsUnreadAt W.works left.now.ended.now error place.now)) }
 {
     let mut tree = FlatTree::new(alloc);
     let top = None;
-    walk(
-        alloc, workshop, ended, place, &top, MOST_NAMES, &mut tree, blobs,
-    )?;
+    walk(alloc, left, place, &top, MOST_NAMES, &mut tree, blobs)?;
     let folded = fold(alloc, &tree)?;
     match tree_of(alloc, &folded.directories) {
         Ok(tree) => Ok(tree),

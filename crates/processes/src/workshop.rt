@@ -101,3 +101,10 @@ pub trait Workshop {
             (λ found. works.holds ended.now path.now (option_map (λ b. b.items) found)) }
         ensures failed { IfErr result (works.unread ended.now path.now) };
 }
+
+/// What a process that has ended left, to be looked at in its workshop.
+#[derive(Drop)]
+pub(crate) struct Left<'a, W: Workshop> {
+    pub(crate) workshop: &'a W,
+    pub(crate) ended: &'a W::Ended,
+}

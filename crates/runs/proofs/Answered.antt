@@ -129,7 +129,7 @@ there_and P (Some x) h = (x, refl, h)
 
 -- ---- the steps
 
-module _ (B C : Blobs) (e : EngineValue) (t : Tree Leaf) (meaning : Meaning) (X : List (ActionMeaning × Outcome)) (es : List Event) (s : State) (engine : IsEngine e) (k : IsMirrored B e t meaning X es s) (serves : Serves B C e t meaning s) where
+module _ (B C : Blobs) (e : EngineValue) (t : Tree Leaf) (meaning : Meaning) (X : List (ActionMeaning × Outcome)) (es : List Event) (s : State) (engine : IsEngine e) (k : IsMirrored B e (record { tree = t; meaning = meaning; table = X; events = es; now = s })) (serves : Serves B C e t meaning s) where
   abbrev S : List ℕ → Type 0
   S = IsConcernedIn B e meaning t es
 
@@ -449,12 +449,12 @@ module _ (B C : Blobs) (e : EngineValue) (t : Tree Leaf) (meaning : Meaning) (X 
       within all b (inr (inr (inr h))) = inl (inr (inr (inr h)))
 
 -- a run that is mirrored with a source is mirrored with each that has less
-mirrored_less : (B told : Blobs) (e : EngineValue) (t : Tree Leaf) (meaning : Meaning) (X : List (ActionMeaning × Outcome)) (es : List Event) (s : State) → Grows told B → IsMirrored B e t meaning X es s → IsMirrored told e t meaning X es s
+mirrored_less : (B told : Blobs) (e : EngineValue) (t : Tree Leaf) (meaning : Meaning) (X : List (ActionMeaning × Outcome)) (es : List Event) (s : State) → Grows told B → IsMirrored B e (record { tree = t; meaning = meaning; table = X; events = es; now = s }) → IsMirrored told e (record { tree = t; meaning = meaning; table = X; events = es; now = s })
 mirrored_less B told e t meaning X es s grows k = record {
   ordered = k.ordered;
   fits = k.fits;
   table = k.table;
-  run = k.run;
+  happened = k.happened;
   mirrors = k.mirrors;
   apart = λ b c p q same. k.apart b c (more b p) (more c q) same;
 }
@@ -470,9 +470,11 @@ mirrored_less B told e t meaning X es s grows k = record {
 
 pub served_yes : (A : Type 0) (told : Blobs) (e : EngineValue) (d : DigestValue) → IsPlan e.plan → IsEngine e → IsRootOf told e d → IsServedYes A told e d
 served_yes A told e d plan engine ends = record {
-  of_run = λ tells t meaning X es s ds before k kept serves.
-      recorded_verdict A tells e.sources e.plan ds d (plan_recorded tells.blobs tells.results e t meaning X es s engine k serves ds d plan kept (ends.of_run t meaning X es s before));
-  of_grown = λ tells t meaning X es s ds grows k kept serves.
-      recorded_verdict A tells e.sources e.plan ds d (plan_recorded tells.blobs tells.results e t meaning X es s engine k serves ds d plan kept (ends.of_run t meaning X es s (mirrored_less tells.blobs told e t meaning X es s grows k)));
-  agrees = λ B C t meaning X es s ds k kept serves. record_agrees B C e t meaning X es s engine k serves ds kept;
+  of_run = λ tells run ds before k kept serves.
+      let t = run.tree in let meaning = run.meaning in let X = run.table in let es = run.events in let s = run.now in
+      recorded_verdict A tells e.sources e.plan ds d (plan_recorded tells.blobs tells.results e t meaning X es s engine k serves ds d plan kept (ends.of_run run before));
+  of_grown = λ tells run ds grows k kept serves.
+      let t = run.tree in let meaning = run.meaning in let X = run.table in let es = run.events in let s = run.now in
+      recorded_verdict A tells e.sources e.plan ds d (plan_recorded tells.blobs tells.results e t meaning X es s engine k serves ds d plan kept (ends.of_run run (mirrored_less tells.blobs told e t meaning X es s grows k)));
+  agrees = λ B C run ds k kept serves. record_agrees B C e run.tree run.meaning run.table run.events run.now engine k serves ds kept;
 }

@@ -68,7 +68,7 @@ module _ (e : EngineValue) (w : ℕ) (j : JobValue) (v : OutcomeValue) (k : IsEn
 
   -- ---- behind a run
 
-  module _ (t : Tree Leaf) (meaning : Meaning) (X : List (ActionMeaning × Outcome)) (es : List Event) (s : State) (run : IsMirrored nothing_told e t meaning X es s) (out : Outcome) (obeys : Obeys X s (finish w out)) (form : IsFormOf v out) where
+  module _ (t : Tree Leaf) (meaning : Meaning) (X : List (ActionMeaning × Outcome)) (es : List Event) (s : State) (run : IsMirrored nothing_told e (record { tree = t; meaning = meaning; table = X; events = es; now = s })) (out : Outcome) (obeys : Obeys X s (finish w out)) (form : IsFormOf v out) where
     abbrev S : List ℕ → Type 0
     S = IsConcernedIn nothing_told e meaning t es
 
@@ -191,15 +191,16 @@ finished_is_engine e w j v k is taken = finished_engine e w j v k is taken
 
 pub finish_event : (e new : EngineValue) (w : ℕ) (v : OutcomeValue) → IsEngine e → IsFinished w v e new → IsFinish e w v new
 finish_event e new w v k f = record {
-  of_run = λ t meaning X es s run out obeys form. (
-    next e w f.job v k f.is t meaning X es s run out obeys form,
-    finish_happens e w f.job v k f.is t meaning X es s run out obeys form,
-    subst (λ n. Mirrors n t meaning (next e w f.job v k f.is t meaning X es s run out obeys form)) (sym f.after) (finish_mirrors e w f.job v k f.is t meaning X es s run out obeys form),
+  of_run = λ run mirrored out obeys form. (
+    next e w f.job v k f.is run.tree run.meaning run.table run.events run.now mirrored out obeys form,
+    finish_happens e w f.job v k f.is run.tree run.meaning run.table run.events run.now mirrored out obeys form,
+    subst (λ n. Mirrors n run.tree run.meaning (next e w f.job v k f.is run.tree run.meaning run.table run.events run.now mirrored out obeys form)) (sym f.after)
+        (finish_mirrors e w f.job v k f.is run.tree run.meaning run.table run.events run.now mirrored out obeys form),
   );
 }
 
 pub foreign_outcome : (e : EngineValue) (w : ℕ) (j : JobValue) (v : OutcomeValue) → IsEngine e → job_in w e ≡ Some j → IsOutcome v → Disagrees e.finished j.step j.action v → IsForeign e w v
-foreign_outcome e w j v k is valid other = record { of_run = λ t meaning X es s run out obeys form. agree e w j v k is t meaning X es s run out obeys form valid other }
+foreign_outcome e w j v k is valid other = record { of_run = λ run mirrored out obeys form. agree e w j v k is run.tree run.meaning run.table run.events run.now mirrored out obeys form valid other }
 
 -- the fault of an outcome is one of the finish
 pub fault_of_outcome : {A : Type 0} (e : EngineValue) (w : ℕ) (j : JobValue) (c : CommandValue) (v : OutcomeValue) (why : RunsError A) → job_in w e ≡ Some j → slice_get e.commands j.step ≡ Some c → IsOutcomeFault c v why → IsFinishFault e w v why

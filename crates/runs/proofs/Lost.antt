@@ -34,11 +34,11 @@ module _ (e : EngineValue) (t : Tree Leaf) (meaning : Meaning) (X : List (Action
       by None at is = absurd cc
       by (Some job) at is = let same : job_form job ≡ j = cc in (job, at, sym same)
 
-  pub steady_of : (B : Blobs) (es : List Event) → (k : IsMirrored B e t meaning X es s) → Steady e.plan meaning t X k.table (IsConcernedIn B e meaning t es) s
-  steady_of B es k = run_steady e.plan meaning t X k.table (IsConcernedIn B e meaning t es) s es (λ b h. inl (inr (inr (inr h)))) k.run
+  pub steady_of : (B : Blobs) (es : List Event) → (k : IsMirrored B e (record { tree = t; meaning = meaning; table = X; events = es; now = s })) → Steady e.plan meaning t X k.table (IsConcernedIn B e meaning t es) s
+  steady_of B es k = run_steady e.plan meaning t X k.table (IsConcernedIn B e meaning t es) s es (λ b h. inl (inr (inr (inr h)))) k.happened
 
   -- the jobs but one
-  pub other_jobs : (B : Blobs) (es : List Event) → IsMirrored B e t meaning X es s → (w v : ℕ) (j : JobValue) → job_in w e ≡ Some j → at_number (set e.jobs w None) v ≡ option_map job_form (lookup (λ k. k == v) (remove_entry (λ k. k == w) s.jobs))
+  pub other_jobs : (B : Blobs) (es : List Event) → IsMirrored B e (record { tree = t; meaning = meaning; table = X; events = es; now = s }) → (w v : ℕ) (j : JobValue) → job_in w e ≡ Some j → at_number (set e.jobs w None) v ≡ option_map job_form (lookup (λ k. k == v) (remove_entry (λ k. k == w) s.jobs))
   other_jobs B es k w v j is = by (eqb_tells v w)
     where
       by : (((v == w) ≡ true) × (v ≡ w)) ⊎ (((v == w) ≡ false) × (v ≢ w)) → at_number (set e.jobs w None) v ≡ option_map job_form (lookup (λ k. k == v) (remove_entry (λ k. k == w) s.jobs))
@@ -48,7 +48,7 @@ module _ (e : EngineValue) (t : Tree Leaf) (meaning : Meaning) (X : List (Action
 
 pub lost_event : (e : EngineValue) (w : ℕ) (j : JobValue) → job_in w e ≡ Some j → IsEvent nothing_told e (lose w) (without_job w e)
 lost_event e w j is = record {
-  of_run = λ t meaning X es s k.
+  of_run = λ run k. let t = run.tree in let meaning = run.meaning in let X = run.table in let es = run.events in let s = run.now in
       let job = job_there e t meaning X s k.mirrors w j is in
       let r : State = record s { jobs = remove_entry (λ k. k == w) s.jobs } in
       let same : Extends s r = λ i o h. h in

@@ -164,7 +164,7 @@ opening_still {B} {C} steps a g (i, s, at, before, h) =
     (i, s, at, λ k r lt here. let told = before k r lt here in (told.0, told.1, step_still B C r told.0 told.1 g told.2, told.3), meaning_still s a g h)
 
 -- what the next step looks at, after those so far
-pub opening_next : {A B C : Blobs} (steps : List StepValue) (i : ℕ) (fs : List FrameValue) (cs : List CommandValue) (s : StepValue) → i < length steps → s ≡ get_or steps i s → ToldSoFar B steps i fs cs → Grows B C
-    → AsksNoOther (OpeningLooksAt B steps) A B → AsksNoOther (MeaningLooksAt C s) B C → AsksNoOther (OpeningLooksAt C steps) A C
-opening_next {A} {B} {C} steps i fs cs s lt is so g first next =
-    others_then (λ a h. opening_still steps a g h) (λ a h. (i, s, element_at steps i s lt is, told_before B C steps i fs cs so g, h)) first next
+pub opening_next : {old mid new : Telling} (steps : List StepValue) (i : ℕ) (fs : List FrameValue) (cs : List CommandValue) (s : StepValue) → i < length steps → s ≡ get_or steps i s → ToldSoFar mid.blobs steps i fs cs → Grows mid.blobs new.blobs
+    → AsksNoOther (OpeningLooksAt mid.blobs steps) old mid → AsksNoOther (MeaningLooksAt new.blobs s) mid new → AsksNoOther (OpeningLooksAt new.blobs steps) old new
+opening_next {mid = mid} {new = new} steps i fs cs s lt is so g first next =
+    others_then (λ a h. opening_still steps a g h) (λ a h. (i, s, element_at steps i s lt is, told_before mid.blobs new.blobs steps i fs cs so g, h)) first next

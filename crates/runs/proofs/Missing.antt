@@ -20,7 +20,7 @@ use Rattle.runs.specs.declared.error.RunsError.{RunsError}
 use Rattle.runs.specs.Calls.{IsReady, HasRoomForJob, IsStartFault, HaveAllFinished, IsRootFault}
 use Rattle.runs.specs.Engine.{EngineValue, IsEngine}
 use Rattle.runs.specs.Looking.{outcomes_in, together_in, of_tree_error, ExplainsRefusal, StandsIn}
-use Rattle.runs.specs.Ties.{IsWithoutOrigin, IsWithoutGraft, TellsMissing, TellsConflict}
+use Rattle.runs.specs.Ties.{IsWithoutOrigin, IsWithoutMerge, TellsMissing, TellsConflict}
 use Rattle.runs.proofs.Resolved.{origin_agrees, no_graft}
 use Rattle.runs.proofs.Standing.{unread_stands}
 
@@ -36,7 +36,7 @@ module _ (B : Blobs) (e : EngineValue) (engine : IsEngine e) where
     line = l;
     inside = (0, omega arith, refl);
     path = (let same : p ≡ origin_path l.origin = cc in same);
-    of_run = λ t meaning X es s k. no_entry (origin_at t s l.origin) (origin_agrees B e t meaning X es s engine k l.origin nothing look);
+    of_run = λ run k. no_entry (origin_at run.tree run.now l.origin) (origin_agrees B e run.tree run.meaning run.table run.events run.now engine k l.origin nothing look);
   }
 
   pub first_missing : (ls : List LineValue) (p : List Name) → FirstFault B e.sources (outcomes_in e.finished) ls (no_origin p) → IsWithoutOrigin B e ls p
@@ -67,13 +67,13 @@ module _ (B : Blobs) (e : EngineValue) (engine : IsEngine e) where
       by (found x) is = is
   first_no_conflict (l ∷ ls) p (inr h) = first_no_conflict ls p h.2
 
-  tree_conflict : (ls : List LineValue) → ArePaths ls → (p : List Name) → (together_in B e ls).fails (in_conflict p) → IsWithoutGraft B e ls
+  tree_conflict : (ls : List LineValue) → ArePaths ls → (p : List Name) → (together_in B e ls).fails (in_conflict p) → IsWithoutMerge B e ls
   unfolding ◌and_then◌
   tree_conflict ls paths p (inl h) = absurd (first_no_conflict ls p h)
   tree_conflict ls paths p (inr (xs, origins, (f, fails, is))) = by f fails is
     where
-      by : (f : MergeFault) → (merged B xs).fails f → in_conflict p ≡ of_merge f → IsWithoutGraft B e ls
-      by (conflict q) fails is = record { of_run = λ t meaning X es s k. no_graft B e t meaning X es s engine k ls paths xs origins q fails }
+      by : (f : MergeFault) → (merged B xs).fails f → in_conflict p ≡ of_merge f → IsWithoutMerge B e ls
+      by (conflict q) fails is = record { of_run = λ run k. no_graft B e run.tree run.meaning run.table run.events run.now engine k ls paths xs origins q fails }
       by (unreadable g) fails is = absurd cc
 
   -- what a refusal tells

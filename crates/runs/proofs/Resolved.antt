@@ -34,7 +34,7 @@ use Rattle.runs.proofs.Noted.{outcome_there}
 use Rattle.verifier.proofs.FreshRuns.{one_answer, blobs_below, blob_of_entry}
 use Rattle.runs.proofs.Agreeing.{outputs_agree}
 
-module _ (B : Blobs) (e : EngineValue) (t : Tree Leaf) (meaning : Meaning) (X : List (ActionMeaning × Outcome)) (es : List Event) (s : State) (engine : IsEngine e) (k : IsMirrored B e t meaning X es s) where
+module _ (B : Blobs) (e : EngineValue) (t : Tree Leaf) (meaning : Meaning) (X : List (ActionMeaning × Outcome)) (es : List Event) (s : State) (engine : IsEngine e) (k : IsMirrored B e (record { tree = t; meaning = meaning; table = X; events = es; now = s })) where
   abbrev S : List ℕ → Type 0
   S = IsConcernedIn B e meaning t es
 

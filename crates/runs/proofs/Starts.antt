@@ -64,7 +64,7 @@ no_job (Some job) h = cc
 
 pub started_event : {A : Type 0} (B : Blobs) (i : ℕ) (old new : EngineValue) (job : Job A) → IsPlan old.plan → IsEngine old → IsStarted B i old new job → IsStart B old i job.id job.digest new
 started_event B i old new job plan engine st = let p = st.prepared in record {
-  of_run = λ t meaning X es s k.
+  of_run = λ run k. let t = run.tree in let meaning = run.meaning in let X = run.table in let es = run.events in let s = run.now in
       let m = k.mirrors in
       let g = grafted B old t meaning X es s engine k p.planned.lines (step_paths [] old.plan.steps plan.steps i p.planned p.at) p.tree p.together in
       let a : ActionMeaning = record { frame = job.action.frame; command = job.command; input = g.0 } in
@@ -85,16 +85,18 @@ started_event B i old new job plan engine st = let p = st.prepared in record {
         a,
         is,
         named,
-        r,
-        ap (λ q. started s i job.id q (action_of old.plan meaning t s i)) free ∙ ap (started s i job.id None) is,
-        subst (λ n. Mirrors n t meaning r) (sym st.after) (record {
-          sources = m.sources;
-          frames = m.frames;
-          commands = m.commands;
-          finished = m.finished;
-          actions = λ n f at. let b = m.actions n f at in (b.0, action_still old.plan meaning t s r same n b.0 b.1, b.2);
-          jobs = λ u. one_more old s i job.id a j value (least_within old job.id st.least) m.jobs u (eqb_tells u job.id);
-        }),
+        (
+          r,
+          ap (λ q. started s i job.id q (action_of old.plan meaning t s i)) free ∙ ap (started s i job.id None) is,
+          subst (λ n. Mirrors n t meaning r) (sym st.after) (record {
+            sources = m.sources;
+            frames = m.frames;
+            commands = m.commands;
+            finished = m.finished;
+            actions = λ n f at. let b = m.actions n f at in (b.0, action_still old.plan meaning t s r same n b.0 b.1, b.2);
+            jobs = λ u. one_more old s i job.id a j value (least_within old job.id st.least) m.jobs u (eqb_tells u job.id);
+          }),
+        ),
       );
 }
   where
@@ -107,7 +109,7 @@ started_event B i old new job plan engine st = let p = st.prepared in record {
 
 pub root_event : (B : Blobs) (e : EngineValue) (made : Tree NodeValue) (d : DigestValue) → IsPlan e.plan → IsEngine e → (together_in B e e.plan.root_lines).passes made → d ≡ root made → IsRootOf B e d
 root_event B e made d plan engine together is = record {
-  of_run = λ t meaning X es s k.
+  of_run = λ run k. let t = run.tree in let meaning = run.meaning in let X = run.table in let es = run.events in let s = run.now in
       let g = grafted B e t meaning X es s engine k e.plan.root_lines (paths_of (length e.plan.steps) e.plan.root_lines plan.root_lines.each) made together in
       let roots : root (form g.0) ≡ d = g.2 ∙ sym is in
       subst (λ o. IsSomeAnd o (λ g. root (form g) ≡ d)) (sym g.1) roots;

@@ -152,12 +152,12 @@ concerned b (inl (inr (inr (inl (pair, (k, lt, e), h))))) = absurd (omega (arith
 concerned b (inl (inr (inr (inr h)))) = inr (inr (inr h))
 concerned b (inr h) = inl (inr (in_engine b h))
 
-pub is_mirrored : IsMirrored two.blobs example.engine two.tree two.meaning two.table two.events two.end
+pub is_mirrored : IsMirrored two.blobs example.engine example.run
 is_mirrored = record {
   ordered = tt;
   fits = fits;
   table = table_valid;
-  run = is_run;
+  happened = is_run;
   mirrors = mirrors;
   apart = λ x y c d e. no_clash x y (concerned x c) (concerned y d) e;
 }

@@ -75,13 +75,21 @@ IsConcernedIn B e meaning t es b = IsConcerned B e.plan meaning t [] es b ⊎ Is
 abbrev pub nothing_told : Blobs
 nothing_told d = None
 
--- A run that an engine mirrors: whatever the sources are, whatever the steps mean and whatever
--- actions come to, no two different blobs concerned share a digest.
-pub record IsMirrored (B : Blobs) (e : EngineValue) (t : Tree Leaf) (meaning : Meaning)
-    (X : List (ActionMeaning × Outcome)) (es : List Event) (s : State) : Type 0 where
-  pub ordered : IsOrdered t
-  pub fits : MeaningFits e.plan meaning
-  pub table : IsTable X
-  pub run : IsRun X e.plan meaning t opening es s
-  pub mirrors : Mirrors e t meaning s
-  pub apart : NoClash (IsConcernedIn B e meaning t es)
+-- a run that an engine may mirror: its sources, what the steps mean, what actions come to, what has
+-- happened, and the state after it
+pub record EngineRun : Type 0 where
+  pub tree : Tree Leaf
+  pub meaning : Meaning
+  pub table : List (ActionMeaning × Outcome)
+  pub events : List Event
+  pub now : State
+
+-- An engine mirrors the run: whatever the sources are, whatever the steps mean and whatever actions
+-- come to, no two different blobs concerned share a digest.
+pub record IsMirrored (B : Blobs) (e : EngineValue) (run : EngineRun) : Type 0 where
+  pub ordered : IsOrdered run.tree
+  pub fits : MeaningFits e.plan run.meaning
+  pub table : IsTable run.table
+  pub happened : IsRun run.table e.plan run.meaning run.tree opening run.events run.now
+  pub mirrors : Mirrors e run.tree run.meaning run.now
+  pub apart : NoClash (IsConcernedIn B e run.meaning run.tree run.events)

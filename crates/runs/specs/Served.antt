@@ -15,7 +15,7 @@ use Rattle.tree.specs.Form.{NodeValue, form, directory_of, root}
 use Rattle.tree.specs.Merging.{MergeLines, merged}
 use Rattle.blob_source.specs.Source.{Blobs, Telling, Grows, IsBlobUnder}
 use Rattle.blob_source.specs.Told.{TellsDirectory}
-use Rattle.verifier.specs.Build.{Meaning, ActionMeaning, action_digest, Outcome, Event, State}
+use Rattle.verifier.specs.Build.{Meaning, ActionMeaning, action_digest, Outcome, State}
 use Rattle.verifier.specs.Build.{action_of, AreLinesOf}
 use Rattle.verifier.specs.Headline.{IsConcerned}
 use Rattle.verifier.specs.Holding.{HoldsResult}
@@ -26,7 +26,7 @@ use Rattle.runs.specs.Engine.{FinishedValue, EngineValue, finished_in}
 use Rattle.runs.specs.Calls.{HaveOneForm, kept_digests}
 use Rattle.verifier.specs.Together.{Resolves}
 use Rattle.runs.specs.Looking.{outcomes_in}
-use Rattle.runs.specs.Mirrors.{IsMirrored}
+use Rattle.runs.specs.Mirrors.{IsMirrored, EngineRun}
 
 -- a line of a step or of the root
 abbrev pub IsLineOf : PlanValue → LineValue → Type 0
@@ -70,29 +70,25 @@ pub record Serves (B C : Blobs) (e : EngineValue) (t : Tree Leaf) (meaning : Mea
 -- were told for the root, nor with those that serve.
 pub record IsServedYes (A : Type 0) (told : Blobs) (e : EngineValue)
     (claim : DigestValue) : Type 0 where
-  pub of_run : (tells : Telling) (t : Tree Leaf) (meaning : Meaning)
-      (X : List (ActionMeaning × Outcome)) (es : List Event) (s : State)
-      (recorded : List DigestValue)
-      → IsMirrored told e t meaning X es s → IsMirrored tells.blobs e t meaning X es s
-      → kept_digests e.finished ≡ Some recorded → Serves tells.blobs tells.results e t meaning s
+  pub of_run : (tells : Telling) (run : EngineRun) (recorded : List DigestValue)
+      → IsMirrored told e run → IsMirrored tells.blobs e run
+      → kept_digests e.finished ≡ Some recorded
+      → Serves tells.blobs tells.results e run.tree run.meaning run.now
       → IsVerdict {A = A} tells e.sources e.plan recorded claim (Yes claim (length e.plan.steps))
   -- Where what serves has all that was told for the root, it is enough that no two different blobs
   -- concerned with it share a digest.
-  pub of_grown : (tells : Telling) (t : Tree Leaf) (meaning : Meaning)
-      (X : List (ActionMeaning × Outcome)) (es : List Event) (s : State)
-      (recorded : List DigestValue)
-      → Grows told tells.blobs → IsMirrored tells.blobs e t meaning X es s
-      → kept_digests e.finished ≡ Some recorded → Serves tells.blobs tells.results e t meaning s
+  pub of_grown : (tells : Telling) (run : EngineRun) (recorded : List DigestValue)
+      → Grows told tells.blobs → IsMirrored tells.blobs e run
+      → kept_digests e.finished ≡ Some recorded
+      → Serves tells.blobs tells.results e run.tree run.meaning run.now
       → IsVerdict {A = A} tells e.sources e.plan recorded claim (Yes claim (length e.plan.steps))
   -- And there the table agrees with the record, so that what a yes says of every run is said of
   -- this one.
-  pub agrees : (B C : Blobs) (t : Tree Leaf) (meaning : Meaning)
-      (X : List (ActionMeaning × Outcome)) (es : List Event) (s : State)
-      (recorded : List DigestValue)
-      → IsMirrored B e t meaning X es s → kept_digests e.finished ≡ Some recorded
-      → Serves B C e t meaning s
-      → (chosen : List (ActionMeaning × Outcome)) × Agrees B C X chosen recorded
-      × NoClash (IsConcerned B e.plan meaning t chosen es)
+  pub agrees : (B C : Blobs) (run : EngineRun) (recorded : List DigestValue)
+      → IsMirrored B e run → kept_digests e.finished ≡ Some recorded
+      → Serves B C e run.tree run.meaning run.now
+      → (chosen : List (ActionMeaning × Outcome)) × Agrees B C run.table chosen recorded
+      × NoClash (IsConcerned B e.plan run.meaning run.tree chosen run.events)
 
 -- ---- the result that is kept of a step
 

@@ -18,7 +18,7 @@ use Rattle.verifier.specs.Together.{origin_path}
 use Rattle.runs.specs.declared.error.RunsError.{RunsError}
 use Rattle.runs.specs.declared.error.RunsError.TheVariants as errors
 use Rattle.runs.specs.Engine.{EngineValue}
-use Rattle.runs.specs.Mirrors.{Mirrors, IsMirrored, IsFormOf, nothing_told}
+use Rattle.runs.specs.Mirrors.{Mirrors, IsMirrored, IsFormOf, nothing_told, EngineRun}
 
 -- An engine mirrors the opening state, for every tree with the digest of its sources and every
 -- meaning that fits its plan, if no two different blobs that the source has and that are the
@@ -28,14 +28,17 @@ pub record IsOpening (B : Blobs) (e : EngineValue) : Type 0 where
       → MeaningFits e.plan meaning → NoClash (λ b. IsValue B b ⊎ IsBlobOfMeaning meaning b)
       → Mirrors e t meaning opening
 
--- A call is an event: whatever run the engine mirrors, the event can happen after it, and then the
--- engine mirrors the state that it leads to.
+-- the event can happen after the run, and then the engine mirrors the state that it leads to
+abbrev pub CanFollow : EngineValue → EngineRun → Event → EngineValue → Type 0
+CanFollow old run event new =
+    (next : State) × (happens old.plan run.meaning run.tree run.now event ≡ Some next)
+    × Mirrors new run.tree run.meaning next
+
+-- a call is an event, which can follow whatever run the engine mirrors
 pub record IsEvent (B : Blobs) (old : EngineValue) (event : Event)
     (new : EngineValue) : Type 0 where
-  pub of_run : (t : Tree Leaf) (meaning : Meaning) (X : List (ActionMeaning × Outcome))
-      (es : List Event) (s : State) → IsMirrored B old t meaning X es s
-      → (next : State) × (happens old.plan meaning t s event ≡ Some next)
-      × Mirrors new t meaning next
+  pub of_run : (run : EngineRun) → IsMirrored B old run
+      → CanFollow old run event new
 
 -- ---- questions about the state
 
@@ -57,9 +60,8 @@ jobs_running i (job ∷ jobs) = (if job.1.0 == i then 1 else 0) + jobs_running i
 
 -- how many of its jobs run
 pub record TellsRunning (e : EngineValue) (i : ℕ) (answer : ℕ) : Type 0 where
-  pub of_run : (t : Tree Leaf) (meaning : Meaning) (X : List (ActionMeaning × Outcome))
-      (es : List Event) (s : State) → IsMirrored nothing_told e t meaning X es s
-      → answer ≡ jobs_running i s.jobs
+  pub of_run : (run : EngineRun) → IsMirrored nothing_told e run
+      → answer ≡ jobs_running i run.now.jobs
 
 -- there is a record exactly where each step has finished, and it has the digests of the actions of
 -- the steps
@@ -74,38 +76,32 @@ pub record IsRecordOf (e : EngineValue) (answer : Option RecordValue) : Type 0 w
 -- ---- finishing
 
 -- Whatever run the engine mirrors, and whatever the table has for the job's action, if the outcome
--- is its form: the finish can happen after the run, and then the engine mirrors the state that it
--- leads to.
+-- is its form: the finish can follow the run.
 pub record IsFinish (old : EngineValue) (w : ℕ) (v : OutcomeValue)
     (new : EngineValue) : Type 0 where
-  pub of_run : (t : Tree Leaf) (meaning : Meaning) (X : List (ActionMeaning × Outcome))
-      (es : List Event) (s : State) → IsMirrored nothing_told old t meaning X es s
-      → (o : Outcome) → Obeys X s (finish w o) → IsFormOf v o → (next : State)
-      × (happens old.plan meaning t s (finish w o) ≡ Some next) × Mirrors new t meaning next
+  pub of_run : (run : EngineRun) → IsMirrored nothing_told old run
+      → (o : Outcome) → Obeys run.table run.now (finish w o) → IsFormOf v o
+      → CanFollow old run (finish w o) new
 
 -- no outcome that the table has for the job's action has this form
 pub record IsForeign (old : EngineValue) (w : ℕ) (v : OutcomeValue) : Type 0 where
-  pub of_run : (t : Tree Leaf) (meaning : Meaning) (X : List (ActionMeaning × Outcome))
-      (es : List Event) (s : State) → IsMirrored nothing_told old t meaning X es s
-      → (o : Outcome) → Obeys X s (finish w o) → IsFormOf v o → ⊥
+  pub of_run : (run : EngineRun) → IsMirrored nothing_told old run
+      → (o : Outcome) → Obeys run.table run.now (finish w o) → IsFormOf v o → ⊥
 
 -- ---- starting, and the root
 
--- Whatever run the engine mirrors, the start of the step as this job can happen after it, with the
--- action of this digest, and then the engine mirrors the state that it leads to.
+-- Whatever run the engine mirrors, the start of the step as this job can follow it, with the action
+-- of this digest.
 pub record IsStart (B : Blobs) (old : EngineValue) (i id : ℕ) (digest : DigestValue)
     (new : EngineValue) : Type 0 where
-  pub of_run : (t : Tree Leaf) (meaning : Meaning) (X : List (ActionMeaning × Outcome))
-      (es : List Event) (s : State) → IsMirrored B old t meaning X es s
-      → (a : ActionMeaning) × (action_of old.plan meaning t s i ≡ Some a)
-      × (digest ≡ action_digest a) × (next : State)
-      × (happens old.plan meaning t s (start i id) ≡ Some next) × Mirrors new t meaning next
+  pub of_run : (run : EngineRun) → IsMirrored B old run
+      → (a : ActionMeaning) × (action_of old.plan run.meaning run.tree run.now i ≡ Some a)
+      × (digest ≡ action_digest a) × CanFollow old run (start i id) new
 
 -- whatever run the engine mirrors, the root's lines merge after it into a tree with this digest
 pub record IsRootOf (B : Blobs) (e : EngineValue) (d : DigestValue) : Type 0 where
-  pub of_run : (t : Tree Leaf) (meaning : Meaning) (X : List (ActionMeaning × Outcome))
-      (es : List Event) (s : State) → IsMirrored B e t meaning X es s
-      → IsSomeAnd (merge_of t s e.plan.root_lines) (λ g. root (form g) ≡ d)
+  pub of_run : (run : EngineRun) → IsMirrored B e run
+      → IsSomeAnd (merge_of run.tree run.now e.plan.root_lines) (λ g. root (form g) ≡ d)
 
 -- whatever run the engine mirrors, one of the lines has no origin after it, and this is the
 -- origin's path
@@ -114,9 +110,8 @@ pub record IsWithoutOrigin (B : Blobs) (e : EngineValue) (lines : List LineValue
   pub line : LineValue
   pub inside : Contains lines line
   pub path : named ≡ origin_path line.origin
-  pub of_run : (t : Tree Leaf) (meaning : Meaning) (X : List (ActionMeaning × Outcome))
-      (es : List Event) (s : State) → IsMirrored B e t meaning X es s
-      → origin_at t s line.origin ≡ None
+  pub of_run : (run : EngineRun) → IsMirrored B e run
+      → origin_at run.tree run.now line.origin ≡ None
 
 -- a refusal that nothing stands at an origin is so in each run that the engine mirrors
 abbrev pub TellsMissing : {A : Type 0} → Blobs → EngineValue → List LineValue → RunsError A → Type 0
@@ -124,13 +119,12 @@ TellsMissing B e lines (errors.Origin path) = IsWithoutOrigin B e lines path
 TellsMissing B e lines why = Unit {0}
 
 -- whatever run the engine mirrors, lines don't merge after it
-pub record IsWithoutGraft (B : Blobs) (e : EngineValue) (lines : List LineValue) : Type 0 where
-  pub of_run : (t : Tree Leaf) (meaning : Meaning) (X : List (ActionMeaning × Outcome))
-      (es : List Event) (s : State) → IsMirrored B e t meaning X es s
-      → merge_of t s lines ≡ None
+pub record IsWithoutMerge (B : Blobs) (e : EngineValue) (lines : List LineValue) : Type 0 where
+  pub of_run : (run : EngineRun) → IsMirrored B e run
+      → merge_of run.tree run.now lines ≡ None
 
 -- a refusal of a conflict is so in each run that the engine mirrors
 abbrev pub TellsConflict : {A : Type 0} → Blobs → EngineValue → List LineValue → RunsError A
     → Type 0
-TellsConflict B e lines (errors.Conflict path) = IsWithoutGraft B e lines
+TellsConflict B e lines (errors.Conflict path) = IsWithoutMerge B e lines
 TellsConflict B e lines why = Unit {0}

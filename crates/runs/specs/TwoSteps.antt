@@ -5,6 +5,7 @@ use Rattle.actions.specs.declared.outcome.Output.TheVariants as outputs
 use Rattle.actions.specs.Outcome.{OutcomeValue}
 use Rattle.verifier.specs.TwoSteps as two
 use Rattle.runs.specs.Engine.{FinishedValue, EngineValue}
+use Rattle.runs.specs.Mirrors.{EngineRun}
 
 abbrev pub gen_outcome : OutcomeValue
 gen_outcome = record {
@@ -32,4 +33,14 @@ engine = record {
   commands = two.meaning.commands;
   finished = Some gen_finished ∷ Some use_finished ∷ [];
   jobs = [];
+}
+
+-- the run that it mirrors
+abbrev pub run : EngineRun
+run = record {
+  tree = two.tree;
+  meaning = two.meaning;
+  table = two.table;
+  events = two.events;
+  now = two.end;
 }

@@ -32,8 +32,7 @@ pub fn ready_steps_may_start()
 /// which an engine mirrors, and its blobs and results. A law: it does nothing.
 pub fn a_build_is_served()
     ensures engine { IsEngine example.engine }
-    ensures mirrored { IsMirrored two.blobs example.engine two.tree two.meaning two.table two.events
-        two.end }
+    ensures mirrored { IsMirrored two.blobs example.engine example.run }
     ensures complete { kept_digests example.engine.finished ≡ Some two.recorded }
     ensures served { Serves two.blobs two.results example.engine two.tree two.meaning two.end }
 {}

@@ -35,7 +35,7 @@ fn read_message<A: Allocator + Copy, S: BlobSource<A>, M: Message<A>>(
         ((i : ℕ) × IsErrOf result (OpenError.Source i TreeError.Fetch)) }
     ensures few { (S.tells source.new).calls ≤ (S.tells source.old).calls + 1 }
     ensures only { AsksNoOther (LooksAtBlob digest.now)
-        (S.tells source.old).blobs (S.tells source.new).blobs }
+        (S.tells source.old) (S.tells source.new) }
 {
     match fetch_message(alloc, source, digest) {
         Ok(message) => Ok(message),
@@ -72,7 +72,7 @@ fn read_step<A: Allocator + Copy, S: BlobSource<A>>(
         → IsFault IsFrame frame_bytes (S.tells source.new).blobs step.now.frame f
         → (S.tells source.new).calls ≤ (S.tells source.old).calls + 1 }
     ensures only { AsksNoOther (MeaningLooksAt (S.tells source.new).blobs step.now)
-        (S.tells source.old).blobs (S.tells source.new).blobs }
+        (S.tells source.old) (S.tells source.new) }
 {
     let frame: Frame<A> = read_message(alloc, number, &step.frame, source)?;
     if frame.do_not_cache() {
@@ -106,7 +106,7 @@ fn read_steps<A: Allocator + Copy, S: BlobSource<A>>(
         ≤ (S.tells source.old).calls + opening_calls (length steps.now) e) }
     ensures frame { StopsAtFrame steps.now (S.tells source.old) (S.tells source.new) }
     ensures only { AsksNoOther (OpeningLooksAt (S.tells source.new).blobs steps.now)
-        (S.tells source.old).blobs (S.tells source.new).blobs }
+        (S.tells source.old) (S.tells source.new) }
 {
     let mut frames = Vec::new(alloc);
     let mut commands = Vec::new(alloc);
@@ -158,7 +158,7 @@ impl<'p, A: Allocator + Copy> Engine<'p, A> {
         ensures frame { StopsAtFrame plan.now.steps (S.tells source.old) (S.tells source.new) }
         // And for no other blob.
         ensures only { AsksNoOther (OpeningLooksAt (S.tells source.new).blobs plan.now.steps)
-            (S.tells source.old).blobs (S.tells source.new).blobs }
+            (S.tells source.old) (S.tells source.new) }
     {
         let meanings = read_steps(alloc, plan.steps(), source)?;
         let finished = none_finished(alloc, plan.steps().len())?;

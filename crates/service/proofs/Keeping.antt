@@ -107,6 +107,10 @@ lost_may true over shut lost left unsent why f (inl h) = inl (lost_reason over s
 lost_may true over shut lost left unsent why f (inr told) = inr told
 lost_may false over shut lost left unsent why f h = lost_reason over shut lost left unsent why f h
 
+pub keeps_further : {S : Type 0} {cut : Bool} {spoke : ℕ → S → List ℕ → List ℕ → Type 0} {ended : ℕ → List ℕ → List ℕ → Why → Type 0} {lost : ℕ → Cause → Type 0} {l m n : List (ℕ × MemberValue S)} {a b c : ℕ} {s t u : ServerValue}
+    → GoesOnTogether cut spoke ended lost l a s m b t → GoesOnTogether cut spoke ended lost m b t n c u → GoesOnTogether cut spoke ended lost l a s n c u
+keeps_further p q = record { on = λ prefix opening history keeps. q.on prefix opening history (p.on prefix opening history keeps) }
+
 module _ {S : Type 0} (cut : Bool) (spoke : ℕ → S → List ℕ → List ℕ → Type 0) (ended : ℕ → List ℕ → List ℕ → Why → Type 0) (lost : ℕ → Cause → Type 0) where
   abbrev KeepsSo : List (ℕ × MemberValue S) → ℕ → ServerValue → List (ℕ × MemberValue S) → ℕ → ServerValue → Type 0
   KeepsSo members accepted server members' accepted' server' =
@@ -115,9 +119,6 @@ module _ {S : Type 0} (cut : Bool) (spoke : ℕ → S → List ℕ → List ℕ 
 
   pub keeps_nowhere : (members : List (ℕ × MemberValue S)) (accepted : ℕ) (server : ServerValue) → GoesOnTogether cut spoke ended lost members accepted server members accepted server
   keeps_nowhere members accepted server = record { on = λ prefix opening history keeps. keeps }
-
-  pub keeps_further : (l m n : List (ℕ × MemberValue S)) (a b c : ℕ) (s t u : ServerValue) → GoesOnTogether cut spoke ended lost l a s m b t → GoesOnTogether cut spoke ended lost m b t n c u → GoesOnTogether cut spoke ended lost l a s n c u
-  keeps_further l m n a b c s t u p q = record { on = λ prefix opening history keeps. q.on prefix opening history (p.on prefix opening history keeps) }
 
   keeps_same_so : (members members' : List (ℕ × MemberValue S)) (accepted : ℕ) (server : ServerValue) → AreSame members members' → KeepsSo members accepted server members' accepted server
   keeps_same_so members members' accepted server same prefix opening history keeps = record {
@@ -329,7 +330,7 @@ module _ {S : Type 0} (cut : Bool) (spoke : ℕ → S → List ℕ → List ℕ 
   pub keeps_lost : (over : S → Cause → Type 0) (members mid members' : List (ℕ × MemberValue S)) (accepted : ℕ) (old between new : ServerValue) (k : ℕ)
       → MovesOnAt None spoke over k old members between mid → EndsIfAny spoke over ended lost k (Err Memory) between mid new members' → GoesOnTogether cut spoke ended lost members accepted old members' accepted new
   keeps_lost over members mid members' accepted old between new k moves ends =
-      keeps_further members mid members' accepted accepted accepted old between new (keeps_moved over members mid accepted old between k moves)
+      keeps_further (keeps_moved over members mid accepted old between k moves)
       (keeps_ended_so over (Err Memory) mid members' accepted between new k (λ m e prefix opening history entries stands same. uncut cut (Err Memory) (IsReason (over m.stream) (IsShut prefix k (history ++ entries)) m.left m.unsent (Err Memory)) (inl refl)) ends)
 
   keeps_entered_so : (members members' : List (ℕ × MemberValue S)) (accepted : ℕ) (server : ServerValue) (stream : S) (now : ℕ)

@@ -77,6 +77,24 @@ module _ {S : Type 0} where
     idle = idle;
   }
 
+  -- only the connections, those that are held, and the next wake are others
+  kept_by : {v : Together S} (of : ℕ → Type 0) (t u : Together S) → u ≡ v → v.short ≡ t.short → v.ready ≡ t.ready → v.idle ≡ t.idle → ((j : ℕ) → of j → member_at u.members.entries j ≡ member_at t.members.entries j)
+      → ((j : ℕ) → of j → Contains t.held.items j → Contains u.held.items j) → u.wake ≤ t.wake → KeepsFor of t u
+  kept_by of t u rest short ready idle same held wake = record {
+    same = same;
+    short = λ few. sym (ap (λ (z : Together S). z.short) rest ∙ short) ∙ few;
+    ready = λ j n few there. subst (λ r. Contains r.items j) (sym (ap (λ (z : Together S). z.ready) rest ∙ ready)) there;
+    held = held;
+    wake = wake;
+    idle = ap (λ (z : Together S). z.idle) rest ∙ idle;
+  }
+
+  -- only the connections are
+  kept_but : {v : Together S} (of : ℕ → Type 0) (t u : Together S) → u ≡ v → v.short ≡ t.short → v.ready ≡ t.ready → v.idle ≡ t.idle → v.held ≡ t.held → v.wake ≡ t.wake
+      → ((j : ℕ) → of j → member_at u.members.entries j ≡ member_at t.members.entries j) → KeepsFor of t u
+  kept_but of t u rest short ready idle held wake same = kept_by of t u rest short ready idle same
+      (λ j n there. subst (λ h. Contains h.items j) (sym (ap (λ (z : Together S). z.held) rest ∙ held)) there) (let e = ap (λ (z : Together S). z.wake) rest ∙ wake in omega (arith, e))
+
   -- one is queued
   queue_keeps : (k : ℕ) (t u : Together S) → OthersAreSame k t.members.entries u.members.entries → (u.short ≡ false → u.ready.items ≡ t.ready.items ++ joining (member_at t.members.entries k) k) → (t.short ≡ true → u.short ≡ true)
       → u ≡ record t { members = u.members; ready = u.ready; short = u.short } → KeepsOthers k t u
@@ -85,25 +103,12 @@ module _ {S : Type 0} where
 
   -- that one is held was not listed
   pub list_keeps : (k : ℕ) (t u : Together S) → u.held.items ≡ t.held.items → u ≡ record t { held = u.held } → KeepsOthers k t u
-  list_keeps k t u list same = record {
-    same = λ j n. ap (λ (z : Together S). member_at z.members.entries j) same;
-    short = λ few. sym (ap (λ (z : Together S). z.short) same) ∙ few;
-    ready = λ j n few there. subst (λ (z : Together S). Contains z.ready.items j) (sym same) there;
-    held = λ j n there. subst (λ ks. Contains ks j) (sym list) there;
-    wake = let e = ap (λ (z : Together S). z.wake) same in omega (arith, e);
-    idle = ap (λ (z : Together S). z.idle) same;
-  }
+  list_keeps k t u list same = kept_by (λ j. j ≡ k → ⊥) t u same refl refl refl (λ j n. ap (λ (z : Together S). member_at z.members.entries j) same)
+      (λ j n there. subst (λ ks. Contains ks j) (sym list) there) (let e = ap (λ (z : Together S). z.wake) same in omega (arith, e))
 
   -- one was ended
   pub ended_keeps : (k : ℕ) (t u : Together S) → OthersAreSame k t.members.entries u.members.entries → u ≡ record t { members = u.members; scales = u.scales; waits = u.waits; line = u.line } → KeepsOthers k t u
-  ended_keeps k t u others rest = record {
-    same = others;
-    short = λ few. sym (ap (λ (z : Together S). z.short) rest) ∙ few;
-    ready = λ j n few there. subst (λ (z : Together S). Contains z.ready.items j) (sym rest) there;
-    held = λ j n there. subst (λ (z : Together S). Contains z.held.items j) (sym rest) there;
-    wake = let e = ap (λ (z : Together S). z.wake) rest in omega (arith, e);
-    idle = ap (λ (z : Together S). z.idle) rest;
-  }
+  ended_keeps k t u others rest = kept_but (λ j. j ≡ k → ⊥) t u rest refl refl refl refl refl others
 
   queued_own : (k : ℕ) (t u : Together S) → member_at u.members.entries k ≡ option_map in_queue (member_at t.members.entries k) → (u.short ≡ false → u.ready.items ≡ t.ready.items ++ joining (member_at t.members.entries k) k)
       → KeepsOthers k t u → u ≡ record t { members = u.members; ready = u.ready; short = u.short } → (full dry : S → Type 0) → IfSome (member_at t.members.entries k) (IsKept t k) → IfSome (member_at u.members.entries k) (IsSeenTo full dry u k)
@@ -119,14 +124,14 @@ module _ {S : Type 0} where
       }
 
   -- the first of the queue was taken out of it
-  pub first_keeps : (k : ℕ) (t v : Together S) → OthersAreSame k t.members.entries v.members.entries → t.ready.items ≡ k ∷ v.ready.items → v.short ≡ t.short → v.held ≡ t.held → v.idle ≡ t.idle → v.wake ≤ t.wake → KeepsOthers k t v
-  first_keeps k t v others first short held idle wake = record {
+  pub first_keeps : {w : Together S} (k : ℕ) (t v : Together S) → OthersAreSame k t.members.entries v.members.entries → v ≡ w → t.ready.items ≡ k ∷ w.ready.items → w.short ≡ t.short → w.held ≡ t.held → w.idle ≡ t.idle → v.wake ≤ t.wake → KeepsOthers k t v
+  first_keeps {w} k t v others rest first short held idle wake = record {
     same = others;
-    short = λ few. sym short ∙ few;
-    ready = λ j n few there. not_first k j v.ready.items n (subst (λ ks. Contains ks j) first there);
-    held = λ j n there. subst (λ h. Contains h.items j) (sym held) there;
+    short = λ few. sym (ap (λ (z : Together S). z.short) rest ∙ short) ∙ few;
+    ready = λ j n few there. subst (λ (z : Together S). Contains z.ready.items j) (sym rest) (not_first k j w.ready.items n (subst (λ ks. Contains ks j) first there));
+    held = λ j n there. subst (λ h. Contains h.items j) (sym (ap (λ (z : Together S). z.held) rest ∙ held)) there;
     wake = wake;
-    idle = idle;
+    idle = ap (λ (z : Together S). z.idle) rest ∙ idle;
   }
 
   -- it had its turn, and this it is then
@@ -137,14 +142,14 @@ module _ {S : Type 0} where
     pub queued : m.queued ≡ false
     pub wakes : v.wake ≤ unwrap_or (deadline_at m v.idle) 18446744073709551615
 
-  pub had_turn : (k : ℕ) (t v : Together S) (m : MemberValue S) → OthersAreSame k t.members.entries v.members.entries → t.ready.items ≡ k ∷ v.ready.items → v.short ≡ t.short → v.held ≡ t.held → v.idle ≡ t.idle → member_at v.members.entries k ≡ Some m
+  pub had_turn : {w : Together S} (k : ℕ) (t v : Together S) (m : MemberValue S) → v ≡ w → t.ready.items ≡ k ∷ w.ready.items → w.short ≡ t.short → w.held ≡ t.held → w.idle ≡ t.idle → OthersAreSame k t.members.entries v.members.entries → member_at v.members.entries k ≡ Some m
       → IfSome (member_at v.members.entries k) (λ n. n.queued ≡ false) → IfSome (member_at v.members.entries k) (λ n. v.wake ≡ min t.wake (unwrap_or (deadline_at n t.idle) 18446744073709551615)) → HadTurn k t v m
-  had_turn k t v m others first short held idle at queued wake = record {
-    keeps = first_keeps k t v others first short held idle (let e = least in omega (arith, e));
-    held = held;
+  had_turn k t v m rest first short held idle others at queued wake = record {
+    keeps = first_keeps k t v others rest first short held idle (let e = least in omega (arith, e));
+    held = ap (λ (z : Together S). z.held) rest ∙ held;
     at = at;
     queued = subst (λ o. IfSome o (λ n. n.queued ≡ false)) at queued;
-    wakes = subst (λ (i : Option ℕ). v.wake ≤ unwrap_or (deadline_at m i) 18446744073709551615) (sym idle) (let e = least in omega (arith, e));
+    wakes = subst (λ (i : Option ℕ). v.wake ≤ unwrap_or (deadline_at m i) 18446744073709551615) (sym (ap (λ (z : Together S). z.idle) rest ∙ idle)) (let e = least in omega (arith, e));
   }
     where
       least : v.wake ≡ min t.wake (unwrap_or (deadline_at m t.idle) 18446744073709551615)
@@ -164,14 +169,7 @@ module _ {S : Type 0} where
 
   -- one comes in
   pub enter_keeps : (k : ℕ) (t v : Together S) → OthersAreSame k t.members.entries v.members.entries → v ≡ record t { members = v.members; wake = v.wake } → v.wake ≤ t.wake → KeepsOthers k t v
-  enter_keeps k t v others rest wake = record {
-    same = others;
-    short = λ few. sym (ap (λ (z : Together S). z.short) rest) ∙ few;
-    ready = λ j n few there. subst (λ (z : Together S). Contains z.ready.items j) (sym rest) there;
-    held = λ j n there. subst (λ (z : Together S). Contains z.held.items j) (sym rest) there;
-    wake = wake;
-    idle = ap (λ (z : Together S). z.idle) rest;
-  }
+  enter_keeps k t v others rest wake = kept_by (λ j. j ≡ k → ⊥) t v rest refl refl refl others (λ j n there. subst (λ (z : Together S). Contains z.held.items j) (sym rest) there) wake
 
   module _ (full dry : S → Type 0) where
     still_seen : (of : ℕ → Type 0) (t u : Together S) → KeepsFor of t u → (j : ℕ) → of j → IfSome (member_at t.members.entries j) (IsSeenTo full dry t j) → IfSome (member_at u.members.entries j) (IsSeenTo full dry u j)
@@ -221,14 +219,7 @@ module _ {S : Type 0} where
     seen_roused event k t v u woke others same at others' list short rest seen = seen_queued k t v u keeps own at others' list short rest seen
       where
         keeps : KeepsOthers k t v
-        keeps = record {
-          same = others;
-          short = λ few. sym (ap (λ (z : Together S). z.short) same) ∙ few;
-          ready = λ j n few there. subst (λ (z : Together S). Contains z.ready.items j) (sym same) there;
-          held = λ j n there. subst (λ (z : Together S). Contains z.held.items j) (sym same) there;
-          wake = let e = ap (λ (z : Together S). z.wake) same in omega (arith, e);
-          idle = ap (λ (z : Together S). z.idle) same;
-        }
+        keeps = kept_but (λ j. j ≡ k → ⊥) t v same refl refl refl refl refl others
 
         by : (o : Option (MemberValue S)) → IfSome o (IsSeenTo full dry t k) → IfSome (option_map (roused event) o) (IsKept v k)
         by None h = tt
@@ -250,14 +241,7 @@ module _ {S : Type 0} where
     seen_let_go spoke now k t v u listed same goes others wake sooner list short rest seen = seen_but k t u (keeps_on (λ j. j ≡ k → ⊥) t v u keeps on) own seen
       where
         keeps : KeepsOthers k t v
-        keeps = record {
-          same = λ j n. ap (λ (z : Together S). member_at z.members.entries j) same;
-          short = λ few. sym (ap (λ (z : Together S). z.short) same) ∙ few;
-          ready = λ j n few there. subst (λ (z : Together S). Contains z.ready.items j) (sym same) there;
-          held = listed;
-          wake = let e = ap (λ (z : Together S). z.wake) same in omega (arith, e);
-          idle = ap (λ (z : Together S). z.idle) same;
-        }
+        keeps = kept_by (λ j. j ≡ k → ⊥) t v same refl refl refl (λ j n. ap (λ (z : Together S). member_at z.members.entries j) same) listed (let e = ap (λ (z : Together S). z.wake) same in omega (arith, e))
 
         on : KeepsOthers k v u
         on = joined_keeps k v u others list short (ap (λ (z : Together S). z.held) rest) sooner (ap (λ (z : Together S). z.idle) rest)
@@ -278,36 +262,11 @@ module _ {S : Type 0} where
 
     -- nothing of this was changed
     pub seen_same : (t u : Together S) {scales : Scales} {waits : Bool} {retry : ℕ} {line : StatusLine} → u ≡ record t { scales = scales; waits = waits; retry = retry; line = line } → AreSeenTo full dry t → AreSeenTo full dry u
-    seen_same t u same = seen_as t u (record {
-      same = λ j h. ap (λ (z : Together S). member_at z.members.entries j) same;
-      short = λ few. sym (ap (λ (z : Together S). z.short) same) ∙ few;
-      ready = λ j h few there. subst (λ (z : Together S). Contains z.ready.items j) (sym same) there;
-      held = λ j h there. subst (λ (z : Together S). Contains z.held.items j) (sym same) there;
-      wake = let e = ap (λ (z : Together S). z.wake) same in omega (arith, e);
-      idle = ap (λ (z : Together S). z.idle) same;
-    })
+    seen_same t u same = seen_as t u (kept_but (λ j. ⊤) t u same refl refl refl refl refl (λ j h. ap (λ (z : Together S). member_at z.members.entries j) same))
 
     -- nor were the members
     pub seen_members : (t u : Together S) → ((j : ℕ) → member_at u.members.entries j ≡ member_at t.members.entries j) → u ≡ record t { members = u.members } → AreSeenTo full dry t → AreSeenTo full dry u
-    seen_members t u members same = seen_as t u (record {
-      same = λ j h. members j;
-      short = λ few. sym (ap (λ (z : Together S). z.short) same) ∙ few;
-      ready = λ j h few there. subst (λ (z : Together S). Contains z.ready.items j) (sym same) there;
-      held = λ j h there. subst (λ (z : Together S). Contains z.held.items j) (sym same) there;
-      wake = let e = ap (λ (z : Together S). z.wake) same in omega (arith, e);
-      idle = ap (λ (z : Together S). z.idle) same;
-    })
-
-    -- nor was the queue, as none was in it
-    pub seen_ready : (t u : Together S) → t.ready.items ≡ u.ready.items → u ≡ record t { ready = u.ready } → AreSeenTo full dry t → AreSeenTo full dry u
-    seen_ready t u ready same = seen_as t u (record {
-      same = λ j h. ap (λ (z : Together S). member_at z.members.entries j) same;
-      short = λ few. sym (ap (λ (z : Together S). z.short) same) ∙ few;
-      ready = λ j h few there. subst (λ ks. Contains ks j) ready there;
-      held = λ j h there. subst (λ (z : Together S). Contains z.held.items j) (sym same) there;
-      wake = let e = ap (λ (z : Together S). z.wake) same in omega (arith, e);
-      idle = ap (λ (z : Together S). z.idle) same;
-    })
+    seen_members t u members same = seen_as t u (kept_but (λ j. ⊤) t u same refl refl refl refl refl (λ j h. members j))
 
     -- after its turn it waits for an event
     pub seen_awaiting : (k : ℕ) (t v : Together S) (m : MemberValue S) (Waits : Type 0) → HadTurn k t v m → IfSome (member_at v.members.entries k) (λ n. IsTrue n.held ↔ Waits) → (Waits → ⊥) → IfSome (member_at v.members.entries k) (AwaitsEvent full dry) → AreSeenTo full dry t → AreSeenTo full dry v
@@ -324,14 +283,8 @@ module _ {S : Type 0} where
     seen_held k t v u before m was Waits turn held waits was_open told same list seen = seen_but k t u (keeps_on (λ j. j ≡ k → ⊥) t v u turn.keeps on) own seen
       where
         on : KeepsOthers k v u
-        on = record {
-          same = λ j n. ap (λ (z : Together S). member_at z.members.entries j) same;
-          short = λ few. sym (ap (λ (z : Together S). z.short) same) ∙ few;
-          ready = λ j n few there. subst (λ (z : Together S). Contains z.ready.items j) (sym same) there;
-          held = λ j n there. subst (λ ks. Contains ks j) (sym list) (Contains-append_left v.held.items (if was then [] else k ∷ []) j there);
-          wake = let e = ap (λ (z : Together S). z.wake) same in omega (arith, e);
-          idle = ap (λ (z : Together S). z.idle) same;
-        }
+        on = kept_by (λ j. j ≡ k → ⊥) v u same refl refl refl (λ j n. ap (λ (z : Together S). member_at z.members.entries j) same)
+            (λ j n there. subst (λ ks. Contains ks j) (sym list) (Contains-append_left v.held.items (if was then [] else k ∷ []) j there)) (let e = ap (λ (z : Together S). z.wake) same in omega (arith, e))
 
         first : IsSeenTo full dry t k before
         first = subst (λ o. IfSome o (IsSeenTo full dry t k)) was_open (seen.each k)

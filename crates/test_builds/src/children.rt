@@ -12,7 +12,7 @@ use std::alloc::{AllocError, Allocator, Global};
 use std::io;
 use test_support::Row;
 use tree::MemorySource;
-use worker::{Cause, Refusal, RunError};
+use worker::{FailureCause, RunError, StepRefusal};
 
 /// What came of a build.
 #[derive(Drop)]
@@ -46,9 +46,10 @@ pub fn answer<A: Allocator + Copy>(
 pub fn came_of(text: &[u8]) -> Came {
     match word(text) {
         "out" | "out unheard" => Came::File("out", "123456789"),
-        "unstarted" => Came::Fails(Cause::Unstarted(io::Error::from_raw_os_error(2))),
-        "unread" => Came::Fails(Cause::Unread(io::Error::from_raw_os_error(5))),
-        "signal" => Came::Fails(Cause::Signal(9)),
+        "unstarted" => Came::Fails(FailureCause::Unstarted(io::Error::from_raw_os_error(2))),
+        "unwaited" => Came::Fails(FailureCause::Unwaited(io::Error::from_raw_os_error(10))),
+        "unread" => Came::Fails(FailureCause::Unread(io::Error::from_raw_os_error(5))),
+        "signal" => Came::Fails(FailureCause::Signal(9)),
         "0" => Came::Code(0),
         _ => Came::Code(3),
     }
@@ -90,10 +91,14 @@ fn build_once<A: Allocator + Copy>(
 /// The line of a build, and after it the text of the record, or why it was refused.
 pub fn told_of<A: Allocator>(global: Global, told: &Told<A>) -> Result<String, AllocError> {
     match told {
-        Told::Built { line, noted, .. } => {
+        Told::Built {
+            line,
+            record_text,
+            ..
+        } => {
             let line = line.as_str();
-            let noted = String::from_utf8_lossy(global, noted)?;
-            format!(in global; "{line}{noted}")
+            let record_text = String::from_utf8_lossy(global, record_text)?;
+            format!(in global; "{line}{record_text}")
         }
         Told::Failed { line, why } => {
             let (line, why) = (line.as_str(), why.as_str());
@@ -110,14 +115,19 @@ pub fn failure_told<A: Allocator>(
     let BuildPlanError::Step(refused) = error else {
         return Ok(None);
     };
-    let Refusal::Run(RunError::Device { program, cause }) = &refused.refusal else {
+    let StepRefusal::Run(RunError::Device { program, cause }) = &refused.refusal else {
         return Ok(None);
     };
     let program = program.as_str();
     Ok(Some(match cause {
-        Cause::Unstarted(error) => format!(in global; "can't run {program}: {error}")?,
-        Cause::Unread(error) => format!(in global; "can't read what {program} left: {error}")?,
-        Cause::Signal(number) => format!(in global; "{program} was ended by signal {number}")?,
+        FailureCause::Unstarted(error) => format!(in global; "can't run {program}: {error}")?,
+        FailureCause::Unwaited(error) => format!(in global; "can't wait for {program}: {error}")?,
+        FailureCause::Unread(error) => format!(in global;
+            "can't read what {program} left: {error}"
+        )?,
+        FailureCause::Signal(number) => format!(in global;
+            "{program} was ended by signal {number}"
+        )?,
     }))
 }
 

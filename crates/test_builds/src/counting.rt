@@ -8,7 +8,7 @@ use actions::{Command, Outcome, Output};
 use blob_digest::Digest;
 use messages::Path;
 use std::alloc::{AllocError, Allocator};
-use worker::{Cause, Layout, Produced, Progress, RunError, Runner, Watcher, program_of};
+use worker::{FailureCause, Layout, Produced, Progress, RunError, Runner, Watcher, program_of};
 
 /// What each child comes to.
 #[derive(Clone, Copy)]
@@ -18,7 +18,7 @@ pub enum Came {
     /// A file at the path, with this content.
     File(&'static str, &'static str),
     /// This failure: of its start, where the system says so of that.
-    Fails(Cause),
+    Fails(FailureCause),
 }
 
 /// Children of one kind, which it counts.
@@ -72,7 +72,11 @@ impl Counting {
     }
 
     /// Counts a failure. One whose count is full is lack of memory instead.
-    fn fail<T, A: Allocator>(&mut self, program: String<A>, cause: Cause) -> Result<T, RunError<A>>
+    fn fail<T, A: Allocator>(
+        &mut self,
+        program: String<A>,
+        cause: FailureCause,
+    ) -> Result<T, RunError<A>>
         ensures told { IsErrAnd result (λ e. IsFailure e → e ≡ RunError.Device program cause) }
         ensures absolute { IsErrOf result RunError.NotAbsolute → ⊥ }
         ensures bad { (path : List (List ℕ)) → IsErrOf result (RunError.BadOutput path) → ⊥ }
@@ -162,8 +166,8 @@ impl<A: Allocator + Copy> Runner<A> for Counting {
             return Err(RunError::NotAbsolute);
         }
         let program = program_of(alloc, command)?;
-        if let Came::Fails(Cause::Unstarted(error)) = self.came {
-            return self.fail(program, Cause::Unstarted(error));
+        if let Came::Fails(FailureCause::Unstarted(error)) = self.came {
+            return self.fail(program, FailureCause::Unstarted(error));
         }
         let Some(alive) = self.alive.checked_add(1) else {
             return Err(RunError::Memory);

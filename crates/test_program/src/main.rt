@@ -54,6 +54,7 @@ fn ended(rt: &HostRuntime, names: &str, line: &str) -> io::Result<(u8, Vec<u8>, 
     let status = run_words(
         rt,
         &System(rt),
+        System(rt),
         words.as_slice(),
         &mut out,
         &mut err,

@@ -42,7 +42,7 @@ pub fn answer_question<A: Allocator + Copy, S: BlobSource<A>>(
         → Covers (AnswerLooksAt A (S.tells source.new) case.now) list
         → (S.tells source.new).calls ≤ (S.tells source.old).calls + length list }
     ensures only { AsksNoOther (AnswerLooksAt A (S.tells source.new) case.now)
-        (S.tells source.old).blobs (S.tells source.new).blobs }
+        (S.tells source.old) (S.tells source.new) }
 {
     let Digests { sources, claim } = case.digests;
     let verdict = verify(alloc, &sources, &case.plan, &case.noted, &claim, source)?;

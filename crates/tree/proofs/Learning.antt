@@ -9,6 +9,7 @@ use Rattle.tree.specs.declared.error.TreeError.TheVariants.{Absent, BlobMissing,
 use Rattle.tree.specs.TreeError.{CutsShort, Explains, IsCutShort}
 use Rattle.tree.specs.Memo.{Asked, blob, result, Known, IsKnownOf, one_if_none, count_unknown, Learns, KnowsNothing, WasRefused, IsWithout}
 use Rattle.tree.proofs.Descent.{under_still}
+use Rattle.tree.proofs.Leaving.{others_more, others_then}
 
 -- ---- lists of what is asked for
 
@@ -69,7 +70,7 @@ learns_none {known = known} {t = t} h = record {
   known = h;
   kept = λ a b is. is;
   others = λ a not other. refl;
-  only = record { same = λ d not. refl };
+  only = record { blobs = λ d not. refl; results = λ d not. refl };
   once = λ list covers. omega arith;
   learned = λ no list covers. omega arith;
   last = λ list covers. omega arith;
@@ -83,7 +84,7 @@ learns_then to on passed h k = record {
   known = k.known;
   kept = λ a b is. k.kept a b (h.kept a b is);
   others = λ a not other. k.others a (λ at. not (on a at)) other ∙ h.others a (λ at. not (to a at)) other;
-  only = record { same = λ d not. k.only.same d (λ at. not (on (blob d) at)) ∙ h.only.same d (λ at. not (to (blob d) at)) };
+  only = others_then to on h.only k.only;
   once = λ list covers.
       let early = h.learned passed list (λ a at. covers a (to a at)) in
       let late = k.once list (λ a at. covers a (on a at)) in
@@ -105,7 +106,7 @@ learns_more to by h = record {
   known = h.known;
   kept = h.kept;
   others = λ a not other. h.others a (λ at. not (to a at)) other;
-  only = record { same = λ d not. h.only.same d (λ at. not (to (blob d) at)) };
+  only = others_more to h.only;
   once = λ list covers. h.once list (λ a at. covers a (to a at));
   learned = λ none list covers. h.learned (by none) list (λ a at. covers a (to a at));
   last = λ list covers. h.last list (λ a at. covers a (to a at));

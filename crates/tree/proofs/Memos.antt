@@ -8,7 +8,7 @@ use Rattle.std.specs.Map.{lookup}
 use Rattle.std.specs.declared.vec.Vec.{Vec}
 use Rattle.std.proofs.lemmas.Bool.{eqb-true, eq-eqb}
 use Rattle.blob_digest.specs.Digest.{DigestValue, digest_cmp, empty_digest}
-use Rattle.blob_source.specs.Source.{Telling, Asks, GrowsAt, IsBlobUnder}
+use Rattle.blob_source.specs.Source.{Telling, Asks, AsksBlob, AsksResult, IsBlobUnder}
 use Rattle.blob_source.proofs.Digests.{other_digests}
 use Rattle.tree.specs.declared.memo.Memo.{Memo}
 use Rattle.tree.specs.declared.memo.Kept.{Kept}
@@ -82,25 +82,30 @@ same_results old new same entries (blob e) = ap (λ m. option_map kept_bytes (ge
 same_results {A} old new same entries (result e) = ap (λ es. option_map (λ (v : Vec ℕ A). v.items) (lookup (λ k. is_eq (digest_cmp e k)) es)) entries
 
 -- a fetch of one blob
-pub others_at : {d : DigestValue} {old new : Telling} → GrowsAt d old.blobs new.blobs → (d ≡ empty_digest → new ≡ old) → AsksNoOther (LooksAtBlob d) old.blobs new.blobs
-others_at {d} {old} {new} grows unasked = record { same = λ e not. by e not (same_or_other e d) (same_or_other d empty_digest) }
+pub others_at : {d : DigestValue} {old new : Telling} → (d ≢ empty_digest → AsksBlob d old new) → (d ≡ empty_digest → new ≡ old) → AsksNoOther (LooksAtBlob d) old new
+others_at {d} {old} {new} once unasked = by (same_or_other d empty_digest)
   where
-    by : (e : DigestValue) → (LooksAtBlob d (blob e) → ⊥) → (e ≡ d) ⊎ (e ≢ d) → (d ≡ empty_digest) ⊎ (d ≢ empty_digest) → new.blobs e ≡ old.blobs e
-    by e not (inr other) empty = grows.others e other
-    by e not (inl same) (inl empty) = ap (λ t. t.blobs e) (unasked empty)
-    by e not (inl same) (inr other) = absurd (not (ap blob same, other))
+    by : (d ≡ empty_digest) ⊎ (d ≢ empty_digest) → AsksNoOther (LooksAtBlob d) old new
+    by (inl empty) = let same = unasked empty in record { blobs = λ e not. ap (λ t. t.blobs e) same; results = λ e not. ap (λ t. t.results e) same }
+    by (inr other) =
+        let asked = once other in
+        record { blobs = λ e not. asked.blobs.others e (λ is. not (ap blob is, other)); results = λ e not. ap (λ R. R e) asked.results }
+
+-- a call for one result
+others_result : {d : DigestValue} {old new : Telling} → AsksResult d old new → AsksNoOther (LooksAtResult d) old new
+others_result asked = record { blobs = λ e not. ap (λ B. B e) asked.blobs; results = λ e not. asked.results.others e (λ is. not (ap result is)) }
 
 -- ---- a blob
 
 module _ {d : DigestValue} {old new : Known} {before after : Telling} (known : IsKnownOf old before) (asks : Asks 1 before after) where
   -- it is known then, and wasn't if the source was asked
-  pub learns_blob : {b : List ℕ} {refused : Type 0} → GrowsAt d before.blobs after.blobs → (d ≡ empty_digest → after ≡ before) → (old (blob d) ≡ None) ⊎ (after ≡ before)
+  pub learns_blob : {b : List ℕ} {refused : Type 0} → AsksNoOther (LooksAtBlob d) before after → (d ≡ empty_digest → after ≡ before) → (old (blob d) ≡ None) ⊎ (after ≡ before)
       → IsBlobUnder after.blobs d b → KnowsToo (blob d) b old new → Learns (LooksAtBlob d) refused old new before after
-  learns_blob {b} grows unasked asked held too = record {
+  learns_blob {b} only unasked asked held too = record {
     known = now;
     kept = kept;
     others = λ a not other. too.others a (λ is. not (is, λ empty. other (is ∙ ap blob empty)));
-    only = others_at {old = before} {new = after} grows unasked;
+    only = only;
     once = λ list covers. let most = by_once list (λ other. covers (blob d) (refl, other)) (same_or_other d empty_digest) asked in omega (arith, most);
     learned = λ none list covers. by_once list (λ other. covers (blob d) (refl, other)) (same_or_other d empty_digest) asked;
     last = λ list covers. let most = by_once list (λ other. covers (blob d) (refl, other)) (same_or_other d empty_digest) asked in omega (arith, most);
@@ -156,12 +161,12 @@ module _ {old new : Known} {before after : Telling} (known : IsKnownOf old befor
   one_lost : (list : List Asked) → after.calls + count_unknown new list ≤ before.calls + count_unknown old list + 1
   one_lost list = let most = asks.most_calls in let rest = fewer old new (λ a b is. same a ∙ is) list in omega (arith, most, rest)
 
-  pub learns_no_blob : {d : DigestValue} {refused : Type 0} → GrowsAt d before.blobs after.blobs → (d ≡ empty_digest → after ≡ before) → (old (blob d) ≡ None) ⊎ (after ≡ before) → refused → Learns (LooksAtBlob d) refused old new before after
-  learns_no_blob {d} grows unasked asked is = record {
+  pub learns_no_blob : {d : DigestValue} {refused : Type 0} → AsksNoOther (LooksAtBlob d) before after → (d ≡ empty_digest → after ≡ before) → (old (blob d) ≡ None) ⊎ (after ≡ before) → refused → Learns (LooksAtBlob d) refused old new before after
+  learns_no_blob {d} only unasked asked is = record {
     known = same_known;
     kept = λ a x k. same a ∙ k;
     others = λ a not other. same a;
-    only = others_at {old = before} {new = after} grows unasked;
+    only = only;
     once = λ list covers. by list (λ other. covers (blob d) (refl, other)) (same_or_other d empty_digest) asked;
     learned = λ none list covers. absurd (none is);
     last = λ list covers. one_lost list;
@@ -172,12 +177,12 @@ module _ {old new : Known} {before after : Telling} (known : IsKnownOf old befor
       by list covers (inl empty) (inl none) = let calls = ap (λ t. t.calls) (unasked empty) in omega (arith, calls)
       by list covers (inr other) (inl none) = let one = one_unknown old (blob d) list none (covers other) in let most = asks.most_calls in omega (arith, one, most)
 
-  pub learns_no_result : {d : DigestValue} {refused : Type 0} → after.blobs ≡ before.blobs → old (result d) ≡ None → refused → Learns (LooksAtResult d) refused old new before after
-  learns_no_result {d} blobs none is = record {
+  pub learns_no_result : {d : DigestValue} {refused : Type 0} → AsksResult d before after → old (result d) ≡ None → refused → Learns (LooksAtResult d) refused old new before after
+  learns_no_result {d} asked none is = record {
     known = same_known;
     kept = λ a x k. same a ∙ k;
     others = λ a not other. same a;
-    only = record { same = λ e not. ap (λ B. B e) blobs };
+    only = others_result asked;
     once = λ list covers. let one = one_unknown old (result d) list none (covers (result d) refl) in let most = asks.most_calls in omega (arith, one, most);
     learned = λ not list covers. absurd (not is);
     last = λ list covers. one_lost list;
@@ -185,13 +190,13 @@ module _ {old new : Known} {before after : Telling} (known : IsKnownOf old befor
 
 -- ---- a result
 
-pub learns_result : {d : DigestValue} {old new : Known} {before after : Telling} {b : List ℕ} {refused : Type 0} → IsKnownOf old before → Asks 1 before after → after.blobs ≡ before.blobs
+pub learns_result : {d : DigestValue} {old new : Known} {before after : Telling} {b : List ℕ} {refused : Type 0} → IsKnownOf old before → Asks 1 before after → AsksResult d before after
     → old (result d) ≡ None → after.results d ≡ Some b → KnowsToo (result d) b old new → Learns (LooksAtResult d) refused old new before after
-learns_result {d} {old} {new} {before} {after} {b} known asks blobs none held too = record {
+learns_result {d} {old} {new} {before} {after} {b} known asks asked none held too = record {
   known = now;
   kept = kept;
   others = λ a not other. too.others a not;
-  only = record { same = λ e not. ap (λ B. B e) blobs };
+  only = others_result asked;
   once = λ list covers.
       let one = one_fewer old new kept (result d) b list none too.held (covers (result d) refl) in
       let most = asks.most_calls in

@@ -1,14 +1,14 @@
 -- What a look-up, unfolding and a comparison look at, while a source tells more and more.
 use Rattle.std.proofs.Common.{◌≡◌, ℕ, zero, suc, ◌+◌, ◌-◌, ◌<◌, List, [], ◌∷◌, length, drop, get_or, subst, sym, ◌∙◌, refl, ap, arith, inl, inr, add-one, drop-cons}
 use Rattle.std.specs.Prelude.{Option, Some, None, option_map}
-use Rattle.blob_digest.specs.Digest.{DigestValue, empty_digest}
+use Rattle.blob_digest.specs.Digest.{DigestValue}
 use Rattle.messages.specs.declared.node.Node.{Node}
 use Rattle.messages.specs.declared.node.Node.TheVariants.{File, Link, Dir}
 use Rattle.messages.specs.DirectoryRules.{DirectoryValue}
 use Rattle.messages.specs.Node.{child}
 use Rattle.tree.specs.Tree.{Name}
 use Rattle.tree.specs.Form.{NodeValue, node_value}
-use Rattle.blob_source.specs.Source.{Blobs, Telling, Grows, GrowsAt}
+use Rattle.blob_source.specs.Source.{Blobs, Telling, Grows}
 use Rattle.blob_source.specs.Told.{TellsDirectory, FailsDirectory}
 use Rattle.tree.specs.Difference.{ReadsDirectory, child_of}
 use Rattle.tree.specs.declared.difference.Unlike.TheVariants.{Directories}
@@ -21,7 +21,6 @@ use Rattle.tree.proofs.Descent.{told_still}
 use Rattle.tree.proofs.FirstFaults.{looks_below}
 use Rattle.tree.proofs.Learning.{learns_then, learns_more}
 use Rattle.tree.proofs.Leaving.{others_then}
-use Rattle.tree.proofs.Memos.{others_at}
 use Rattle.tree.proofs.DifferenceSteps.{ReadsBoth, reads_still}
 
 -- ---- look-ups
@@ -64,11 +63,11 @@ module _ (B C : Blobs) (d e : DigestValue) (p : List Name) (i : ℕ) (lt : i < l
   way_child {A} x m o told is child_is = way_at x m (option_map node_value o) told (ap (option_map node_value) child_is ∙ child_value A x m ∙ ap (λ n. child n m) is)
 
 -- a fetch of the directory at which the way goes on
-pub others_on_way : {A : Type 0} {old : Blobs} {mid new : Telling} (d e : DigestValue) (p : List Name) (i : ℕ) (x : Node A) → i < length p → x ≡ Dir e → WayGoesOn mid.blobs d p (Some (node_value x)) (drop i p)
-    → AsksNoOther (OnWay mid.blobs d p) old mid.blobs → GrowsAt e mid.blobs new.blobs → (e ≡ empty_digest → new ≡ mid) → AsksNoOther (OnWay new.blobs d p) old new.blobs
-others_on_way {mid = mid} {new = new} d e p i x lt is way only grows unasked =
+pub others_on_way : {A : Type 0} {old mid new : Telling} (d e : DigestValue) (p : List Name) (i : ℕ) (x : Node A) → i < length p → x ≡ Dir e → WayGoesOn mid.blobs d p (Some (node_value x)) (drop i p)
+    → AsksNoOther (OnWay mid.blobs d p) old mid → Grows mid.blobs new.blobs → AsksNoOther (LooksAtBlob e) mid new → AsksNoOther (OnWay new.blobs d p) old new
+others_on_way {mid = mid} {new = new} d e p i x lt is way only grows then =
     let here = way_dir mid.blobs d e p (drop i p) x is way in
-    others_then (λ a. way_still mid.blobs new.blobs d p a grows.kept) (way_here mid.blobs new.blobs d e p i lt here grows.kept) only (others_at grows unasked)
+    others_then (λ a. way_still mid.blobs new.blobs d p a grows) (way_here mid.blobs new.blobs d e p i lt here grows) only then
 
 -- ---- unfolding
 

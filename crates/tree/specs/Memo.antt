@@ -4,7 +4,7 @@ use Rattle.std.specs.Prelude.{Contains, Result, Ok, Err}
 use Rattle.std.specs.BTreeMap.{get}
 use Rattle.blob_digest.specs.Digest.{DigestValue, digest_cmp, empty_digest}
 use Rattle.messages.specs.Directory.{directory_bytes}
-use Rattle.blob_source.specs.Source.{Blobs, Telling, IsBlobUnder}
+use Rattle.blob_source.specs.Source.{Telling, IsBlobUnder}
 use Rattle.tree.specs.declared.memo.Memo.{Memo}
 use Rattle.tree.specs.declared.memo.Kept.{Kept}
 use Rattle.tree.specs.declared.memo.Kept.TheVariants.{Bytes, Directory}
@@ -21,10 +21,11 @@ LooksAtBlob d a = (a ≡ blob d) × (d ≢ empty_digest)
 abbrev pub LooksAtResult : DigestValue → Asked → Type 0
 LooksAtResult d a = a ≡ result d
 
--- No other blob is asked for than those that are looked at: each is told as before. A call that
--- asks for one may tell more, so none does.
-pub record AsksNoOther (Looks : Asked → Type 0) (old new : Blobs) : Type 0 where
-  pub same : (d : DigestValue) → (Looks (blob d) → ⊥) → new d ≡ old d
+-- Nothing else is asked for than what is looked at: each other blob is told as before, and each
+-- other result. A call that asks for one may tell more, so none does.
+pub record AsksNoOther (Looks : Asked → Type 0) (old new : Telling) : Type 0 where
+  pub blobs : (d : DigestValue) → (Looks (blob d) → ⊥) → new.blobs d ≡ old.blobs d
+  pub results : (d : DigestValue) → (Looks (result d) → ⊥) → new.results d ≡ old.results d
 
 -- the bytes that are known of what may be asked for
 abbrev pub Known : Type 0
@@ -76,7 +77,7 @@ abbrev pub Covers : (Asked → Type 0) → List Asked → Type 0
 Covers Looks list = (a : Asked) → Looks a → Contains list a
 
 -- Calls that look at these alone. What was known stays known, and what is known is what the source
--- told. Nothing else becomes known but the empty blob, which is always there, and no other blob is
+-- told. Nothing else becomes known but the empty blob, which is always there, and nothing else is
 -- asked for.
 -- Of a list with all that they look at, the source is asked at most once for each that isn't known.
 -- What it was asked for is known then; where they are refused, all of it but the last.
@@ -85,7 +86,7 @@ pub record Learns (Looks : Asked → Type 0) (refused : Type 0) (old new : Known
   pub known : IsKnownOf new after
   pub kept : (a : Asked) (b : List ℕ) → old a ≡ Some b → new a ≡ Some b
   pub others : (a : Asked) → (Looks a → ⊥) → a ≢ blob empty_digest → new a ≡ old a
-  pub only : AsksNoOther Looks before.blobs after.blobs
+  pub only : AsksNoOther Looks before after
   pub once : (list : List Asked) → Covers Looks list
       → after.calls ≤ before.calls + count_unknown old list
   pub learned : (refused → ⊥) → (list : List Asked) → Covers Looks list

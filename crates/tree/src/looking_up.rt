@@ -35,7 +35,7 @@ pub fn lookup<A: Allocator + Copy, S: BlobSource<A>>(
     // Nothing is asked for but the Directories on the way.
     ensures only { AsksNoOther (OnWay (S.tells source.new).blobs root.now
         (names_in (option_copied path.entry)))
-        (S.tells source.old).blobs (S.tells source.new).blobs }
+        (S.tells source.old) (S.tells source.new) }
 {
     match path {
         None => Ok(Node::Dir(*root)),
@@ -57,7 +57,7 @@ fn look_up<A: Allocator + Copy, S: BlobSource<A>>(
     ensures called { Calls (Asks (length path.now)) (S.tells source.old) (S.tells source.new)
         (IsErrOf result TreeError.Fetch) }
     ensures only { AsksNoOther (OnWay (S.tells source.new).blobs root.now path.now)
-        (S.tells source.old).blobs (S.tells source.new).blobs }
+        (S.tells source.old) (S.tells source.new) }
 {
     let names = path.to_names(alloc)?;
     match descend(alloc, root, &names, source)? {
@@ -80,7 +80,7 @@ fn descend<A: Allocator + Copy, S: BlobSource<A>>(
     ensures called { Calls (Asks (length names.now)) (S.tells source.old) (S.tells source.new)
         (IsErrOf result TreeError.Fetch) }
     ensures only { AsksNoOther (OnWay (S.tells source.new).blobs root.now names.now)
-        (S.tells source.old).blobs (S.tells source.new).blobs }
+        (S.tells source.old) (S.tells source.new) }
 {
     let mut node = Node::Dir(*root);
     for name in names {

@@ -5,11 +5,11 @@ ghost use Rattle.std.specs.BTreeMap.{get};
 ghost use Rattle.blob_digest.specs.Digest.{empty_digest, digest_cmp};
 ghost use Rattle.messages.specs.DirectoryRules.{DirectoryValue, IsDirectory};
 ghost use Rattle.messages.specs.Node.{child};
-ghost use Rattle.blob_source.specs.Source.{Asks, Blobs, GrowsAt, IsBlobUnder, Telling, bytes_of};
+ghost use Rattle.blob_source.specs.Source.{Asks, Blobs, IsBlobUnder, Telling, bytes_of};
 ghost use Rattle.blob_source.specs.Called.{Calls};
 ghost use Rattle.blob_source.specs.Told.{IsTold, IsFault, TellsDirectory, FailsDirectory};
-ghost use Rattle.tree.specs.Memo.{IsKnownOf, WasRefused, IsSame, IsWithout, KnowsNothing};
-ghost use Rattle.tree.specs.Memo.{KnowsToo, Learns, LooksAtBlob, LooksAtResult};
+ghost use Rattle.tree.specs.Memo.{AsksNoOther, IsKnownOf, IsSame, IsWithout, KnowsNothing};
+ghost use Rattle.tree.specs.Memo.{KnowsToo, Learns, LooksAtBlob, LooksAtResult, WasRefused};
 ghost use Rattle.tree.specs.Memo.{blob, kept_bytes, known_by};
 ghost use Rattle.tree.specs.TreeError.{Explains};
 
@@ -75,6 +75,7 @@ fn read_message<A: Allocator + Copy, M: Message<A>>(
 }
 
 /// Fetches the message with a digest, and its bytes.
+#[tactic(auto, using(crate::proofs::Memos::others_at))]
 fn fetch_new<A: Allocator + Copy, S: BlobSource<A>, M: Message<A>>(
     alloc: A,
     source: &mut S,
@@ -87,7 +88,8 @@ fn fetch_new<A: Allocator + Copy, S: BlobSource<A>, M: Message<A>>(
         (IsFault M.keeps M.spells (S.tells source.new).blobs digest.now)) }
     ensures called { Calls (Asks 1) (S.tells source.old) (S.tells source.new)
         (IsErrOf result TreeError.Fetch) }
-    ensures only { GrowsAt digest.now (S.tells source.old).blobs (S.tells source.new).blobs }
+    ensures only { AsksNoOther (LooksAtBlob digest.now)
+        (S.tells source.old) (S.tells source.new) }
     ensures unasked { digest.now ≡ empty_digest → S.tells source.new ≡ S.tells source.old }
 {
     match fetch_blob(alloc, source, digest)? {
@@ -152,7 +154,6 @@ impl<A: Allocator + Copy> Memo<A> {
             (IsFault M.keeps M.spells (S.tells source.new).blobs digest.now)) }
         ensures called { Calls (Asks 1) (S.tells source.old) (S.tells source.new)
             (IsErrOf result TreeError.Fetch) }
-        ensures only { GrowsAt digest.now (S.tells source.old).blobs (S.tells source.new).blobs }
         ensures unasked { digest.now ≡ empty_digest → S.tells source.new ≡ S.tells source.old }
         ensures learned { Learns (LooksAtBlob digest.now) (WasRefused result)
             (known_by self.old) (known_by self.new) (S.tells source.old) (S.tells source.new) }
@@ -193,7 +194,8 @@ impl<A: Allocator + Copy> Memo<A> {
             (FailsDirectory (S.tells source.new).blobs digest.now)) }
         ensures called { Calls (Asks 1) (S.tells source.old) (S.tells source.new)
             (IsErrOf result TreeError.Fetch) }
-        ensures only { GrowsAt digest.now (S.tells source.old).blobs (S.tells source.new).blobs }
+        ensures only { AsksNoOther (LooksAtBlob digest.now)
+            (S.tells source.old) (S.tells source.new) }
         ensures asked { (known_by self.now (blob digest.now) ≡ None)
             ⊎ (S.tells source.new ≡ S.tells source.old) }
         ensures unasked { digest.now ≡ empty_digest → S.tells source.new ≡ S.tells source.old }
@@ -219,7 +221,6 @@ impl<A: Allocator + Copy> Memo<A> {
             (FailsDirectory (S.tells source.new).blobs digest.now)) }
         ensures called { Calls (Asks 1) (S.tells source.old) (S.tells source.new)
             (IsErrOf result TreeError.Fetch) }
-        ensures only { GrowsAt digest.now (S.tells source.old).blobs (S.tells source.new).blobs }
         ensures unasked { digest.now ≡ empty_digest → S.tells source.new ≡ S.tells source.old }
         ensures learned { Learns (LooksAtBlob digest.now) (WasRefused result)
             (known_by self.old) (known_by self.new) (S.tells source.old) (S.tells source.new) }
@@ -248,7 +249,6 @@ impl<A: Allocator + Copy> Memo<A> {
             (FailsDirectory (S.tells source.new).blobs digest.now)) }
         ensures called { Calls (Asks 1) (S.tells source.old) (S.tells source.new)
             (IsErrOf result TreeError.Fetch) }
-        ensures only { GrowsAt digest.now (S.tells source.old).blobs (S.tells source.new).blobs }
         ensures unasked { digest.now ≡ empty_digest → S.tells source.new ≡ S.tells source.old }
         ensures learned { Learns (LooksAtBlob digest.now) (WasRefused result)
             (known_by self.old) (known_by self.new) (S.tells source.old) (S.tells source.new) }

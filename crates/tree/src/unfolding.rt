@@ -146,7 +146,7 @@ fn unfold_below<A: Allocator + Copy, S: BlobSource<A>>(
     ensures called { Called (S.tells source.old) (S.tells source.new)
         (IsErrOf result TreeError.Fetch) }
     ensures only { AsksNoOther (UnfoldLooksAt (S.tells source.new).blobs digest.now)
-        (S.tells source.old).blobs (S.tells source.new).blobs }
+        (S.tells source.old) (S.tells source.new) }
     ensures once { AsksDirectories (S.tells source.new).blobs digest.now
         (S.tells source.old) (S.tells source.new) }
     ensures few { OnOk result
@@ -197,7 +197,7 @@ pub fn unfold<A: Allocator + Copy, S: BlobSource<A>>(
         (IsErrOf result TreeError.Fetch) }
     // Nothing is asked for but the Directories of the tree.
     ensures only { AsksNoOther (UnfoldLooksAt (S.tells source.new).blobs root.now)
-        (S.tells source.old).blobs (S.tells source.new).blobs }
+        (S.tells source.old) (S.tells source.new) }
     // At most one call for each path at which one of them stands, as far as they are told.
     ensures once { AsksDirectories (S.tells source.new).blobs root.now
         (S.tells source.old) (S.tells source.new) }

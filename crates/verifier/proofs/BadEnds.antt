@@ -28,7 +28,7 @@ use Rattle.verifier.specs.Holding.{HoldsResult}
 use Rattle.verifier.specs.Recorded.{IsRecordedAs, RecordsAt}
 use Rattle.verifier.specs.StepChecks.{difference_cause, OutputFault, succeeded, read, step_check}
 use Rattle.verifier.specs.Together.{LinesFault, no_origin, in_conflict, not_read}
-use Rattle.verifier.specs.Unbuilt.{EveryRunEndsStep, FailsWith, MakesUnlisted}
+use Rattle.verifier.specs.Unbuilt.{EveryRunEndsStep, EndsWithCode, MakesUnlisted}
 use Rattle.verifier.specs.Verdict.{IsVerdict}
 use Rattle.verifier.proofs.FreshRuns.{one_result}
 use Rattle.verifier.proofs.Holds.{as_given}
@@ -115,12 +115,7 @@ module _ (A : Type 0) (tells : Telling) (sources : DigestValue) (plan : PlanValu
   every_run_ends : (So : ActionMeaning → Outcome → Type 0) (name : List ℕ) (k : IsFirstFailing A tells sources [] plan.steps recorded name c) (h : IsHeldStep tells.blobs tells.results sources k.outcomes k.step k.digest)
       → ((pair : ActionMeaning × Outcome) → h.command ≡ pair.0.command → IsRecordedAs tells.blobs tells.results k.digest pair.1 → So pair.0 pair.1) → EveryRunEndsStep tells.blobs tells.results sources plan recorded name So
   every_run_ends So name k h so = record {
-    index = k.index;
-    step = k.step;
-    digest = k.digest;
-    step_at = k.step_at;
-    digest_at = k.digest_at;
-    named = k.named;
+    of_step = record { index = k.index; step = k.step; digest = k.digest; step_at = k.step_at; digest_at = k.digest_at; named = k.named };
     of_run = λ t r ordered is runs.
         let given = as_given valid (steps_before A tells sources plan recorded claim valid c name k (suc k.index) (omega arith)) t r ordered is runs in
         let at = last_of k.index recorded k.digest k.digest_at in
@@ -156,12 +151,12 @@ module _ (A : Type 0) (B : Blobs) (command : CommandValue) (result : ActionResul
   unlisted_is path (inr (xs, are, fault)) = let u = unlisted_in A B command xs path fault in (xs, are, u.0, u.1, u.2, u.3)
 
 module _ (A : Type 0) (tells : Telling) (sources : DigestValue) (plan : PlanValue) (recorded : List DigestValue) (claim : DigestValue) (valid : IsPlan plan) (name : List ℕ) where
-  pub runs_fail : (code : ℤ) → IsVerdict {A = A} tells sources plan recorded claim (No (Step name) (ExitCode code)) → EveryRunEndsStep tells.blobs tells.results sources plan recorded name (FailsWith code)
+  pub runs_fail : (code : ℤ) → IsVerdict {A = A} tells sources plan recorded claim (No (Step name) (ExitCode code)) → EveryRunEndsStep tells.blobs tells.results sources plan recorded name (EndsWithCode code)
   runs_fail code v =
       let k = fails_at_step A tells sources plan recorded claim name (ExitCode code) v in
       let e = ends_for A tells sources k.outcomes k.step k.digest (ExitCode code) tt k.fails in
       let ended = code_is A tells.blobs e.0.command e.0.result code e.1 in
-      every_run_ends A tells sources plan recorded claim valid (ExitCode code) (FailsWith code) name k e.0 (λ pair command noted.
+      every_run_ends A tells sources plan recorded claim valid (ExitCode code) (EndsWithCode code) name k e.0 (λ pair command noted.
       let same = one_result tells.results k.digest e.0.result noted.result e.0.held noted.held in
       (noted.exit_code ∙ ap (λ (r : ActionResultValue). r.exit_code) (sym same) ∙ ended.0, ended.1))
 

@@ -37,3 +37,5 @@ pub mod Unbuilt
 pub mod BadEnds
 pub mod Totals
 pub mod VerdictTotal
+pub mod NamedMessages
+pub mod FiniteLooks

@@ -34,7 +34,7 @@ use Rattle.verifier.proofs.VerdictOnceLines.{AreValid, AreValidIn, valid_there, 
 
 -- ---- each check of a step
 
-once_resolved : (B : Blobs) (sources : DigestValue) (os : Earlier) (lines : List LineValue) → AreValidIn os → IsOnce (resolved B sources os lines)
+pub once_resolved : (B : Blobs) (sources : DigestValue) (os : Earlier) (lines : List LineValue) → AreValidIn os → IsOnce (resolved B sources os lines)
 once_resolved B sources os lines valid = record {
   value = resolves_once B sources os valid lines;
   why = first_once B sources os valid lines;
@@ -49,14 +49,14 @@ once_put_together : (B : Blobs) (sources : DigestValue) (os : Earlier) (lines : 
 once_put_together B sources os lines valid = once_then _ _ (once_resolved B sources os lines valid) (λ xs _. once_named of_merge _ (once_merged B xs))
 
 module _ {A : Type 0} where
-  once_message : {M : Type 0} (keeps : M → Type 0) (spells : M → List ℕ) → IsSpelledOnce keeps spells → (B : Blobs) (d : DigestValue) → IsOnce (message {A = A} keeps spells B d)
+  pub once_message : {M : Type 0} (keeps : M → Type 0) (spells : M → List ℕ) → IsSpelledOnce keeps spells → (B : Blobs) (d : DigestValue) → IsOnce (message {A = A} keeps spells B d)
   once_message keeps spells one B d = record {
     value = told_once keeps spells one B d;
     why = λ c e p q. p.2 ∙ ap cause_of_fault (fault_once keeps spells B d p.0 q.0 p.1 q.1) ∙ sym q.2;
     either = λ m c p q. told_or_fault keeps spells B d m q.0 p q.1;
   }
 
-  once_together : (B : Blobs) (sources : DigestValue) (outcomes : List OutcomeValue) (lines : List LineValue) → AreValid outcomes → IsOnce (together {A = A} B sources outcomes lines)
+  pub once_together : (B : Blobs) (sources : DigestValue) (outcomes : List OutcomeValue) (lines : List LineValue) → AreValid outcomes → IsOnce (together {A = A} B sources outcomes lines)
   once_together B sources outcomes lines valid = once_named cause_of_lines _ (once_put_together B sources (slice_get outcomes) lines (valid_there outcomes valid))
 
   once_same_input : (B : Blobs) (a : ActionValue) (t : Tree NodeValue) → IsOnce (same_input {A = A} B a t)
@@ -76,7 +76,7 @@ module _ {A : Type 0} where
   held_either C d r c p (inl q) = none_some p.0 (sym q.0 ∙ p.1)
   held_either C d r c p (inr q) = q.2 r (subst (Reads r) (bytes_are p.0 q.0 (sym p.1 ∙ q.1)) p.2)
 
-  once_held : (C : Blobs) (d : DigestValue) → IsOnce (result_held {A = A} C d)
+  pub once_held : (C : Blobs) (d : DigestValue) → IsOnce (result_held {A = A} C d)
   once_held C d = record {
     value = λ r s p q. reads_once r s q.0 (subst (Reads r) (bytes_are p.0 q.0 (sym p.1 ∙ q.1)) p.2) q.2;
     why = held_cause C d;

@@ -144,12 +144,7 @@ module _ (A : Type 0) (tells : Telling) (sources : DigestValue) (plan : PlanValu
       let k = fails_at_step A tells sources plan recorded claim name c v in
       let other = action_of_step A tells sources k.outcomes k.step k.digest c of_action k.fails in
       record {
-        index = k.index;
-        step = k.step;
-        digest = k.digest;
-        step_at = k.step_at;
-        digest_at = k.digest_at;
-        named = k.named;
+        of_step = record { index = k.index; step = k.step; digest = k.digest; step_at = k.step_at; digest_at = k.digest_at; named = k.named };
         of_run = λ t r ordered is runs. never_run (as_given valid (steps_before name k k.index (omega arith)) t r ordered is runs) k.index k.step k.step_at k.digest other;
       }
 

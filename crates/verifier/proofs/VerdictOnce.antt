@@ -29,7 +29,7 @@ module _ (A : Type 0) (t : Telling) (sources : DigestValue) where
   steps_valid os valid (s ∷ ss) [] all h = elim h [ ]
   steps_valid os valid (s ∷ ss) (d ∷ ds) all h = steps_valid (os ++ h.0 ∷ []) (one_more os h.0 valid (step_valid os s d h.0 h.1)) ss ds all h.2
 
-  once_steps : (os : List OutcomeValue) → AreValid os → (ss : List StepValue) (ds : List DigestValue) → IsOnce (steps_check {A = A} t sources os ss ds)
+  pub once_steps : (os : List OutcomeValue) → AreValid os → (ss : List StepValue) (ds : List DigestValue) → IsOnce (steps_check {A = A} t sources os ss ds)
   once_steps os valid [] ds = once_comes_to os
   once_steps os valid (s ∷ ss) [] = record { value = λ v w p q. absurd p; why = λ c e p q. absurd p; either = λ v c p q. p }
   once_steps os valid (s ∷ ss) (d ∷ ds) =

@@ -83,7 +83,7 @@ valid_tree (Tree t) h = h
 valid_tree (File d b) h = tt
 valid_tree (Link l) h = tt
 
-with_trees : (os : List OutcomeValue) → AllByRecursion AreValidOutputs os → AreWithTrees os
+pub with_trees : (os : List OutcomeValue) → AllByRecursion AreValidOutputs os → AreWithTrees os
 with_trees os h = record {
   valid = λ i o at. (valid_at os i o h at).0;
   trees = λ i o at e here. valid_tree e.1 (all_at (λ (x : List Name × OutputValue). IsValidOutput x.1) o.outputs e (valid_at os i o h at).1 here);
@@ -98,7 +98,7 @@ module _ (B : Blobs) (sources : DigestValue) (is : IsDigest sources) (os : List 
   at_valid (output i p) y h = in_valid h.0 (valid_at os i h.0 valid h.1) p y h.2
 
   -- the lines that are merged
-  valid_lines : (ls : List LineValue) (xs : MergeLines) → AllByRecursion (IsLine (length os)) ls → Resolves B sources (slice_get os) ls xs → AreValidLines xs
+  pub valid_lines : (ls : List LineValue) (xs : MergeLines) → AllByRecursion (IsLine (length os)) ls → Resolves B sources (slice_get os) ls xs → AreValidLines xs
   valid_lines [] xs all h = subst AreValidLines (sym h) tt
   valid_lines (l ∷ ls) xs all h = subst AreValidLines (sym h.4) ((all.0.target.each, at_valid l.origin h.0.node h.1.node), valid_lines ls h.2 all.1 h.3)
 
@@ -117,7 +117,7 @@ recorded_valid B r o valid h =
     (h.valid, stand_valid B h.recorded o.outputs (subst (AllByRecursion IsOutputFile) (sym h.ordered.files) valid.files) (subst (AllByRecursion IsOutputSymlink) (sym h.ordered.symlinks) valid.symlinks) h.outputs)
 
 module _ (A : Type 0) (t : Telling) (sources : DigestValue) (is : IsDigest sources) where
-  passed_valid : (os : List OutcomeValue) (s : StepValue) (d : DigestValue) (o : OutcomeValue) → (step_check {A = A} t sources os s d).passes o → AreValidOutputs o
+  pub passed_valid : (os : List OutcomeValue) (s : StepValue) (d : DigestValue) (o : OutcomeValue) → (step_check {A = A} t sources os s d).passes o → AreValidOutputs o
   passed_valid os s d o h =
       let like = recorded_from A t sources os s d o h in
       recorded_valid t.blobs like.result o like.held.2.2.valid like.recorded
@@ -163,7 +163,7 @@ module _ (A : Type 0) (t : Telling) (sources : DigestValue) (is : IsDigest sourc
   total_root : (os : List OutcomeValue) (ls : List LineValue) (claim : DigestValue) → AllByRecursion AreValidOutputs os → AllByRecursion (IsLine (length os)) ls → IsTotal (root_check {A = A} t sources os ls claim)
   total_root os ls claim valid all = total_then _ _ (total_together os ls valid all) (λ made _. total_demands _ _)
 
-  one_more : (os : List OutcomeValue) (o : OutcomeValue) → AllByRecursion AreValidOutputs os → AreValidOutputs o → AllByRecursion AreValidOutputs (os ++ o ∷ [])
+  pub one_more : (os : List OutcomeValue) (o : OutcomeValue) → AllByRecursion AreValidOutputs os → AreValidOutputs o → AllByRecursion AreValidOutputs (os ++ o ∷ [])
   one_more [] o h k = (k, tt)
   one_more (x ∷ os) o h k = (h.0, one_more os o h.1 k)
 
@@ -178,7 +178,7 @@ module _ (A : Type 0) (t : Telling) (sources : DigestValue) (is : IsDigest sourc
       (one_more os o valid (passed_valid os s d o h)) steps.1 (omega (arith, each)))
 
   -- what the steps come to
-  steps_valid : (os : List OutcomeValue) (ss : List StepValue) (ds : List DigestValue) (all : List OutcomeValue) → AllByRecursion AreValidOutputs os → (steps_check {A = A} t sources os ss ds).passes all
+  pub steps_valid : (os : List OutcomeValue) (ss : List StepValue) (ds : List DigestValue) (all : List OutcomeValue) → AllByRecursion AreValidOutputs os → (steps_check {A = A} t sources os ss ds).passes all
       → AllByRecursion AreValidOutputs all × (length all ≡ length os + length ss)
   unfolding ◌and_then◌
   steps_valid os [] ds all valid h = (subst (AllByRecursion AreValidOutputs) (sym h) valid, (let same = ap length h in omega (arith, same)))

@@ -6,6 +6,7 @@ pub mod Stage
 pub mod Together
 pub mod Faults
 pub mod LooksAt
+pub mod Named
 pub mod StepChecks
 pub mod Checks
 pub mod Verdict

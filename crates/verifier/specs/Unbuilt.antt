@@ -57,24 +57,29 @@ IsOfAction (InputAbsent path) = Unit {0}
 IsOfAction (InputDiffers path) = Unit {0}
 IsOfAction c = ⊥
 
--- No run ever runs what was recorded of the step with this name: the jobs of that step are of
--- actions with other digests. The premises are the same.
-pub record NoRunHasAction (blobs results : Blobs) (sources : DigestValue) (plan : PlanValue)
-    (recorded : List DigestValue) (name : List ℕ) : Type 0 where
+-- a plan's step with this name, and the digest of the action that was recorded of it
+pub record RecordedStep (plan : PlanValue) (recorded : List DigestValue) (name : List ℕ)
+    : Type 0 where
   pub index : ℕ
   pub step : StepValue
   pub digest : DigestValue
   pub step_at : slice_get plan.steps index ≡ Some step
   pub digest_at : slice_get recorded index ≡ Some digest
   pub named : name ≡ step.name
+
+-- No run ever runs what was recorded of the step with this name: the jobs of that step are of
+-- actions with other digests. The premises are the same.
+pub record NoRunHasAction (blobs results : Blobs) (sources : DigestValue) (plan : PlanValue)
+    (recorded : List DigestValue) (name : List ℕ) : Type 0 where
+  pub of_step : RecordedStep plan recorded name
   pub of_run : (t : Tree Leaf) (run : PlanRun) → IsOrdered t → root (form t) ≡ sources
-      → RunsFrom blobs results plan (take index recorded) t run
-      → (w : ℕ) (job : ℕ × ActionMeaning) → job_of w run.now ≡ Some job → job.0 ≡ index
-      → action_digest job.1 ≢ digest
+      → RunsFrom blobs results plan (take of_step.index recorded) t run
+      → (w : ℕ) (job : ℕ × ActionMeaning) → job_of w run.now ≡ Some job → job.0 ≡ of_step.index
+      → action_digest job.1 ≢ of_step.digest
 
 -- an action ended with this exit code, which isn't 0
-abbrev pub FailsWith : ℤ → ActionMeaning → Outcome → Type 0
-FailsWith code a o = (o.exit_code ≡ code) × (code ≢ pos 0)
+abbrev pub EndsWithCode : ℤ → ActionMeaning → Outcome → Type 0
+EndsWithCode code a o = (o.exit_code ≡ code) × (code ≢ pos 0)
 
 -- it made something at this path, which its command doesn't list
 abbrev pub MakesUnlisted : List Name → ActionMeaning → Outcome → Type 0
@@ -95,12 +100,7 @@ pub record EndsStep (run : PlanRun) (i : ℕ) (digest : DigestValue)
 pub record EveryRunEndsStep (blobs results : Blobs) (sources : DigestValue) (plan : PlanValue)
     (recorded : List DigestValue) (name : List ℕ) (So : ActionMeaning → Outcome → Type 0)
     : Type 0 where
-  pub index : ℕ
-  pub step : StepValue
-  pub digest : DigestValue
-  pub step_at : slice_get plan.steps index ≡ Some step
-  pub digest_at : slice_get recorded index ≡ Some digest
-  pub named : name ≡ step.name
+  pub of_step : RecordedStep plan recorded name
   pub of_run : (t : Tree Leaf) (run : PlanRun) → IsOrdered t → root (form t) ≡ sources
-      → RunsFrom blobs results plan (take (suc index) recorded) t run
-      → EndsStep run index digest So
+      → RunsFrom blobs results plan (take (suc of_step.index) recorded) t run
+      → EndsStep run of_step.index of_step.digest So

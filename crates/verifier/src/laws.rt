@@ -27,6 +27,8 @@ ghost use Rattle.verifier.specs.AsRecorded.{IsAsRecorded, AreAsRecorded, IsFirst
 ghost use Rattle.verifier.specs.AsRecorded.{IsAccepted, IsPlanAsRecorded};
 ghost use Rattle.verifier.specs.Together.{Earlier, Resolves};
 ghost use Rattle.verifier.specs.StepChecks.{step_check};
+ghost use Rattle.verifier.specs.LooksAt.{PlanLooksAt};
+ghost use Rattle.verifier.specs.Named.{AsksForMessage, Lists};
 ghost use Rattle.verifier.specs.declared.verdict.Cause.{Cause};
 ghost use Rattle.verifier.specs.Build.{Outcome, IsTreeOutcome, output_at, State, HasFinishedAll};
 ghost use Rattle.verifier.specs.Build.{AreLinesOf, merge_of, opening, origins};
@@ -38,7 +40,7 @@ ghost use Rattle.verifier.specs.Recorded.{RecordsAt};
 ghost use Rattle.verifier.specs.TwoSteps as two;
 ghost use Rattle.verifier.specs.Unbuilt.{IsOfLines, NoRunStarts, NoRunHasRoot};
 ghost use Rattle.verifier.specs.Unbuilt.{IsOfAction, NoRunHasAction, EveryRunEndsStep};
-ghost use Rattle.verifier.specs.Unbuilt.{FailsWith, MakesUnlisted};
+ghost use Rattle.verifier.specs.Unbuilt.{EndsWithCode, MakesUnlisted};
 ghost use Rattle.verifier.specs.Verdict.{IsVerdict, IsYes};
 
 use std::alloc::Allocator;
@@ -185,7 +187,7 @@ pub fn bad_ends_are_those_of_every_run<A: Allocator>()
         → IsPlan plan
         → IsVerdict {A = A} tells sources plan recorded claim (No (Step name) (ExitCode code))
         → EveryRunEndsStep tells.blobs tells.results sources plan recorded name
-        (FailsWith code) }
+        (EndsWithCode code) }
     ensures unlisted { (tells : Telling) (sources : DigestValue) (plan : PlanValue)
         (recorded : List DigestValue) (claim : DigestValue) (name : List ℕ) (path : List Name)
         → IsPlan plan
@@ -201,6 +203,23 @@ pub fn plans_have_verdicts<A: Allocator>()
         (recorded : List DigestValue) (claim : DigestValue)
         → IsDigest sources → IsPlan plan → length recorded ≡ length plan.steps
         → ((v : Verdict A) → IsVerdict tells sources plan recorded claim v → ⊥) → ⊥ }
+{}
+
+/// What the checks of a plan look at is a message, by a digest that the record or another message
+/// names as a message's, or the result of a recorded action: no file's contents. A law: it does
+/// nothing.
+pub fn only_messages_are_looked_at<A: Allocator>()
+    ensures { (tells : Telling) (sources : DigestValue) (plan : PlanValue)
+        (recorded : List DigestValue) (a : Asked) → IsDigest sources → IsPlan plan
+        → PlanLooksAt A tells sources plan recorded a → AsksForMessage tells sources recorded a }
+{}
+
+/// What the checks of a plan look at is finitely much: it can't be that no list has exactly that,
+/// each once. A law: it does nothing.
+pub fn what_is_looked_at_is_finite<A: Allocator>()
+    ensures { (tells : Telling) (sources : DigestValue) (plan : PlanValue)
+        (recorded : List DigestValue)
+        → ((list : List Asked) → Lists (PlanLooksAt A tells sources plan recorded) list → ⊥) → ⊥ }
 {}
 
 /// What a source tells determines the verdict. A law: it does nothing.

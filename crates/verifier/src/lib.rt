@@ -14,9 +14,11 @@ pub use error::VerifyError;
 pub use laws::{
     a_build_meets_the_premises, a_merge_meets_the_premises, a_no_meets_the_premises,
     a_source_meets_the_premises, bad_ends_are_those_of_every_run, lines_that_fail_stop_every_run,
-    no_is_unlike_recorded, other_actions_are_never_run, outcomes_are_maps, plans_have_verdicts,
-    recorded_plans_end_in_the_claim, stages_end_in_the_last_claim, stages_meet_the_premises,
-    steps_are_as_recorded, verdicts_are_single_valued, version_one_is_grafted, yes_is_as_recorded,
+    no_is_unlike_recorded, only_messages_are_looked_at, other_actions_are_never_run,
+    outcomes_are_maps, plans_have_verdicts, recorded_plans_end_in_the_claim,
+    stages_end_in_the_last_claim, stages_meet_the_premises, steps_are_as_recorded,
+    verdicts_are_single_valued, version_one_is_grafted, what_is_looked_at_is_finite,
+    yes_is_as_recorded,
 };
 pub use origins::{Outcomes, put_together};
 pub use verdict::{Cause, Place, Verdict};

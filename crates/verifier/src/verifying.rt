@@ -145,7 +145,7 @@ fn decide<A: Allocator + Copy, S: BlobSource<A>>(
 /// this digest, ends in the claimed root, under the premises of `EveryRunEndsIn`; no says what the
 /// first fault is, and where. The record says which actions the steps had. The steps are checked in
 /// the order of the plan, and then the lines of the root. No blob is asked for but those that the
-/// checks look at, and so no file's content.
+/// checks look at: messages (`only_messages_are_looked_at`), and so no file's content.
 pub fn verify<A: Allocator + Copy, S: BlobSource<A>>(
     alloc: A,
     sources: &Digest,
@@ -175,7 +175,7 @@ pub fn verify<A: Allocator + Copy, S: BlobSource<A>>(
         → (S.tells source.new).calls ≤ (S.tells source.old).calls + length list }
     // And for no other blob.
     ensures only { AsksNoOther (PlanLooksAt A (S.tells source.new) sources.now plan.now
-        «record».now.digests) (S.tells source.old).blobs (S.tells source.new).blobs }
+        «record».now.digests) (S.tells source.old) (S.tells source.new) }
 {
     let mut memo = Memo::new(alloc);
     decide(

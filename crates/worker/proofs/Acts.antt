@@ -8,7 +8,7 @@ use Rattle.actions.specs.Outcome.{OutcomeValue}
 use Rattle.runs.specs.Calls.{IsFinished, placed}
 use Rattle.runs.specs.Engine.{FinishedValue, JobValue, EngineValue, at_number, finished_in, job_in}
 use Rattle.runs.proofs.Places.{set_at}
-use Rattle.worker.specs.Calls.{Call, started, launched, ran, taken, lost, running, CameTo, HasChildsResult, WasStarted, Does, Leads, IsLed, IsBuiltBy}
+use Rattle.worker.specs.Calls.{Call, started, launched, ran, taken, lost, running, CameTo, HasChildsResult, WasStarted, FinishedByChild, Does, Leads, IsLed, IsBuiltBy}
 use Rattle.worker.specs.Outcomes.{Yields}
 use Rattle.worker.specs.Steps.{IsSameBuild, IsActionOf}
 use Rattle.worker.specs.Stored.{HasNoneFinished}
@@ -148,17 +148,14 @@ module _ (A : Type 0) (y : Yields) (t : Telling) (most : ℕ) where
 
   -- what a child came to was of a job, and that of a step
   came_acts : (cs : List Call) (old new : EngineValue) → Leads A y t most cs old new → AreActions A t.blobs old → (d : DigestValue) (v : OutcomeValue) → CameTo cs d v → (i : ℕ) × IsActionOf A t.blobs new i d
-  came_acts [] old new same a d v h = absurd h
-  came_acts (started i id ∷ cs) old new (mid, does, few, rest) a d v h = came_acts cs mid new rest (one_call cs (started i id) old mid does a) d v h
-  came_acts (launched id e x ∷ cs) old new (mid, does, few, rest) a d v h = came_acts cs mid new rest (one_call cs (launched id e x) old mid does a) d v h
-  came_acts (taken id e w ∷ cs) old new (mid, does, few, rest) a d v h = came_acts cs mid new rest (one_call cs (taken id e w) old mid does a) d v h
-  came_acts (lost id ∷ cs) old new (mid, does, few, rest) a d v h = came_acts cs mid new rest (one_call cs (lost id) old mid does a) d v h
-  came_acts (ran id e w ∷ cs) old new (mid, does, few, rest) a d v (inr h) = came_acts cs mid new rest (one_call cs (ran id e w) old mid does a) d v h
-  came_acts (ran id e w ∷ cs) old new (mid, does, few, rest) a d v (inl is) =
-      let job = does.finished.job in (
+  came_acts [] old new same a d v (id, (k, lt, is)) = absurd (omega (arith, lt))
+  came_acts (c ∷ cs) old new (mid, does, few, rest) a d v (id, (suc k, lt, is)) = came_acts cs mid new rest (one_call cs c old mid does a) d v (id, (k, omega (arith, lt), is))
+  came_acts (c ∷ cs) old new (mid, does, few, rest) a d v (id, (zero, lt, is)) =
+      let ended : FinishedByChild y t id d v old mid = subst (λ c. Does A y t cs c old mid) is does in
+      let job = ended.finished.job in (
         job.step,
-        action_still A t.blobs old new (same_then (finishing does.finished) (calls_same cs mid new rest)) job.step d
-            (subst (IsActionOf A t.blobs old job.step) (does.action ∙ sym is.0) (a.jobs id job does.finished.is)),
+        action_still A t.blobs old new (same_then (finishing ended.finished) (calls_same cs mid new rest)) job.step d
+            (subst (IsActionOf A t.blobs old job.step) ended.action (a.jobs id job ended.finished.is)),
       )
 
   pub puts_act : (before : Telling) (first last : EngineValue) → (built : IsBuiltBy A y before t most first last) → HasNoneFinished first → running first.jobs ≡ 0

@@ -21,7 +21,7 @@ use Rattle.worker.specs.declared.child.Child.{Child}
 use Rattle.worker.specs.Going.{AreJobsOf, IsForJob, IsGoing, IsLaunched, IsOwnJob, EndedWell, HasEndedFirst}
 use Rattle.worker.specs.Outcomes.{Yields, YieldsNoMore, blobs_made, directories_of, tree_blobs}
 use Rattle.worker.specs.Steps.{IsOfBuild, IsOfToldTree, IsSameBuild, blobs_of_job}
-use Rattle.worker.specs.Stored.{KeepsOthers, PutsNoOther}
+use Rattle.worker.specs.Stored.{KeepsAllBut, PutsNoOther}
 use Rattle.worker.specs.Storing.{PutsMade}
 use Rattle.worker.specs.Values.{EndValue, made, Starts}
 use Rattle.worker.proofs.Acts.{finishing, only_jobs, same_build, same_then}
@@ -35,21 +35,21 @@ all_of : (P : List ℕ → Type 0) (bs : List (List ℕ)) → ((c : List ℕ) �
 all_of P [] h = tt
 all_of P (b ∷ bs) h = (h b (0, omega arith, refl), all_of P bs (λ c among. h c (behind b bs c among)))
 
-pub others_put : {Is : List ℕ → Type 0} (bs : List (List ℕ)) {B C : Blobs} → ((c : List ℕ) → Contains bs c → Is c) → PutsNoOther bs B C → KeepsOthers Is B C
+pub others_put : {Is : List ℕ → Type 0} (bs : List (List ℕ)) {B C : Blobs} → ((c : List ℕ) → Contains bs c → Is c) → PutsNoOther bs B C → KeepsAllBut Is B C
 others_put bs so only = record { stays = λ d b at none. only.same d (all_of (λ c. digest_of c ≢ d) bs (λ c among. none c (so c among))) ∙ at }
 
-pub others_grown : {Is : List ℕ → Type 0} {B C : Blobs} → Grows B C → KeepsOthers Is B C
+pub others_grown : {Is : List ℕ → Type 0} {B C : Blobs} → Grows B C → KeepsAllBut Is B C
 others_grown grows = record { stays = λ d b at none. grows d b at }
 
-pub others_then : {Is : List ℕ → Type 0} {B C D : Blobs} → KeepsOthers Is B C → KeepsOthers Is C D → KeepsOthers Is B D
+pub others_then : {Is : List ℕ → Type 0} {B C D : Blobs} → KeepsAllBut Is B C → KeepsAllBut Is C D → KeepsAllBut Is B D
 others_then f g = record { stays = λ d b at none. g.stays d b (f.stays d b at none) none }
 
-pub others_more : {Is So : List ℕ → Type 0} {B C : Blobs} → ((c : List ℕ) → Is c → So c) → KeepsOthers Is B C → KeepsOthers So B C
+pub others_more : {Is So : List ℕ → Type 0} {B C : Blobs} → ((c : List ℕ) → Is c → So c) → KeepsAllBut Is B C → KeepsAllBut So B C
 others_more so f = record { stays = λ d b at none. f.stays d b at (λ c is. none c (so c is)) }
 
 -- ---- as a job goes on
 
-pub others_input : {A : Type 0} (job : Job A) {T B C : Blobs} → PutsNoOther (blobs_of_job job) B C → KeepsOthers (IsForJob job T) B C
+pub others_input : {A : Type 0} (job : Job A) {T B C : Blobs} → PutsNoOther (blobs_of_job job) B C → KeepsAllBut (IsForJob job T) B C
 others_input job only = others_put (blobs_of_job job) (λ c among. inl among) only
 
 told_of : (B : Blobs) (x : RecordedValue) (t : TreeValue) → StandsFor B x (outputs.Tree t) → (d : DigestValue) × IsTold IsTree tree_bytes B d t
@@ -67,7 +67,7 @@ recorded_trees B P so (x ∷ xs) ((p, outputs.Tree t) ∷ es) h =
     let blobs = tree_bytes t ∷ directories_of t in
     all_join P blobs (tree_blobs es) (all_of P blobs (λ c among. so c (tree.0, t, tree.1, among))) (recorded_trees B P so xs es h.2)
 
-pub others_recorded : {A : Type 0} (job : Job A) {B C D : Blobs} (r : ActionResultValue) (v : OutcomeValue) → IsRecorded D r v → PutsNoOther (tree_blobs v.outputs) B C → KeepsOthers (IsForJob job D) B C
+pub others_recorded : {A : Type 0} (job : Job A) {B C D : Blobs} (r : ActionResultValue) (v : OutcomeValue) → IsRecorded D r v → PutsNoOther (tree_blobs v.outputs) B C → KeepsAllBut (IsForJob job D) B C
 others_recorded {A} job {B} {C} {D} r v h only = record { stays = λ d b at none. only.same d (recorded_trees D (λ c. digest_of c ≢ d) (λ c told. none c (inr told)) h.recorded v.outputs h.outputs) ∙ at }
 
 -- ---- the same build
@@ -109,12 +109,12 @@ of_job_started {A} {y} {B} {C} {i} {old} {mid} {new} {job} s keeps same b h = by
     by (inr told) = inr (inr told)
 
 pub finish_others : {A J : Type 0} {y : Yields} {may : J → EndValue → Type 0} {from a : Starts} {s t : Telling} (u : Telling) {most : ℕ} {first now new : EngineValue} {cs ds : List (Child J)} → IsGoing A y may from a s t most first now cs → KeepsRight t.blobs u.blobs → IsSameBuild now new
-    → HasEndedFirst (λ c old new. PutsMade (may c.job) t.blobs u.blobs) now new cs ds → KeepsOthers (IsOfBuild A y u.blobs new) t.blobs u.blobs
+    → HasEndedFirst (λ c old new. PutsMade (may c.job) t.blobs u.blobs) now new cs ds → KeepsAllBut (IsOfBuild A y u.blobs new) t.blobs u.blobs
 finish_others {A} {J} {y} {may} {from} {a} {s} {t} u {most} {first} {now} {new} {cs} {ds} going keeps same only = by only.end
   where
     jobs : AreJobsOf (IsOwnJob y may t.blobs now) now.jobs (only.child ∷ ds)
     jobs = subst (AreJobsOf (IsOwnJob y may t.blobs now) now.jobs) only.is going.jobs
 
-    by : PutsMade (may only.child.job) t.blobs u.blobs → KeepsOthers (IsOfBuild A y u.blobs new) t.blobs u.blobs
+    by : PutsMade (may only.child.job) t.blobs u.blobs → KeepsAllBut (IsOfBuild A y u.blobs new) t.blobs u.blobs
     by (inl none) = others_grown (grown_same t.blobs u.blobs none)
     by (inr (p, came, puts)) = others_put (blobs_made p) (λ c among. inr (inl (jobs.0, p, end_still now new (λ l d x h. h) keeps (same.commands, same.frames) jobs.0 (made p) (owed_ends jobs.2.owed (made p) came), among))) puts

@@ -13,8 +13,8 @@ use Rattle.runs.specs.Calls.{IsFinishFault}
 use Rattle.runs.specs.Engine.{EngineValue}
 use Rattle.runs.specs.declared.error.RunsError.{RunsError}
 use Rattle.runs.specs.declared.error.RunsError.TheVariants as runs
-use Rattle.worker.specs.declared.error.Refusal.{Refusal}
-use Rattle.worker.specs.declared.error.Refusal.TheVariants as refusals
+use Rattle.worker.specs.declared.error.StepRefusal.{StepRefusal}
+use Rattle.worker.specs.declared.error.StepRefusal.TheVariants as refusals
 use Rattle.worker.specs.declared.laid.LayoutError.{LayoutError}
 use Rattle.worker.specs.declared.laid.LayoutError.TheVariants as laying
 use Rattle.worker.specs.declared.runner.RunError.{RunError}
@@ -110,13 +110,13 @@ finish_no_fetch e w v runs.Full h f = f
 finish_no_fetch e w v (runs.Conflict p) h f = f
 finish_no_fetch e w v runs.Memory h f = f
 
-pub store_no_device : {A : Type 0} (r : Refusal A) → IsStoreFault r → IsDevice r → ⊥
+pub store_no_device : {A : Type 0} (r : StepRefusal A) → IsStoreFault r → IsDevice r → ⊥
 store_no_device (refusals.Run why) h f = h
 store_no_device (refusals.Engine why) h f = f
 store_no_device (refusals.Layout why) h f = f
 store_no_device refusals.Fetch h f = f
 store_no_device refusals.Memory h f = f
 
-pub put_no_device : {A T : Type 0} (r : Result T (Refusal A)) → IfErr r IsStoreFault → IsErrAnd r IsDevice → ⊥
+pub put_no_device : {A T : Type 0} (r : Result T (StepRefusal A)) → IfErr r IsStoreFault → IsErrAnd r IsDevice → ⊥
 put_no_device (Ok x) h f = f
 put_no_device (Err r) h f = store_no_device r h f

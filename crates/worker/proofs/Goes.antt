@@ -1,5 +1,5 @@
 -- A build goes on.
-use Rattle.std.proofs.Common.{◌≡◌, ℕ, ◌<◌, ◌≤◌, true, List, [], ◌∷◌, ◌++◌, append_assoc, append-nil, length, length-append, set, Some, None, refl, ap, sym, ◌∙◌, subst, arith, inl, inr}
+use Rattle.std.proofs.Common.{◌≡◌, zero, suc, ℕ, ◌<◌, ◌≤◌, true, List, [], ◌∷◌, ◌++◌, append_assoc, append-nil, length, length-append, set, Some, None, refl, ap, sym, ◌∙◌, subst, arith, inl, inr}
 use Rattle.std.specs.Prelude.{◌⊎◌, IsSome, slice_get}
 use Rattle.std.proofs.lemmas.List.{map-append}
 use Rattle.blob_digest.specs.Digest.{DigestValue}
@@ -25,7 +25,7 @@ use Rattle.std.specs.List.{AllByRecursion}
 use Rattle.worker.proofs.Keeping.{kept_none, right_trans}
 use Rattle.worker.proofs.Telling.{SameSteps, layout_still, recorded_still, held_kept, end_still, yielded_still, owed_still, owed_ends}
 use Rattle.tree.proofs.Listings.{all_join}
-use Rattle.worker.proofs.Joins.{put_for_none, put_for_both, came_more, came_behind, children_join, child_either, jobs_join, finish_join}
+use Rattle.worker.proofs.Joins.{put_for_none, put_for_both, came_more, came_behind, children_join, child_either, jobs_join, finish_first, finish_none, finish_one, finish_join}
 use Rattle.worker.proofs.Jobs.{least_within, jobs_added, jobs_back, jobs_count, jobs_map, first_goes, placed_goes}
 use Rattle.worker.proofs.Lefts.{finished_at, one_there}
 use Rattle.worker.proofs.Started.{job_of, after, least, job_is, one_more, was_started, started_value}
@@ -47,7 +47,7 @@ pub moves_ran : (t u : Telling) (id : ℕ) (d : DigestValue) (v : OutcomeValue) 
 moves_ran t u id d v k = record { blobs = k.blobs; puts = of k.puts }
   where
     has : HasAt (IsResultFor v) u.results d → HasChildsResult (ran id d v ∷ []) u.results d
-    has h = record { outcome = v; came = inl (refl, refl); bytes = h.0; held = h.1; is = h.2 }
+    has h = record { outcome = v; came = (id, (0, omega arith, refl)); bytes = h.0; held = h.1; is = h.2 }
 
     by : (e : DigestValue) (b : List ℕ) → (u.results e ≡ Some b) ⊎ ((e ≡ d) × HasAt (IsResultFor v) u.results d) → (u.results e ≡ Some b) ⊎ HasChildsResult (ran id d v ∷ []) u.results e
     by e b (inl at) = inl at
@@ -145,12 +145,22 @@ none_starts from to f before h = subst to (sym (append-nil before)) (f before h)
 abbrev HadNone : Telling → List Call → Type 0
 HadNone t more = (d : DigestValue) (x : StartValue) → HasChild more d x → HasNoneToTake t d x.command
 
+pub had_none : (t : Telling) → HadNone t []
+had_none t d x (w, (k, lt, is)) = absurd (omega (arith, lt))
+
+had_behind : (t : Telling) (c : Call) (more : List Call) → ((w : ℕ) (d : DigestValue) (x : StartValue) → c ≡ launched w d x → ⊥) → HadNone t more → HadNone t (c ∷ more)
+had_behind t c more other none d x (w, (zero, lt, is)) = absurd (other w d x is)
+had_behind t c more other none d x (w, (suc k, lt, is)) = none d x (w, (k, omega (arith, lt), is))
+
+pub had_one : (t : Telling) (c : Call) → ((w : ℕ) (d : DigestValue) (x : StartValue) → c ≡ launched w d x → ⊥) → HadNone t (c ∷ [])
+had_one t c other = had_behind t c [] other (had_none t)
+
 -- there was nothing to take before, where there is none now
 pub left_none : (s t : Telling) (cs : List Call) → KeepsRight s.blobs t.blobs → PutsOf cs s t → (d : DigestValue) (c : CommandValue) → HasNoneToTake t d c → LeavesNone cs s d c
-left_none s t cs keeps p d c none v held fits = by (p.others d held.bytes held.held)
+left_none s t cs keeps p d c none v held fits = by (p.others d held.held.0 held.held.1)
   where
-    by : (t.results d ≡ Some held.bytes) ⊎ HasChildsResult cs t.results d → (w : OutcomeValue) × CameTo cs d w
-    by (inl at) = absurd (none v (record { bytes = held.bytes; held = at; result = held.result; reads = held.reads; recorded = recorded_still keeps held.result v held.recorded }) fits)
+    by : (t.results d ≡ Some held.held.0) ⊎ HasChildsResult cs t.results d → (w : OutcomeValue) × CameTo cs d w
+    by (inl at) = absurd (none v (record { result = held.result; held = (held.held.0, at, held.held.2); recorded = recorded_still keeps held.result v held.recorded }) fits)
     by (inr was) = (was.outcome, was.came)
 
 takes_moved : (s t : Telling) (cs more : List Call) → KeepsRight s.blobs t.blobs → PutsOf cs s t → TakesRecorded cs s → HadNone t more → TakesRecorded (cs ++ more) s
@@ -187,11 +197,11 @@ module _ (A J : Type 0) (y : Yields) (may : J → EndValue → Type 0) (from : S
       built = record { led = record { calls = []; leads = refl }; puts = puts_none s s [] kept_none };
       children = none_starts from from (λ before h. h);
       blobs = λ e b at right. at;
-      takes = λ d x child v held fits. absurd child;
+      takes = λ d x child v held fits. absurd (had_none s d x child v held fits);
     };
     jobs = idle;
     order = refl;
-    in_order = tt;
+    in_order = finish_none [];
     few = omega arith;
   }
 
@@ -218,10 +228,10 @@ module _ (A J : Type 0) (y : Yields) (may : J → EndValue → Type 0) (from : S
     pub going_kept : (t u : Telling) (now : EngineValue) (cs : List (Child J)) → IsKept t u → StartsNone a b → (g : Goes a t now cs) → Went b u now cs g.led.built.led.calls []
     going_kept t u now cs k quiet g =
         let going : Goes b u now cs = record {
-          led = built_moved A y from a b s t u [] (moves_kept t u [] k) (none_starts a b quiet) (λ d x child. absurd child) most old now now g.led refl;
+          led = built_moved A y from a b s t u [] (moves_kept t u [] k) (none_starts a b quiet) (had_none t) most old now now g.led refl;
           jobs = jobs_map (IsOwnJob y may t.blobs now) (IsOwnJob y may u.blobs now) (own_still (λ l c p h. h) k.blobs (refl, refl)) cs now.jobs g.jobs;
           order = jobs_join [] g.led.built.led.calls [] ∙ g.order;
-          in_order = finish_join [] g.led.built.led.calls [] g.in_order tt;
+          in_order = finish_join [] g.led.built.led.calls [] g.in_order (finish_none (jobs_after [] g.led.built.led.calls));
           few = g.few;
         } in
         record { going = going; are = refl }
@@ -269,13 +279,13 @@ module _ (A J : Type 0) (y : Yields) (may : J → EndValue → Type 0) (from : S
 
       pub going_ran : IsTurn most now (c ∷ cs) turns.Finish → (e : EndedWell may t u c now new) → Went b u new cs g.led.built.led.calls (ran c.id c.action e.produced.outcome ∷ [])
       going_ran next e = gone (ran c.id c.action e.produced.outcome ∷ []) (moves_ran t u c.id c.action e.produced.outcome e.kept)
-          (none_starts a b quiet) (λ d x child. absurd child) (λ js. refl) (refl, tt)
+          (none_starts a b quiet) (had_one t (ran c.id c.action e.produced.outcome) (λ w d x is. cc)) (λ js. refl) (finish_one (jobs_with (c ∷ cs)) (ran c.id c.action e.produced.outcome) (λ w d v is. cc))
           (ap (λ (e : EngineValue). e.jobs) e.finished.after) (ap (λ (e : EngineValue). e.commands) e.finished.after, ap (λ (e : EngineValue). e.frames) e.finished.after)
           (λ few. (new, ran_child e, (few, λ less. next.1 (let count = jobs_count (IsOwnJob y may t.blobs now) (c ∷ cs) now.jobs g.jobs in omega (arith, count, less))), refl))
 
       pub going_lost : IsLost c.id now new → IsKept t u → Went b u new cs g.led.built.led.calls (lost c.id ∷ [])
       going_lost (j, at, after) k = gone (lost c.id ∷ []) (moves_kept t u (lost c.id ∷ []) k)
-          (none_starts a b quiet) (λ d x child. absurd child) (λ js. refl) tt
+          (none_starts a b quiet) (had_one t (lost c.id) (λ w d x is. cc)) (λ js. refl) (finish_one (jobs_with (c ∷ cs)) (lost c.id) (λ w d v is. absurd cc))
           (ap (λ (e : EngineValue). e.jobs) after) (ap (λ (e : EngineValue). e.commands) after, ap (λ (e : EngineValue). e.frames) after)
           (λ few. (new, (j, at, after), (few, tt), refl))
 
@@ -304,7 +314,7 @@ module _ (A J : Type 0) (y : Yields) (may : J → EndValue → Type 0) (from : S
             jobs = subst (λ js. AreJobsOf (IsOwnJob y may u.blobs mid) js (cs ++ c ∷ [])) (sym (ap (λ (e : EngineValue). e.jobs) (after w)))
                 (jobs_added (IsOwnJob y may u.blobs mid) cs now.jobs id c (job_of w) (least_within now.jobs id (least w)) (least w).free same is there);
             order = jobs_join [] calls more ∙ ap (λ js. js ++ (id, i) ∷ []) g.order ∙ ap (λ (j : ℕ × ℕ). jobs_with cs ++ j ∷ []) pair ∙ sym (map-append (λ (c : Child J). (c.id, c.step)) cs (c ∷ []));
-            in_order = finish_join [] calls more g.in_order tt;
+            in_order = finish_join [] calls more g.in_order (finish_first (jobs_after [] calls) (started i id) _ (λ w d v is. absurd cc) (finish_one _ (launched id (job_of w).action x) (λ w d v is. absurd cc)));
             few = let n = length-append cs (c ∷ []) in omega (arith, n, room);
           } in
           record { going = going; are = refl }
@@ -313,8 +323,10 @@ module _ (A J : Type 0) (y : Yields) (may : J → EndValue → Type 0) (from : S
           pair = let number = same in let step = is.of_child.step in cc
 
           had : (d : DigestValue) (z : StartValue) → HasChild (started i id ∷ launched id (job_of w).action x ∷ []) d z → HasNoneToTake t d z.command
-          had d z (inl (of_action, of_child)) = subst (λ e. HasNoneToTake t e z.command) (sym of_action) (subst (λ (r : StartValue). HasNoneToTake t (job_of w).action r.command) (sym of_child) none)
-          had d z (inr h) = absurd h
+          had d z (v, (zero, lt, is)) = absurd cc
+          had d z (v, (suc zero, lt, is)) = let action : (job_of w).action ≡ d = cc in let child : x ≡ z = cc in
+              subst (λ e. HasNoneToTake t e z.command) action (subst (λ (r : StartValue). HasNoneToTake t (job_of w).action r.command) child none)
+          had d z (v, (suc (suc k), lt, is)) = absurd (omega (arith, lt))
 
       -- its job is gone again: nothing runs that didn't run before
       pub going_back : (new : EngineValue) (call : Call) → StartsAll (children_of (call ∷ [])) a b → HadNone t (call ∷ []) → ((js : List (ℕ × ℕ)) → jobs_after js (call ∷ []) ≡ without_number id js)
@@ -329,11 +341,11 @@ module _ (A J : Type 0) (y : Yields) (may : J → EndValue → Type 0) (from : S
           let few = g.few in
           let few_new : running new.jobs ≤ most = subst (λ js. running js ≤ most) (sym jobs) (omega (arith, count, few)) in
           let going : Goes b u new cs = record {
-            led = built_moved A y from a b s t u more (moves_kept t u more k) starts none most old now new g.led (mid, w, (few_mid, next), (new, does, (few_new, next_call), refl));
+            led = built_moved A y from a b s t u more (moves_kept t u more k) starts (had_behind t (started i id) (call ∷ []) (λ v d x is. cc) none) most old now new g.led (mid, w, (few_mid, next), (new, does, (few_new, next_call), refl));
             jobs = subst (λ js. AreJobsOf (IsOwnJob y may u.blobs new) js cs) (sym jobs)
                 (jobs_map (IsOwnJob y may u.blobs mid) (IsOwnJob y may u.blobs new) (own_still (λ l c p h. h) (λ e b at right. at) same) cs (set mid.jobs id None) back);
             order = jobs_join [] calls more ∙ ap (λ js. jobs_after (js ++ (id, i) ∷ []) (call ∷ [])) g.order ∙ ends (jobs_with cs ++ (id, i) ∷ []) ∙ placed_goes (IsOwnJob y may u.blobs mid) cs now.jobs id i (least w).free there;
-            in_order = finish_join [] calls more g.in_order (waits (jobs_after [] calls ++ (id, i) ∷ []));
+            in_order = finish_join [] calls more g.in_order (finish_first (jobs_after [] calls) (started i id) (call ∷ []) (λ v d x is. absurd cc) (waits (jobs_after [] calls ++ (id, i) ∷ [])));
             few = g.few;
           } in
           record { going = going; are = refl }
@@ -377,15 +389,15 @@ module _ (A J : Type 0) (y : Yields) (may : J → EndValue → Type 0) (from : S
               let call : Call = taken begun.id begun.job.action v in
               subst (λ xs. OneTurn b u new xs g.led.built.led.calls (taken_in true i now new)) (sym same) (
                 on_by b u new cs g.led.built.led.calls (started i begun.id ∷ call ∷ []) (taken_in true i now new) (going_back t u now begun.mid cs i begun.id k g room w next new call
-                    (none_starts a b quiet) (λ d x child. absurd child) (λ js. refl) (λ js. tt)
+                    (none_starts a b quiet) (had_one t call (λ w d x is. cc)) (λ js. refl) (λ js. finish_one js call (λ w d v is. absurd cc))
                     (ap (λ (e : EngineValue). e.jobs) f.after) (ap (λ (e : EngineValue). e.commands) f.after, ap (λ (e : EngineValue). e.frames) f.after)
                     (record {
                       finished = f;
                       action = ap (λ (j : JobValue). j.action) of_job;
-                      bytes = held.held.bytes;
-                      held = inl held.held.held;
+                      bytes = held.held.held.0;
+                      held = inl held.held.held.1;
                       result = held.held.result;
-                      reads = held.held.reads;
+                      reads = held.held.held.2;
                       recorded = held.held.recorded;
                     }) tt) (sym (one_in (finished_at begun.mid new begun.id i v (job_of w) within_mid f (job_is w) refl))),
                 ((refl, tt), refl),

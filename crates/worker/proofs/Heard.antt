@@ -4,9 +4,10 @@ use Rattle.blob_source.specs.Sink.{KeepsRight}
 use Rattle.blob_source.specs.Source.{Telling}
 use Rattle.runs.specs.Engine.{EngineValue}
 use Rattle.worker.specs.declared.watching.Progress.{Progress}
-use Rattle.worker.specs.Calls.{Call, started, launched, ran, taken, lost, AreTurns, IsLed, PutsOf}
+use Rattle.worker.specs.Calls.{Call, AreTurns, IsLed, PutsOf}
 use Rattle.worker.specs.Outcomes.{Yields}
 use Rattle.worker.specs.Watching.{Hears, AreAfterTurns, IsWatched, IsProgressOf, IsProgress, turns_in}
+use Rattle.worker.proofs.Joins.{turns_join}
 use Rattle.worker.proofs.Goes.{puts_kept, puts_moved}
 use Rattle.worker.proofs.Keeping.{kept_none, right_trans}
 
@@ -19,14 +20,6 @@ hears_more None b c ps qs f g = tt
 hears_more (Some xs) None c ps qs f g = absurd f
 hears_more (Some xs) (Some ys) None ps qs f g = absurd g
 hears_more (Some xs) (Some ys) (Some zs) ps qs f g = g ∙ ap (λ l. l ++ qs) f ∙ append_assoc xs ps qs
-
-turns_join : (cs more : List Call) → turns_in (cs ++ more) ≡ turns_in cs + turns_in more
-turns_join [] more = omega arith
-turns_join (started i id ∷ cs) more = let rest = turns_join cs more in omega (arith, rest)
-turns_join (ran id d v ∷ cs) more = let rest = turns_join cs more in omega (arith, rest)
-turns_join (launched id d x ∷ cs) more = turns_join cs more
-turns_join (taken id d v ∷ cs) more = turns_join cs more
-turns_join (lost id ∷ cs) more = turns_join cs more
 
 all_more : (Is : ℕ → Progress → Type 0) (n m : ℕ) (ps : List Progress) (p : Progress) → m ≡ suc (n + length ps) → AreAfterTurns Is n ps → Is m p → AreAfterTurns Is n (ps ++ p ∷ [])
 all_more Is n m [] p is h one = (subst (λ k. Is k p) (omega (arith, is)) one, tt)

@@ -8,8 +8,8 @@ use Rattle.blob_source.specs.Source.{Blobs, Telling}
 use Rattle.plan.specs.Values.{PlanValue}
 use Rattle.runs.specs.Engine.{EngineValue, IsEngine}
 use Rattle.runs.specs.declared.starting.Job.{Job}
-use Rattle.worker.specs.declared.error.Refusal.{Refusal}
-use Rattle.worker.specs.declared.error.Refusal.TheVariants as refusals
+use Rattle.worker.specs.declared.error.StepRefusal.{StepRefusal}
+use Rattle.worker.specs.declared.error.StepRefusal.TheVariants as refusals
 use Rattle.worker.specs.declared.runner.RunError.{RunError}
 use Rattle.worker.specs.declared.runner.RunError.TheVariants as children
 use Rattle.worker.specs.declared.error.BuildError.{BuildError}
@@ -28,14 +28,15 @@ use Rattle.worker.specs.Values.{LayoutValue, EndValue, made, bad_at, failed, IsA
 use Rattle.worker.specs.Watching.{IsProgress, first_step, jobs_after}
 use Rattle.worker.specs.declared.watching.Progress.{Progress}
 use Rattle.worker.proofs.Jobs.{jobs_count}
-use Rattle.worker.proofs.Goes.{Ends, Went, left_none, on_by, few_jobs, going_kept, led_kept, going_ran, going_lost, led_started, going_back, going_begun, moves_ran, none_kept, none_lost, none_starts, puts_none}
+use Rattle.worker.proofs.Goes.{Ends, Went, left_none, on_by, few_jobs, going_kept, led_kept, going_ran, going_lost, led_started, going_back, going_begun, had_one, moves_ran, none_kept, none_lost, none_starts, puts_none}
+use Rattle.worker.proofs.Joins.{came_none, finish_one}
 use Rattle.worker.proofs.Lefts.{finished_there}
 use Rattle.worker.proofs.Started.{after, job_of, job_is}
 use Rattle.worker.proofs.Taking.{loses_none}
 use Rattle.worker.proofs.Telling.{end_still, yielded_still, owed_ends}
 
 -- a fault of the store is of no child
-pub store_no_child : {A : Type 0} (r : Refusal A) → IsStoreFault r → IsOfChild r → ⊥
+pub store_no_child : {A : Type 0} (r : StepRefusal A) → IsStoreFault r → IsOfChild r → ⊥
 store_no_child (refusals.Engine why) h of_child = h
 store_no_child (refusals.Layout why) h of_child = h
 store_no_child (refusals.Run why) h of_child = h
@@ -46,14 +47,14 @@ pub job_begun : {A : Type 0} (e : EngineValue) (job : Job A) → IsJobIn e job �
 job_begun e job is = inl (job.id, kept_job job, is.there, refl, tt)
 
 module _ {A : Type 0} (y : Yields) (t : Telling) (e : EngineValue) where
-  pub store_stops : (i : ℕ) (r : Refusal A) → HasBegun e i → IsStoreFault r → StopsStep y t e i r
+  pub store_stops : (i : ℕ) (r : StepRefusal A) → HasBegun e i → IsStoreFault r → StopsStep y t e i r
   store_stops i (refusals.Engine why) begun h = absurd h
   store_stops i (refusals.Layout why) begun h = absurd h
   store_stops i (refusals.Run why) begun h = absurd h
   store_stops i refusals.Fetch begun h = begun
   store_stops i refusals.Memory begun h = begun
 
-  pub child_stops : (job : Job A) → IsJobIn e job → HasRight t.blobs job.digest → (r : Refusal A) → StopsChild y t.blobs job.action.input job.command r → StopsStep y t e job.step r
+  pub child_stops : (job : Job A) → IsJobIn e job → HasRight t.blobs job.digest → (r : StepRefusal A) → StopsChild y t.blobs job.action.input job.command r → StopsStep y t e job.step r
   child_stops job is right (refusals.Engine why) h = absurd h
   child_stops job is right (refusals.Layout why) h = (job.id, kept_job job, is.there, refl, h)
   child_stops job is right (refusals.Run children.NotAbsolute) (l, laid, relative) = (job.id, kept_job job, is.there, refl, (l, laid, job.command, is.command, relative))
@@ -80,7 +81,7 @@ module _ {A T : Type 0} where
   end_comes may (children.BadOutput path) absolute bad told = bad path refl
   end_comes may children.Memory absolute bad told = tt
 
-pub collecting_stops : {A J : Type 0} (may : J → EndValue → Type 0) (B : Blobs) (c : Child J) (e : EngineValue) (r : Refusal A) → StopsCollecting (may c.job) r → StopsEnd may B c e r
+pub collecting_stops : {A J : Type 0} (may : J → EndValue → Type 0) (B : Blobs) (c : Child J) (e : EngineValue) (r : StepRefusal A) → StopsCollecting (may c.job) r → StopsEnd may B c e r
 collecting_stops may B c e (refusals.Engine why) h = absurd h
 collecting_stops may B c e (refusals.Layout why) h = h
 collecting_stops may B c e (refusals.Run why) h = h
@@ -88,7 +89,7 @@ collecting_stops may B c e refusals.Fetch h = tt
 collecting_stops may B c e refusals.Memory h = tt
 
 -- what the one yields, the other does
-pub stops_within : {A : Type 0} (z y : Yields) (t : Telling) (e : EngineValue) (i : ℕ) (r : Refusal A) → YieldsNoMore z y → StopsStep z t e i r → StopsStep y t e i r
+pub stops_within : {A : Type 0} (z y : Yields) (t : Telling) (e : EngineValue) (i : ℕ) (r : StepRefusal A) → YieldsNoMore z y → StopsStep z t e i r → StopsStep y t e i r
 stops_within z y t e i (refusals.Engine why) within (inl fault) = inl fault
 stops_within z y t e i (refusals.Engine why) within (inr (id, j, at, step, (v, came, fault))) = inr (id, j, at, step, (v, by came, fault))
   where
@@ -131,7 +132,7 @@ module _ (A J : Type 0) (y : Yields) (may : J → EndValue → Type 0) (from a b
   jobs_run = jobs_count (IsOwnJob y may t.blobs now) cs now.jobs g.jobs
 
   had_none : (mid : EngineValue) (i : ℕ) → HadNoneFor [] t mid i → HadNoneFor g.led.built.led.calls s mid i
-  had_none mid i (id, j, at, step, (c, of_step, none)) = (id, j, at, step, (c, of_step, left_none s t g.led.built.led.calls g.led.blobs g.led.built.puts j.action c (λ v held fits. (none v held fits).1)))
+  had_none mid i (id, j, at, step, (c, of_step, none)) = (id, j, at, step, (c, of_step, left_none s t g.led.built.led.calls g.led.blobs g.led.built.puts j.action c (λ v held fits. came_none j.action (none v held fits).0 (none v held fits).1)))
 
   begun_refused : (z : Yields) (i : ℕ) (e : BuildError A) → YieldsNoMore z y → IsKept t u → StartsNone a b → (turn : IsTurn most now cs (turns.Start i)) → (e.step ≡ i) × StopsBeginning A z t u i now new e.refusal
       → Goes {T = Unit {0}} cs (Err e) g.led.built.led.calls (taken_in true i now new)
@@ -155,7 +156,7 @@ module _ (A J : Type 0) (y : Yields) (may : J → EndValue → Type 0) (from a b
   begun_refused z i e within k quiet turn (step, inr (id, mid, is, gone, stops, none)) =
       let calls = g.led.built.led.calls in
       let gone_job : IsLost id mid new = (job_of is, job_is is, gone) in
-      let w = going_back A J y may from s most first a b t u now mid cs i id k g turn.0 is turn.2 new (lost id) (none_starts a b quiet) (λ d x child. absurd child) (λ js. refl) (λ js. tt) (ap (λ (e : EngineValue). e.jobs) gone) (ap (λ (e : EngineValue). e.commands) gone, ap (λ (e : EngineValue). e.frames) gone) gone_job tt in (
+      let w = going_back A J y may from s most first a b t u now mid cs i id k g turn.0 is turn.2 new (lost id) (none_starts a b quiet) (had_one t (lost id) (λ w d x is. cc)) (λ js. refl) (λ js. finish_one js (lost id) (λ w d v is. absurd cc)) (ap (λ (e : EngineValue). e.jobs) gone) (ap (λ (e : EngineValue). e.commands) gone, ap (λ (e : EngineValue). e.frames) gone) gone_job tt in (
         on_by A J y may from s most first b u new cs calls (started i id ∷ lost id ∷ []) (taken_in true i now new) w (none_lost A J y may from s most first a b t u now new i cs k g turn.0 turn.2.startable.waiting.unfinished id mid is gone),
         record {
           at = mid;
@@ -192,7 +193,7 @@ module _ (A J : Type 0) (y : Yields) (may : J → EndValue → Type 0) (from a b
     runs_still : HasBegun now c.step
     runs_still = inl (c.id, f.jobs.0, f.jobs.1, f.jobs.2.of_child.step, tt)
 
-    end_stops : IsKept t u → (r : Refusal A) → StopsEnd may u.blobs c now r → StopsStep y u now c.step r
+    end_stops : IsKept t u → (r : StepRefusal A) → StopsEnd may u.blobs c now r → StopsStep y u now c.step r
     end_stops k (refusals.Engine why) (p, came, blobs, trees, fault) =
         inr (c.id, f.jobs.0, f.jobs.1, f.jobs.2.of_child.step, (p.outcome, inl (record { produced = p; outcome = refl; may = ends k (made p) came; blobs = blobs; trees = trees }), fault))
     end_stops k (refusals.Layout why) h = absurd h
@@ -293,7 +294,7 @@ module _ (A : Type 0) (z y : Yields) (t : Telling) (within : YieldsNoMore z y) w
   leads_within most [] old new same = same
   leads_within most (c ∷ cs) old new (mid, does, few, rest) = (mid, does_within cs c old mid does, few, leads_within most cs mid new rest)
 
-  pub refused_within : {before : Telling} {most i : ℕ} {whole calls : List Call} {old new : EngineValue} {r : Refusal A} → IsRefusedBuild A z before t most whole calls old new i r → IsRefusedBuild A y before t most whole calls old new i r
+  pub refused_within : {before : Telling} {most i : ℕ} {whole calls : List Call} {old new : EngineValue} {r : StepRefusal A} → IsRefusedBuild A z before t most whole calls old new i r → IsRefusedBuild A y before t most whole calls old new i r
   refused_within {before} {most} {i} {whole} {calls} {old} {new} {r} h = record {
     at = h.at;
     led = record { calls = h.led.calls; leads = leads_within most h.led.calls old h.at h.led.leads };

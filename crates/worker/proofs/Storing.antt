@@ -242,14 +242,12 @@ module _ {old new : EngineValue} (more : (k : ℕ) (f : FinishedValue) → finis
   stands_later B C r o keeps (inl (v, recorded, form)) = inl (v, recorded_still keeps r v recorded, form)
   stands_later B C r o keeps (inr (i, f, at, form, kept)) = inr (i, f, more i f at, form, kept_later at kept)
 
-  step_later : (s t : Telling) (f : FinishedValue) → KeepsRight s.blobs t.blobs → (h : StoresStep s old f) → t.results f.action ≡ Some h.bytes → StoresStep t new f
+  step_later : (s t : Telling) (f : FinishedValue) → KeepsRight s.blobs t.blobs → (h : StoresStep s old f) → t.results f.action ≡ Some h.held.0 → StoresStep t new f
   step_later s t f keeps h at = record {
     action = right_still keeps h.action;
     trees = trees_still s.blobs t.blobs f.outcome.outputs keeps h.trees;
-    bytes = h.bytes;
-    held = at;
     result = h.result;
-    reads = h.reads;
+    held = (h.held.0, at, h.held.2);
     stands = stands_later s.blobs t.blobs h.result f.outcome keeps h.stands;
   }
 
@@ -258,21 +256,19 @@ pub steps_kept : {s t : Telling} {old new : EngineValue} → IsKept s t → new.
 steps_kept {s} {t} {old} {new} k same h i f at =
     let was : finished_in i old ≡ Some f = sym (ap (λ fs. at_number fs i) same) ∙ at in
     let step = h i f was in
-    step_later {old = old} {new = new} (λ n g there. ap (λ fs. at_number fs n) same ∙ there) s t f k.blobs step (k.results f.action step.bytes step.held)
+    step_later {old = old} {new = new} (λ n g there. ap (λ fs. at_number fs n) same ∙ there) s t f k.blobs step (k.results f.action step.held.0 step.held.1)
 
 -- a job finished as the store had recorded
 pub steps_taken : {t : Telling} {w : ℕ} {v : OutcomeValue} {old new : EngineValue} → (h : IsFinished w v old new) → IsHeldWhole t h.job.action v → StoresSteps t old → StoresSteps t new
 steps_taken {t} {w} {v} {old} {new} h whole all i f at = by (which h i f at)
   where
     by : (finished_in i old ≡ Some f) ⊎ ((i ≡ h.job.step) × (f ≡ came h)) → StoresStep t new f
-    by (inl before) = let step = all i f before in step_later {old = old} {new = new} (grows h) t t f (λ e b at right. at) step step.held
+    by (inl before) = let step = all i f before in step_later {old = old} {new = new} (grows h) t t f (λ e b at right. at) step step.held.1
     by (inr is) = subst (StoresStep t new) (sym is.1) (record {
       action = whole.action;
       trees = whole.trees;
-      bytes = whole.held.bytes;
-      held = whole.held.held;
       result = whole.held.result;
-      reads = whole.held.reads;
+      held = whole.held.held;
       stands = inl (v, whole.held.recorded, form_same v);
     })
 
@@ -289,26 +285,22 @@ steps_ran {s} {t} {w} {v} {old} {new} {Is} h kept action trees put all i f at = 
     by (inr is) = subst (StoresStep t new) (sym is.1) (record {
       action = action;
       trees = trees;
-      bytes = put.bytes;
-      held = put.held;
       result = put.result;
-      reads = put.reads;
+      held = put.held;
       stands = stands (came h) (form_same v);
     })
-    by (inl before) = next (kept.results f.action step.bytes step.held)
+    by (inl before) = next (kept.results f.action step.held.0 step.held.1)
       where
         step : StoresStep s old f
         step = all i f before
 
-        next : (t.results f.action ≡ Some step.bytes) ⊎ ((f.action ≡ h.job.action) × HasAt Is t.results h.job.action) → StoresStep t new f
+        next : (t.results f.action ≡ Some step.held.0) ⊎ ((f.action ≡ h.job.action) × HasAt Is t.results h.job.action) → StoresStep t new f
         next (inl there) = step_later {old = old} {new = new} (grows h) s t f kept.blobs step there
         next (inr (same, stands_there)) = record {
           action = right_still kept.blobs step.action;
           trees = trees_still s.blobs t.blobs f.outcome.outputs kept.blobs step.trees;
-          bytes = put.bytes;
-          held = ap t.results same ∙ put.held;
           result = put.result;
-          reads = put.reads;
+          held = (put.held.0, ap t.results same ∙ put.held.1, put.held.2);
           stands = stands f (of_form h i f at (inr same));
         }
 
@@ -346,11 +338,11 @@ all_stored t e h = record {
         right_blob t.blobs (tree_bytes m) right (apart right.0 (tree_bytes m) (inl (digest_of (tree_bytes m), right.1)) (inr (i, f, at, (p, m, there, refl))) right.2)
 
     keeps : NoClash (IsToldOrTree t.blobs e) → (f : FinishedValue) → (s : StoresStep t e f) → IsForForm t.blobs e s.result f.outcome → Keeps t.blobs t.results f
-    keeps apart f s (inl (v, recorded, form)) = (s.result, (s.bytes, s.held, s.reads), v, recorded, form)
+    keeps apart f s (inl (v, recorded, form)) = (s.result, s.held, v, recorded, form)
     keeps apart f s (inr (k, g, at, form, kept)) =
-        let here : Keeps t.blobs (λ d. Some s.bytes) g = kept.held t.blobs (λ d. Some s.bytes) g at (s.bytes, refl, s.reads) (holds apart k g at) in
-        let reads : Reads here.0 s.bytes = subst (Reads here.0) (let is = here.1.1 in cc) here.1.2 in
-        (here.0, (s.bytes, s.held, reads), here.2, here.3, form_then here.4 form)
+        let here : Keeps t.blobs (λ d. Some s.held.0) g = kept.held t.blobs (λ d. Some s.held.0) g at (s.held.0, refl, s.held.2) (holds apart k g at) in
+        let reads : Reads here.0 s.held.0 = subst (Reads here.0) (let is = here.1.1 in cc) here.1.2 in
+        (here.0, (s.held.0, s.held.1, reads), here.2, here.3, form_then here.4 form)
 
 -- what is stored is, when more is told
 pub stored_grown : {s t : Telling} {e : EngineValue} → Grows s.blobs t.blobs → Grows s.results t.results → IsStored s e → IsStored t e
@@ -371,7 +363,7 @@ stored_grown {s} {t} {e} blobs results h = record {
 -- a result that was put is there
 pub put_result_of : {T E : Type 0} (t : Telling) (answer : Result T E) (e : EngineValue) (i : ℕ) (d : DigestValue) (bytes : List ℕ) (r : ActionResultValue) → (f : FinishedValue) × (finished_in i e ≡ Some f)
     → OnOk answer (t.results d ≡ Some bytes) → Reads r bytes → IsKeptOf e i r → OnOk answer (HasResultOf t e i d)
-put_result_of t (Ok x) e i d bytes r step held reads kept = record { step = step.0; at = step.1; bytes = bytes; held = held; result = r; reads = reads; kept = kept }
+put_result_of t (Ok x) e i d bytes r step held reads kept = record { step = step.0; at = step.1; result = r; held = (bytes, held, reads); kept = kept }
 put_result_of t (Err x) e i d bytes r step held reads kept = tt
 
 -- what was put reads as the result of its step

@@ -76,10 +76,8 @@ module _ {B C : Blobs} (keeps : KeepsRight B C) where
 
 pub held_kept : {t u : Telling} {d : DigestValue} {v : OutcomeValue} → IsKept t u → IsHeld t d v → IsHeld u d v
 held_kept {t} {u} {d} {v} k h = record {
-  bytes = h.bytes;
-  held = k.results d h.bytes h.held;
   result = h.result;
-  reads = h.reads;
+  held = (h.held.0, k.results d h.held.0 h.held.1, h.held.2);
   recorded = recorded_still k.blobs h.result v h.recorded;
 }
 

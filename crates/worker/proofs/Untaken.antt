@@ -41,7 +41,7 @@ if_err X (Err f) e is = tt
 module _ (t : Telling) (d : DigestValue) (c : CommandValue) where
   module _ (bytes : List ℕ) (there : t.results d ≡ Some bytes) where
     reads_there : (v : OutcomeValue) → (h : IsHeld t d v) → Reads h.result bytes
-    reads_there v h = subst (Reads h.result) (one_answer (t.results d) h.bytes bytes h.held there) h.reads
+    reads_there v h = subst (Reads h.result) (one_answer (t.results d) h.held.0 bytes h.held.1 there) h.held.2
 
     pub none_reads : ((r : ActionResultValue) → Reads r bytes → ⊥) → HasNoneToTake t d c
     none_reads none v h fits = none h.result (reads_there v h)

@@ -1,6 +1,6 @@
 -- The calls of an engine that lead from one to another.
 use Rattle.std.specs.Prelude.{suc, ◌≡◌, ◌⊎◌, ◌<◌, ◌≤◌, ℕ, List, [], ◌∷◌, ◌++◌, length, Option}
-use Rattle.std.specs.Prelude.{Some, None, slice_get}
+use Rattle.std.specs.Prelude.{Some, None, slice_get, filter_map, Contains}
 use Rattle.std.specs.List.{AllByRecursion}
 use Rattle.blob_digest.specs.Digest.{DigestValue}
 use Rattle.action_messages.specs.ActionResult.{ActionResultValue}
@@ -36,21 +36,20 @@ pub data Call : Type 0 where
 
 -- among the calls a child of the action came to the outcome
 abbrev pub CameTo : List Call → DigestValue → OutcomeValue → Type 0
-CameTo [] d v = ⊥
-CameTo (ran id e w ∷ cs) d v = ((d ≡ e) × (v ≡ w)) ⊎ CameTo cs d v
-CameTo (c ∷ cs) d v = CameTo cs d v
+CameTo calls d v = (id : ℕ) × Contains calls (ran id d v)
 
 -- among the calls a child of the action was started
 abbrev pub HasChild : List Call → DigestValue → StartValue → Type 0
-HasChild [] d s = ⊥
-HasChild (launched id e r ∷ cs) d s = ((d ≡ e) × (s ≡ r)) ⊎ HasChild cs d s
-HasChild (c ∷ cs) d s = HasChild cs d s
+HasChild calls d s = (id : ℕ) × Contains calls (launched id d s)
+
+-- the child that a call starts
+abbrev pub child_in : Call → Option StartValue
+child_in (launched id d s) = Some s
+child_in c = None
 
 -- the children that were started, the latest last
 abbrev pub children_of : List Call → List StartValue
-children_of [] = []
-children_of (launched id d s ∷ cs) = s ∷ children_of cs
-children_of (c ∷ cs) = children_of cs
+children_of calls = filter_map child_in calls
 
 -- the bytes read as the result of an outcome of this form
 pub record IsResultFor (v : OutcomeValue) (b : List ℕ) : Type 0 where
@@ -173,11 +172,14 @@ pub record IsLed (A : Type 0) (yields : Yields) (t : Telling) (most : ℕ)
   pub calls : List Call
   pub leads : Leads A yields t most calls old new
 
+-- the digest of the action whose child came to something in a call
+abbrev pub came_in : Call → Option DigestValue
+came_in (ran id d v) = Some d
+came_in c = None
+
 -- the digests of the actions whose children came to something, one for each child
 abbrev pub came_of : List Call → List DigestValue
-came_of [] = []
-came_of (ran id d v ∷ cs) = d ∷ came_of cs
-came_of (c ∷ cs) = came_of cs
+came_of calls = filter_map came_in calls
 
 -- the digests are of actions whose children came to something, at most one for each of these, in
 -- this order

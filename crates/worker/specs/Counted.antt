@@ -2,8 +2,8 @@
 use Rattle.std.specs.Prelude.{◌≡◌, ◌+◌, ℕ, string_bytes}
 use Rattle.runs.specs.declared.error.RunsError.TheVariants as runs
 use Rattle.tree.specs.declared.error.TreeError.TheVariants as tree
-use Rattle.worker.specs.declared.error.Refusal.{Refusal}
-use Rattle.worker.specs.declared.error.Refusal.TheVariants as refusals
+use Rattle.worker.specs.declared.error.StepRefusal.{StepRefusal}
+use Rattle.worker.specs.declared.error.StepRefusal.TheVariants as refusals
 use Rattle.worker.specs.declared.laid.LayoutError.TheVariants as laying
 use Rattle.worker.specs.declared.runner.RunError.{RunError}
 use Rattle.worker.specs.declared.runner.RunError.TheVariants as children
@@ -15,7 +15,7 @@ pub record Counts (before after : ℕ) (fails : Type 0) : Type 0 where
   pub unfailed : (fails → ⊥) → after ≡ before
 
 -- the store failed
-abbrev pub IsFetch : {A : Type 0} → Refusal A → Type 0
+abbrev pub IsFetch : {A : Type 0} → StepRefusal A → Type 0
 IsFetch refusals.Fetch = Unit {0}
 IsFetch (refusals.Engine (runs.Source tree.Fetch)) = Unit {0}
 IsFetch (refusals.Layout (laying.Source tree.Fetch)) = Unit {0}
@@ -26,7 +26,7 @@ abbrev pub IsFailure : {A : Type 0} → RunError A → Type 0
 IsFailure (children.Device program cause) = Unit {0}
 IsFailure e = ⊥
 
-abbrev pub IsDevice : {A : Type 0} → Refusal A → Type 0
+abbrev pub IsDevice : {A : Type 0} → StepRefusal A → Type 0
 IsDevice (refusals.Run e) = IsFailure e
 IsDevice r = ⊥
 

@@ -7,8 +7,8 @@ use Rattle.worker.specs.Outcomes.{Yields}
 use Rattle.worker.specs.Values.{EndValue, failed, program_of}
 use Rattle.worker.specs.declared.fail_runner.FailJob.{FailJob}
 use Rattle.worker.specs.declared.fail_runner.FailRunner.{FailRunner}
-use Rattle.worker.specs.declared.failure.Cause.{Cause}
-use Rattle.worker.specs.declared.failure.Cause.TheVariants.{Signal}
+use Rattle.worker.specs.declared.failure.FailureCause.{FailureCause}
+use Rattle.worker.specs.declared.failure.FailureCause.TheVariants.{Signal}
 use Rattle.worker.specs.declared.runner.RunError.{RunError}
 use Rattle.worker.specs.declared.runner.RunError.TheVariants.{Device, Memory}
 
@@ -37,7 +37,7 @@ pub record IsFreshRunner {N : Type 0} (inner : N) (number : ℕ) (r : FailRunner
 -- ---- its own failure
 
 -- signal 9 ended the process
-abbrev pub own_cause : Cause
+abbrev pub own_cause : FailureCause
 own_cause = Signal (pos 9)
 
 -- an error that tells of it, of this program; or of lack of memory

@@ -8,7 +8,6 @@ use Rattle.action_messages.specs.Action.{action_bytes, with_input}
 use Rattle.action_messages.specs.ActionResult.{ActionResultValue}
 use Rattle.action_messages.specs.Command.{CommandValue}
 use Rattle.action_messages.specs.Frame.{FrameValue}
-use Rattle.action_messages.specs.Reads.{Reads}
 use Rattle.actions.specs.declared.outcome.Output.TheVariants as outputs
 use Rattle.actions.specs.Outcome.{OutputValue, OutcomeValue}
 use Rattle.actions.specs.Recorded.{IsRecorded}
@@ -16,6 +15,7 @@ use Rattle.blob_source.specs.Source.{Blobs, Telling}
 use Rattle.blob_source.specs.Sink.{HasRight}
 use Rattle.tree.specs.Tree.{Name}
 use Rattle.runs.specs.Engine.{JobValue, EngineValue}
+use Rattle.verifier.specs.Holding.{HoldsResult}
 use Rattle.verifier.specs.StepChecks.{AreListed}
 use Rattle.worker.specs.Values.{LayoutValue, ProducedValue, EndValue, made, IsOf, program_of}
 use Rattle.worker.specs.Layout.{IsLayoutOf}
@@ -95,10 +95,8 @@ CanBeTaken c v = (v.exit_code ≡ pos 0) × AreListed c v
 
 -- the outcome is the one that the store has recorded under a digest
 pub record IsHeld (t : Telling) (d : DigestValue) (v : OutcomeValue) : Type 0 where
-  pub bytes : List ℕ
-  pub held : t.results d ≡ Some bytes
   pub result : ActionResultValue
-  pub reads : Reads result bytes
+  pub held : HoldsResult t.results d result
   pub recorded : IsRecorded t.blobs result v
 
 -- A job came to an outcome that the store has recorded for its action, and that a build takes for

@@ -13,13 +13,13 @@ use Rattle.tree.specs.TreeError.{Explains, FailsBlob}
 use Rattle.tree.specs.declared.error.TreeError.{TreeError}
 use Rattle.tree.specs.declared.error.TreeError.TheVariants as tree
 use Rattle.tree.specs.Unfolded.{IsUnfolded, ExplainsUnfold}
-use Rattle.worker.specs.declared.error.Refusal.{Refusal}
-use Rattle.worker.specs.declared.error.Refusal.TheVariants as refusals
+use Rattle.worker.specs.declared.error.StepRefusal.{StepRefusal}
+use Rattle.worker.specs.declared.error.StepRefusal.TheVariants as refusals
 use Rattle.worker.specs.declared.laid.LayoutError.{LayoutError}
 use Rattle.worker.specs.declared.laid.LayoutError.TheVariants as laying
 use Rattle.worker.specs.Layout.{IsFileWith}
 
-abbrev pub of_fetch : {A : Type 0} → FetchError → Refusal A
+abbrev pub of_fetch : {A : Type 0} → FetchError → StepRefusal A
 of_fetch fetching.Failed = refusals.Fetch
 of_fetch fetching.Memory = refusals.Memory
 

@@ -7,8 +7,8 @@ use Rattle.blob_digest.specs.Digest.{DigestValue}
 use Rattle.blob_source.specs.Source.{Telling}
 use Rattle.runs.specs.Engine.{JobValue, EngineValue, finished_in, job_in}
 use Rattle.runs.specs.Calls.{IsFinishFault, IsStartFault}
-use Rattle.worker.specs.declared.error.Refusal.{Refusal}
-use Rattle.worker.specs.declared.error.Refusal.TheVariants as refusals
+use Rattle.worker.specs.declared.error.StepRefusal.{StepRefusal}
+use Rattle.worker.specs.declared.error.StepRefusal.TheVariants as refusals
 use Rattle.worker.specs.declared.runner.RunError.TheVariants as children
 use Rattle.worker.specs.declared.error.BuildError.{BuildError}
 use Rattle.worker.specs.declared.watching.Progress.{Progress}
@@ -39,7 +39,7 @@ HasBegun e i = HasJobOf e i (λ id j. Unit {0}) ⊎ IsSome (finished_in i e)
 -- program from the root; or its job's child may come to nothing, as what stands at this path is no
 -- output, or as the process of this program fails by this cause. That the store failed, or that
 -- memory ran out, is told of a step that has begun.
-abbrev pub StopsStep : {A : Type 0} → Yields → Telling → EngineValue → ℕ → Refusal A → Type 0
+abbrev pub StopsStep : {A : Type 0} → Yields → Telling → EngineValue → ℕ → StepRefusal A → Type 0
 StopsStep yields t e i (refusals.Engine why) = (IsStartable e i × IsStartFault t.blobs e i why)
     ⊎ HasJobOf e i (λ id j.
     (v : OutcomeValue) × ComesTo yields t e j v × IsFinishFault e id v why)
@@ -72,7 +72,7 @@ ComesNext most calls e i = ((running e.jobs < most) × IsLeastStartable e i)
 
 -- the refusal is of the step's child: its input isn't laid out, or it isn't started, or came to
 -- nothing
-abbrev pub IsOfChild : {A : Type 0} → Refusal A → Type 0
+abbrev pub IsOfChild : {A : Type 0} → StepRefusal A → Type 0
 IsOfChild (refusals.Layout why) = Unit {0}
 IsOfChild (refusals.Run why) = Unit {0}
 IsOfChild r = ⊥
@@ -85,7 +85,7 @@ HadNoneFor calls before e i = HasJobOf e i (λ id j.
 -- How far the turn of a step came, which is refused after whole turns. It comes next; or it was
 -- started, and is refused for its child only where the store had no result to take; or its job
 -- finished, which was started first of those that ran.
-abbrev pub IsRefusedTurn : {A : Type 0} → ℕ → Telling → List Call → EngineValue → ℕ → Refusal A
+abbrev pub IsRefusedTurn : {A : Type 0} → ℕ → Telling → List Call → EngineValue → ℕ → StepRefusal A
     → List Call → Type 0
 IsRefusedTurn most before whole at i r [] = ComesNext most whole at i
 IsRefusedTurn most before whole at i r (started k id ∷ []) =
@@ -97,7 +97,7 @@ IsRefusedTurn most before whole at i r begun = ⊥
 -- After whole turns the turn of a step of the plan was begun, and the step is refused; and then
 -- jobs alone were lost.
 pub record IsRefusedBuild (A : Type 0) (yields : Yields) (before t : Telling) (most : ℕ)
-    (whole calls : List Call) (old new : EngineValue) (i : ℕ) (r : Refusal A) : Type 0 where
+    (whole calls : List Call) (old new : EngineValue) (i : ℕ) (r : StepRefusal A) : Type 0 where
   pub at : EngineValue
   pub led : IsLed A yields t most old at
   pub begun : List Call
@@ -126,7 +126,7 @@ pub record EndsBuild {T : Type 0} (A : Type 0) (yields : Yields) (before t : Tel
   pub watched : IsWatched (IsProgress A yields t most old calls) (turns_in whole) heard hears
 
 -- the store failed, or memory ran out
-abbrev pub IsStoreFault : {A : Type 0} → Refusal A → Type 0
+abbrev pub IsStoreFault : {A : Type 0} → StepRefusal A → Type 0
 IsStoreFault refusals.Fetch = Unit {0}
 IsStoreFault refusals.Memory = Unit {0}
 IsStoreFault r = ⊥

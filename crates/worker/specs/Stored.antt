@@ -41,7 +41,7 @@ pub record PutsNoOther (bs : List (List ℕ)) (old new : Blobs) : Type 0 where
   pub same : (d : DigestValue) → AllByRecursion (λ b. digest_of b ≢ d) bs → new d ≡ old d
 
 -- what stands under other digests than those of such blobs stays
-pub record KeepsOthers (Is : List ℕ → Type 0) (old new : Blobs) : Type 0 where
+pub record KeepsAllBut (Is : List ℕ → Type 0) (old new : Blobs) : Type 0 where
   pub stays : (d : DigestValue) (b : List ℕ) → old d ≡ Some b
       → ((c : List ℕ) → Is c → digest_of c ≢ d) → new d ≡ Some b
 

@@ -12,6 +12,7 @@ use Rattle.actions.specs.Recorded.{IsRecorded}
 use Rattle.blob_source.specs.Source.{Blobs, Telling, IsBlobUnder}
 use Rattle.blob_source.specs.Sink.{HasRight, KeepsRight}
 use Rattle.tree.specs.Memo.{Asked, Known, blob, result, known_by}
+use Rattle.verifier.specs.Holding.{HoldsResult}
 use Rattle.runs.specs.Calls.{HaveOneForm}
 use Rattle.runs.specs.Engine.{FinishedValue, EngineValue, finished_in}
 use Rattle.runs.specs.Results.{result_of}
@@ -90,10 +91,8 @@ pub record StaysRemembered {A : Type 0} (old new : Remembered A) : Type 0 where
 pub record HasResultOf (t : Telling) (e : EngineValue) (i : ℕ) (d : DigestValue) : Type 0 where
   pub step : FinishedValue
   pub at : finished_in i e ≡ Some step
-  pub bytes : List ℕ
-  pub held : t.results d ≡ Some bytes
   pub result : ActionResultValue
-  pub reads : Reads result bytes
+  pub held : HoldsResult t.results d result
   pub kept : IsKeptOf e i result
 
 -- bytes read as the result of a step that has finished
@@ -113,10 +112,8 @@ IsForForm B e r o =
 pub record StoresStep (t : Telling) (e : EngineValue) (f : FinishedValue) : Type 0 where
   pub action : HasRight t.blobs f.action
   pub trees : HasTrees t.blobs f.outcome
-  pub bytes : List ℕ
-  pub held : t.results f.action ≡ Some bytes
   pub result : ActionResultValue
-  pub reads : Reads result bytes
+  pub held : HoldsResult t.results f.action result
   pub stands : IsForForm t.blobs e result f.outcome
 
 -- a store has what each step that has finished came to

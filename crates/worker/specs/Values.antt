@@ -3,7 +3,7 @@ use Rattle.std.specs.Prelude.{◌≡◌, ℕ, List, [], ◌∷◌, ◌++◌, map
 use Rattle.std.specs.declared.vec.Vec.{Vec}
 use Rattle.action_messages.specs.Command.{CommandValue}
 use Rattle.actions.specs.Outcome.{OutcomeValue}
-use Rattle.worker.specs.declared.failure.Cause.{Cause}
+use Rattle.worker.specs.declared.failure.FailureCause.{FailureCause}
 
 -- folders and files with their contents, by paths
 pub record LayoutValue : Type 0 where
@@ -20,7 +20,7 @@ pub record ProducedValue : Type 0 where
 pub data EndValue : Type 0 where
   made : (p : ProducedValue) → EndValue
   bad_at : (path : List (List ℕ)) → EndValue
-  failed : (program : List ℕ) (cause : Cause) → EndValue
+  failed : (program : List ℕ) (cause : FailureCause) → EndValue
 
 -- a child that is started: what is laid out for it, and its command
 pub record StartValue : Type 0 where

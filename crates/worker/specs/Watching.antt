@@ -1,6 +1,8 @@
 -- How far a build is, what its watcher is told, and in which order children's jobs finish.
 use Rattle.std.specs.Prelude.{suc, ◌≡◌, ◌++◌, ◌≤◌, ◌==◌, not, ℕ, List, [], ◌∷◌, length, filter}
-use Rattle.std.specs.Prelude.{Option, Some, None}
+use Rattle.std.specs.Prelude.{Bool, true, false, Option, Some, None, count_by}
+use Rattle.actions.specs.Outcome.{OutcomeValue}
+use Rattle.blob_digest.specs.Digest.{DigestValue}
 use Rattle.blob_source.specs.Sink.{KeepsRight}
 use Rattle.blob_source.specs.Source.{Telling}
 use Rattle.runs.specs.Engine.{FinishedValue, EngineValue}
@@ -39,10 +41,12 @@ finished_count (None ∷ fs) = finished_count fs
 finished_count (Some f ∷ fs) = suc (finished_count fs)
 
 -- how many steps were taken from the store
+abbrev pub is_taken : Call → Bool
+is_taken (taken id d v) = true
+is_taken c = false
+
 abbrev pub taken_count : List Call → ℕ
-taken_count [] = 0
-taken_count (taken id d v ∷ cs) = suc (taken_count cs)
-taken_count (c ∷ cs) = taken_count cs
+taken_count calls = count_by is_taken calls
 
 abbrev pub without_number : ℕ → List (ℕ × ℕ) → List (ℕ × ℕ)
 without_number id js = filter (λ j. not (j.0 == id)) js
@@ -67,12 +71,8 @@ IsFirstJob id (j ∷ js) = j.0 ≡ id
 
 -- where a child's job finishes, it is the one of those that run that was started first
 abbrev pub FinishInOrder : List (ℕ × ℕ) → List Call → Type 0
-FinishInOrder js [] = Unit {0}
-FinishInOrder js (started i id ∷ cs) = FinishInOrder (js ++ (id, i) ∷ []) cs
-FinishInOrder js (launched id d s ∷ cs) = FinishInOrder js cs
-FinishInOrder js (ran id d v ∷ cs) = IsFirstJob id js × FinishInOrder (without_number id js) cs
-FinishInOrder js (taken id d v ∷ cs) = FinishInOrder (without_number id js) cs
-FinishInOrder js (lost id ∷ cs) = FinishInOrder (without_number id js) cs
+FinishInOrder js calls = (before after : List Call) (id : ℕ) (d : DigestValue) (v : OutcomeValue)
+    → calls ≡ before ++ ran id d v ∷ after → IsFirstJob id (jobs_after js before)
 
 -- The numbers are those of an engine to which these calls led, from one of which no job ran. The
 -- step that runs longest is that of the job that was started first.
@@ -85,11 +85,13 @@ pub record IsProgressOf (calls : List Call) (e : EngineValue) (p : Progress) : T
   pub first : p.longest ≡ first_step (jobs_after [] calls)
 
 -- how many turns the calls make: in each a step is started, or a child's job finishes
+abbrev pub begins_turn : Call → Bool
+begins_turn (started i id) = true
+begins_turn (ran id d v) = true
+begins_turn c = false
+
 abbrev pub turns_in : List Call → ℕ
-turns_in [] = 0
-turns_in (started i id ∷ cs) = suc (turns_in cs)
-turns_in (ran id d v ∷ cs) = suc (turns_in cs)
-turns_in (c ∷ cs) = turns_in cs
+turns_in calls = count_by begins_turn calls
 
 -- The numbers are those of an engine to which the first of all calls led, in so many whole turns,
 -- by what the store told then; and what it tells at the end differs from that by what the later

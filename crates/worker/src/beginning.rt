@@ -5,7 +5,7 @@ ghost use Rattle.std.specs.Result.{IsErrAnd};
 ghost use Rattle.worker.specs.Counted.{Counts, IsDevice, IsFetch};
 ghost use Rattle.blob_source.specs.Source.{Grows};
 ghost use Rattle.worker.specs.Steps.{IsOfBuild, IsSameBuild};
-ghost use Rattle.worker.specs.Stored.{IsKept, KeepsOthers};
+ghost use Rattle.worker.specs.Stored.{IsKept, KeepsAllBut};
 ghost use Rattle.worker.specs.Storing.{HasPutAll, Remembers, StaysPut, StaysRemembered, WerePut};
 ghost use Rattle.worker.specs.Calls.{IsStartable};
 ghost use Rattle.worker.specs.Outcomes.{YieldsFor, YieldsNoMore};
@@ -18,7 +18,7 @@ ghost use Rattle.worker.specs.Stopped.{IsOfChild, StopsStep};
 
 use crate::child::Child;
 use crate::ending::lose;
-use crate::error::{BuildError, Refusal};
+use crate::error::{BuildError, StepRefusal};
 use crate::laying_out::layout;
 use crate::putting::{put_input, put_trees};
 use crate::recorded::recorded_outcome;
@@ -36,7 +36,7 @@ fn start_child<A: Allocator + Copy, S: BlobSink<A>, N: Runner<A>>(
     sink: &mut S,
     runner: &mut N,
     job: &Job<A>,
-) -> Result<N::Job, Refusal<A>>
+) -> Result<N::Job, StepRefusal<A>>
     ensures kept { IsKept (S.tells sink.old) (S.tells sink.new) }
     // The store is only asked.
     ensures only { Grows (S.tells sink.old).blobs (S.tells sink.new).blobs }
@@ -73,7 +73,7 @@ fn launch<A: Allocator + Copy, S: BlobSink<A>, N: Runner<A>>(
     put: &mut BTreeSet<Digest, A>,
     children: &mut VecDeque<Child<N::Job>, A>,
     job: &Job<A>,
-) -> Result<(), Refusal<A>>
+) -> Result<(), StepRefusal<A>>
     requires job { IsJobIn engine.old job.now }
     requires put { WerePut put.old (S.tells sink.old).blobs }
     ensures put { WerePut put.new (S.tells sink.new).blobs }
@@ -82,7 +82,7 @@ fn launch<A: Allocator + Copy, S: BlobSink<A>, N: Runner<A>>(
     ensures once { OnOk result (CallsForJob job.now put.old (S.tells sink.new) engine.old
         engine.new (S.tells sink.old).calls (S.tells sink.new).calls) }
     ensures kept { IsKept (S.tells sink.old) (S.tells sink.new) }
-    ensures only { KeepsOthers (IsForJob job.now (S.tells sink.new).blobs)
+    ensures only { KeepsAllBut (IsForJob job.now (S.tells sink.new).blobs)
         (S.tells sink.old).blobs (S.tells sink.new).blobs }
     ensures launched { OnOk result (IsLaunched (N.yields runner.old) N.may_give
         (N.starts runner.old) (N.starts runner.new) (S.tells sink.old) (S.tells sink.new)
@@ -136,7 +136,7 @@ pub(crate) fn begin<A: Allocator + Copy, S: BlobSink<A>, N: Runner<A>>(
     ensures knows { Remembers remembered.new (S.tells sink.new).blobs }
     ensures stays { StaysRemembered remembered.old remembered.new }
     ensures kept { IsKept (S.tells sink.old) (S.tells sink.new) }
-    ensures only { KeepsOthers (IsOfBuild A (N.yields runner.old) (S.tells sink.new).blobs
+    ensures only { KeepsAllBut (IsOfBuild A (N.yields runner.old) (S.tells sink.new).blobs
         engine.new) (S.tells sink.old).blobs (S.tells sink.new).blobs }
     ensures build { IsSameBuild engine.old engine.new }
     ensures begun { OnOk result (IsBegun A (N.yields runner.old) N.may_give
@@ -169,7 +169,7 @@ pub(crate) fn begin<A: Allocator + Copy, S: BlobSink<A>, N: Runner<A>>(
         Err(error) => {
             return Err(BuildError {
                 step,
-                refusal: Refusal::Engine(error),
+                refusal: StepRefusal::Engine(error),
             });
         }
     };

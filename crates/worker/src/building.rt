@@ -10,7 +10,7 @@ ghost use Rattle.worker.specs.Calls.{running, IsBuiltWith};
 ghost use Rattle.worker.specs.Going.{AreJobsOf, IsJobOf, IsGoing};
 ghost use Rattle.worker.specs.Stopped.{EndsBuild, LosesRest};
 ghost use Rattle.worker.specs.Steps.{IsOfBuild};
-ghost use Rattle.worker.specs.Stored.{HasNoneFinished, IsStored, KeepsOthers};
+ghost use Rattle.worker.specs.Stored.{HasNoneFinished, IsStored, KeepsAllBut};
 
 use crate::child::Child;
 use crate::counting::{before_turn, first_progress, progress_after};
@@ -54,6 +54,14 @@ fn end_all<A: Allocator + Copy, N: Runner<A>>(
     }
 }
 
+/// What a build has under way: what it remembers of its store, and its children in the order of
+/// their starts.
+#[derive(Drop)]
+struct Underway<A: Allocator, J> {
+    remembered: Remembered<A>,
+    children: VecDeque<Child<J>, A>,
+}
+
 /// Takes turns until there is none, and tells after each how far the build is.
 fn take_turns<A: Allocator + Copy, S: BlobSink<A>, N: Runner<A>, W: Watcher>(
     alloc: A,
@@ -61,39 +69,40 @@ fn take_turns<A: Allocator + Copy, S: BlobSink<A>, N: Runner<A>, W: Watcher>(
     sink: &mut S,
     runner: &mut N,
     watcher: &mut W,
-    remembered: &mut Remembered<A>,
-    children: &mut VecDeque<Child<N::Job>, A>,
+    underway: &mut Underway<A, N::Job>,
     jobs: usize,
 ) -> Result<(), BuildError<A>>
     requires some { 0 < jobs }
-    requires knows { Remembers remembered.old (S.tells sink.old).blobs }
+    requires knows { Remembers underway.old.remembered (S.tells sink.old).blobs }
     requires idle { running engine.old.jobs ≡ 0 }
-    requires none { children.old.items ≡ [] }
+    requires none { underway.old.children.items ≡ [] }
     ensures going { (g : IsGoing A (N.yields runner.old) N.may_give (N.starts runner.old)
         (N.starts runner.new) (S.tells sink.old) (S.tells sink.new) jobs engine.old engine.new
-        children.new.items)
+        underway.new.children.items)
         × EndsBuild A (N.yields runner.old) (S.tells sink.old) (S.tells sink.new) jobs engine.old
         engine.new g.led.built.led.calls (W.told watcher.old) (W.told watcher.new) result }
     ensures done { OnOk result (HaveAllFinished engine.new) }
-    ensures ended { OnOk result (children.new.items ≡ []) }
-    ensures few { OnErr result (length children.new.items < jobs) }
+    ensures ended { OnOk result (underway.new.children.items ≡ []) }
+    ensures few { OnErr result (length underway.new.children.items < jobs) }
     ensures stored { OnOk result (StoresSteps (S.tells sink.old) engine.old
         → StoresSteps (S.tells sink.new) engine.new) }
     ensures right { KeepsRight (S.tells sink.old).blobs (S.tells sink.new).blobs }
-    ensures blobs { KeepsOthers (IsOfBuild A (N.yields runner.old) (S.tells sink.new).blobs
+    ensures blobs { KeepsAllBut (IsOfBuild A (N.yields runner.old) (S.tells sink.new).blobs
         engine.new) (S.tells sink.old).blobs (S.tells sink.new).blobs }
-    ensures stays { StaysRemembered remembered.old remembered.new }
-    ensures alive { N.alive runner.new ≡ N.alive runner.old + length children.new.items }
+    ensures stays { StaysRemembered underway.old.remembered underway.new.remembered }
+    ensures alive { N.alive runner.new ≡ N.alive runner.old + length underway.new.children.items }
     ensures fetched { Counts (S.tells sink.old).failures (S.tells sink.new).failures
         (IsErrAnd result (λ e. IsFetch e.refusal)) }
     ensures device { Counts (N.failures runner.old) (N.failures runner.new)
         (IsErrAnd result (λ e. IsDevice e.refusal)) }
 {
     let mut progress = first_progress(engine);
-    while let Some(turn) = next_turn(engine, children, jobs) {
-        let before = before_turn(engine, children, &turn);
+    while let Some(turn) = next_turn(engine, &underway.children, jobs) {
+        let before = before_turn(engine, &underway.children, &turn);
+        let remembered = &mut underway.remembered;
+        let children = &mut underway.children;
         take_turn(alloc, engine, sink, runner, remembered, children, turn)?;
-        progress = progress_after(progress, before, engine, children);
+        progress = progress_after(progress, before, engine, &underway.children);
         watcher.watch(progress);
     }
     Ok(())
@@ -135,7 +144,7 @@ pub fn build<A: Allocator + Copy, S: BlobSink<A>, N: Runner<A>, W: Watcher>(
     ensures alive { N.alive runner.new ≡ N.alive runner.old }
     ensures right { KeepsRight (S.tells sink.old).blobs (S.tells sink.new).blobs }
     // What stands under the digest of no blob that the build has to put stays.
-    ensures blobs { KeepsOthers (IsOfBuild A (N.yields runner.old) (S.tells sink.new).blobs
+    ensures blobs { KeepsAllBut (IsOfBuild A (N.yields runner.old) (S.tells sink.new).blobs
         engine.new) (S.tells sink.old).blobs (S.tells sink.new).blobs }
     // The store failed exactly where that is told, and the runner at least there. Other children
     // that are waited for after a refusal may fail too: there is none where `jobs` is 1.
@@ -149,20 +158,16 @@ pub fn build<A: Allocator + Copy, S: BlobSink<A>, N: Runner<A>, W: Watcher>(
 {
     let memo = Memo::new(alloc);
     let put = BTreeSet::new(alloc);
-    let mut remembered = Remembered { memo, put };
-    let mut children = VecDeque::new(alloc);
-    match take_turns(
-        alloc,
-        engine,
-        sink,
-        runner,
-        watcher,
-        &mut remembered,
-        &mut children,
-        jobs,
-    ) {
+    let remembered = Remembered { memo, put };
+    let children = VecDeque::new(alloc);
+    let mut underway = Underway {
+        remembered,
+        children,
+    };
+    match take_turns(alloc, engine, sink, runner, watcher, &mut underway, jobs) {
         Ok(()) => Ok(()),
         Err(error) => {
+            let Underway { children, .. } = underway;
             end_all(alloc, engine, runner, children);
             Err(error)
         }

@@ -13,7 +13,7 @@ ghost use Rattle.worker.specs.Stored.{IsKept};
 ghost use Rattle.worker.specs.Storing.{HasResultOf, PutsMade};
 
 use crate::child::Child;
-use crate::error::{BuildError, Refusal};
+use crate::error::{BuildError, StepRefusal};
 use crate::putting::{put_all, put_outcome, put_trees};
 use crate::runner::{Produced, Runner};
 use actions::Outcome;
@@ -39,7 +39,7 @@ fn collect<A: Allocator + Copy, S: BlobSink<A>, N: Runner<A>>(
     sink: &mut S,
     runner: &mut N,
     job: N::Job,
-) -> Result<Outcome<A>, Refusal<A>>
+) -> Result<Outcome<A>, StepRefusal<A>>
     ensures kept { IsKept (S.tells sink.old) (S.tells sink.new) }
     ensures gave { IfOk result (λ v. (p : ProducedValue) × N.may_give job (made p)
         × (v ≡ p.outcome) × HasAllRight (S.tells sink.new).blobs p.blobs) }
@@ -67,7 +67,7 @@ fn take<A: Allocator + Copy, S: BlobSink<A>, N: Runner<A>>(
     sink: &mut S,
     runner: &mut N,
     child: Child<N::Job>,
-) -> Result<(), Refusal<A>>
+) -> Result<(), StepRefusal<A>>
     ensures kept { IsKept (S.tells sink.old) (S.tells sink.new) }
     ensures ended { OnOk result
         (EndedWell N.may_give (S.tells sink.old) (S.tells sink.new) child engine.old engine.new) }
@@ -97,7 +97,7 @@ fn settle<A: Allocator + Copy, S: BlobSink<A>, N: Runner<A>>(
     sink: &mut S,
     runner: &mut N,
     child: Child<N::Job>,
-) -> Result<(), Refusal<A>>
+) -> Result<(), StepRefusal<A>>
     requires there { (j : JobValue) × (job_in child.id engine.old ≡ Some j) × IsJobOf child j }
     ensures ended { OnOk result
         (EndedWell N.may_give (S.tells sink.old) (S.tells sink.new) child engine.old engine.new) }

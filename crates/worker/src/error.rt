@@ -1,6 +1,6 @@
 ghost use Rattle.std.specs.Prelude.{◌≡◌};
 ghost use Rattle.blob_source.specs.declared.source.FetchError.TheVariants as fetching;
-ghost use Rattle.worker.specs.declared.error.Refusal.TheVariants as refusals;
+ghost use Rattle.worker.specs.declared.error.StepRefusal.TheVariants as refusals;
 ghost use Rattle.worker.specs.Refusals.{of_fetch};
 
 use crate::laid::LayoutError;
@@ -13,7 +13,7 @@ use tree::FetchError;
 /// Why a step of a build is refused.
 #[derive(Drop, Error)]
 #[derive_where(Debug)]
-pub enum Refusal<A: Allocator> {
+pub enum StepRefusal<A: Allocator> {
     /// The engine refuses to start the step, or to finish its job.
     #[error("the step can't be started, or its job not finished")]
     Engine(RunsError<A>),
@@ -37,56 +37,56 @@ pub enum Refusal<A: Allocator> {
 #[error("a step was refused")]
 pub struct BuildError<A: Allocator> {
     pub step: usize,
-    pub refusal: Refusal<A>,
+    pub refusal: StepRefusal<A>,
 }
 
-impl<A: Allocator> From<AllocError> for Refusal<A> {
+impl<A: Allocator> From<AllocError> for StepRefusal<A> {
     ghost from_gives = { λ _ e. e ≡ refusals.Memory };
 
-    fn from(_e: AllocError) -> Refusal<A> {
-        Refusal::Memory
+    fn from(_e: AllocError) -> StepRefusal<A> {
+        StepRefusal::Memory
     }
 }
 
-impl<A: Allocator, T: Drop> From<AllocFailed<T>> for Refusal<A> {
+impl<A: Allocator, T: Drop> From<AllocFailed<T>> for StepRefusal<A> {
     ghost from_gives = { λ _ e. e ≡ refusals.Memory };
 
-    fn from(_e: AllocFailed<T>) -> Refusal<A> {
-        Refusal::Memory
+    fn from(_e: AllocFailed<T>) -> StepRefusal<A> {
+        StepRefusal::Memory
     }
 }
 
-impl<A: Allocator> From<FetchError> for Refusal<A> {
+impl<A: Allocator> From<FetchError> for StepRefusal<A> {
     ghost from_gives = { λ error e. e ≡ of_fetch error };
 
-    fn from(error: FetchError) -> Refusal<A> {
+    fn from(error: FetchError) -> StepRefusal<A> {
         match error {
-            FetchError::Failed => Refusal::Fetch,
-            FetchError::Memory => Refusal::Memory,
+            FetchError::Failed => StepRefusal::Fetch,
+            FetchError::Memory => StepRefusal::Memory,
         }
     }
 }
 
-impl<A: Allocator> From<RunsError<A>> for Refusal<A> {
+impl<A: Allocator> From<RunsError<A>> for StepRefusal<A> {
     ghost from_gives = { λ error e. e ≡ refusals.Engine error };
 
-    fn from(error: RunsError<A>) -> Refusal<A> {
-        Refusal::Engine(error)
+    fn from(error: RunsError<A>) -> StepRefusal<A> {
+        StepRefusal::Engine(error)
     }
 }
 
-impl<A: Allocator> From<LayoutError<A>> for Refusal<A> {
+impl<A: Allocator> From<LayoutError<A>> for StepRefusal<A> {
     ghost from_gives = { λ error e. e ≡ refusals.Layout error };
 
-    fn from(error: LayoutError<A>) -> Refusal<A> {
-        Refusal::Layout(error)
+    fn from(error: LayoutError<A>) -> StepRefusal<A> {
+        StepRefusal::Layout(error)
     }
 }
 
-impl<A: Allocator> From<RunError<A>> for Refusal<A> {
+impl<A: Allocator> From<RunError<A>> for StepRefusal<A> {
     ghost from_gives = { λ error e. e ≡ refusals.Run error };
 
-    fn from(error: RunError<A>) -> Refusal<A> {
-        Refusal::Run(error)
+    fn from(error: RunError<A>) -> StepRefusal<A> {
+        StepRefusal::Run(error)
     }
 }

@@ -9,7 +9,7 @@ ghost use Rattle.worker.specs.Outcomes.{YieldsFor, YieldsNoMore};
 ghost use Rattle.worker.specs.Values.{IsAbsolute, EndValue, StartsNone, StartsOne, bad_at, failed};
 ghost use Rattle.worker.specs.Values.{made, program_of};
 
-use crate::failure::{Cause, program_of};
+use crate::failure::{FailureCause, program_of};
 use crate::laid::Layout;
 use crate::runner::{Produced, RunError, Runner};
 use actions::Command;
@@ -70,7 +70,11 @@ impl<N> FailRunner<N> {
     }
 
     /// Counts a failure. One whose count is full is lack of memory instead.
-    fn fail<T, A: Allocator>(&mut self, program: String<A>, cause: Cause) -> Result<T, RunError<A>>
+    fn fail<T, A: Allocator>(
+        &mut self,
+        program: String<A>,
+        cause: FailureCause,
+    ) -> Result<T, RunError<A>>
         ensures failed { failures_of self.old < greatest_count
             → result ≡ Err (RunError.Device program cause) }
         ensures counted { Counts (failures_of self.old) (failures_of self.new)
@@ -170,7 +174,7 @@ impl<A: Allocator + Copy, N: Runner<A>> Runner<A> for FailRunner<N> {
         let is_due = self.is_due();
         let program = program_of(alloc, command)?;
         if is_due {
-            return self.fail(program, Cause::Signal(OWN_SIGNAL));
+            return self.fail(program, FailureCause::Signal(OWN_SIGNAL));
         }
         let started = self.inner.start(alloc, layout, command);
         let job = self.pass_on(started)?;
@@ -198,7 +202,7 @@ impl<A: Allocator + Copy, N: Runner<A>> Runner<A> for FailRunner<N> {
         let is_due = self.is_due();
         let made = self.inner.finish(alloc, job);
         if is_due {
-            return self.fail(program, Cause::Signal(OWN_SIGNAL));
+            return self.fail(program, FailureCause::Signal(OWN_SIGNAL));
         }
         self.pass_on(made)
     }

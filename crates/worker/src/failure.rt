@@ -7,10 +7,12 @@ use std::io;
 
 /// Why a process came to nothing, as the system told it.
 #[derive(Clone, Copy, Debug)]
-pub enum Cause {
+pub enum FailureCause {
     /// It couldn't be started.
     Unstarted(io::Error),
-    /// It couldn't be waited for, or its outputs not be read.
+    /// It couldn't be waited for.
+    Unwaited(io::Error),
+    /// What it left at its output paths couldn't be read.
     Unread(io::Error),
     /// The signal with this number ended it.
     Signal(i32),

@@ -21,9 +21,9 @@ mod turns;
 mod watching;
 
 pub use building::build;
-pub use error::{BuildError, Refusal};
+pub use error::{BuildError, StepRefusal};
 pub use fail_runner::{FailJob, FailRunner};
-pub use failure::{Cause, program_of};
+pub use failure::{FailureCause, program_of};
 pub use laid::{Layout, LayoutError};
 pub use laws::{a_build_takes_two_steps, actions_are_of_steps, steps_are_yielded_or_taken};
 pub use laying_out::layout;

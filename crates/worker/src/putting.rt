@@ -14,7 +14,7 @@ ghost use Rattle.tree.specs.Folded.{items_of};
 ghost use Rattle.worker.specs.Stopped.{IsStoreFault};
 ghost use Rattle.worker.specs.Stored.{IsKept, PutsNoOther};
 
-use crate::error::Refusal;
+use crate::error::StepRefusal;
 use actions::{Outcome, Output};
 use blob_digest::Digest;
 use messages::Tree;
@@ -30,7 +30,7 @@ pub fn put_all<A: Allocator + Copy, S: BlobSink<A>>(
     alloc: A,
     sink: &mut S,
     blobs: &[Vec<u8, A>],
-) -> Result<(), Refusal<A>>
+) -> Result<(), StepRefusal<A>>
     ensures kept { IsKept (S.tells sink.old) (S.tells sink.new) }
     ensures held { OnOk result (HasAllRight (S.tells sink.new).blobs (items_of blobs.now)) }
     // What stands under the digest of none of them stays.
@@ -55,7 +55,7 @@ fn put_once<A: Allocator + Copy, S: BlobSink<A>>(
     sink: &mut S,
     put: &mut BTreeSet<Digest, A>,
     blob: &[u8],
-) -> Result<(), Refusal<A>>
+) -> Result<(), StepRefusal<A>>
     requires put { WerePut put.old (S.tells sink.old).blobs }
     ensures put { WerePut put.new (S.tells sink.new).blobs }
     ensures kept { IsKept (S.tells sink.old) (S.tells sink.new) }
@@ -85,7 +85,7 @@ pub(crate) fn put_input<A: Allocator + Copy, S: BlobSink<A>>(
     sink: &mut S,
     put: &mut BTreeSet<Digest, A>,
     job: &Job<A>,
-) -> Result<(), Refusal<A>>
+) -> Result<(), StepRefusal<A>>
     requires put { WerePut put.old (S.tells sink.old).blobs }
     ensures put { WerePut put.new (S.tells sink.new).blobs }
     ensures kept { IsKept (S.tells sink.old) (S.tells sink.new) }
@@ -119,7 +119,7 @@ fn put_directories<A: Allocator + Copy, S: BlobSink<A>>(
     alloc: A,
     sink: &mut S,
     tree: &Tree<A>,
-) -> Result<(), Refusal<A>>
+) -> Result<(), StepRefusal<A>>
     ensures kept { IsKept (S.tells sink.old) (S.tells sink.new) }
     ensures held { OnOk result
         (HasAllRight (S.tells sink.new).blobs (directories_of tree.now)) }
@@ -144,7 +144,7 @@ pub(crate) fn put_trees<A: Allocator + Copy, S: BlobSink<A>>(
     alloc: A,
     sink: &mut S,
     outcome: &Outcome<A>,
-) -> Result<(), Refusal<A>>
+) -> Result<(), StepRefusal<A>>
     ensures kept { IsKept (S.tells sink.old) (S.tells sink.new) }
     ensures held { OnOk result (HasTrees (S.tells sink.new).blobs outcome.now) }
     ensures only { PutsNoOther (tree_blobs outcome.now.outputs) (S.tells sink.old).blobs
@@ -171,7 +171,7 @@ fn put_encoded<A: Allocator + Copy, S: BlobSink<A>>(
     sink: &mut S,
     action: &Digest,
     bytes: &[u8],
-) -> Result<(), Refusal<A>>
+) -> Result<(), StepRefusal<A>>
     ensures kept { IsKeptBut action.now (λ b. b ≡ bytes.now) (S.tells sink.old) (S.tells sink.new) }
     ensures held { OnOk result ((S.tells sink.new).results action.now ≡ Some bytes.now) }
     ensures listed { OnOk result
@@ -194,7 +194,7 @@ pub(crate) fn put_outcome<A: Allocator + Copy, S: BlobSink<A>>(
     sink: &mut S,
     step: usize,
     action: &Digest,
-) -> Result<(), Refusal<A>>
+) -> Result<(), StepRefusal<A>>
     requires { IsSome (finished_in step engine.now) }
     // What is put, or may have been, reads as the step's result.
     ensures kept { IsKeptBut action.now (IsResultOfStep engine.now step)

@@ -11,7 +11,7 @@ ghost use Rattle.worker.specs.Storing.{AsksResultOnce};
 ghost use Rattle.std.specs.List.{AllByRecursion};
 ghost use Rattle.actions.specs.Outcome.{outputs_in, paths_of_outputs};
 
-use crate::error::Refusal;
+use crate::error::StepRefusal;
 use actions::{ActionResult, Command, Outcome, Output, recorded};
 use messages::{MessageError, Path};
 use runs::Job;
@@ -47,7 +47,7 @@ pub(crate) fn recorded_outcome<A: Allocator + Copy, S: BlobSink<A>>(
     alloc: A,
     sink: &mut S,
     job: &Job<A>,
-) -> Result<Option<Outcome<A>>, Refusal<A>>
+) -> Result<Option<Outcome<A>>, StepRefusal<A>>
     ensures kept { IsKept (S.tells sink.old) (S.tells sink.new) }
     // The store is only asked.
     ensures only { Grows (S.tells sink.old).blobs (S.tells sink.new).blobs }
@@ -69,7 +69,7 @@ pub(crate) fn recorded_outcome<A: Allocator + Copy, S: BlobSink<A>>(
         Ok(made) => made,
         Err(error) => {
             return match error {
-                MessageError::Memory => Err(Refusal::Memory),
+                MessageError::Memory => Err(StepRefusal::Memory),
                 _ => Ok(None),
             };
         }
@@ -82,8 +82,8 @@ pub(crate) fn recorded_outcome<A: Allocator + Copy, S: BlobSink<A>>(
             Ok(None)
         }
         Err(error) => match error {
-            TreeError::Fetch => Err(Refusal::Fetch),
-            TreeError::Memory => Err(Refusal::Memory),
+            TreeError::Fetch => Err(StepRefusal::Fetch),
+            TreeError::Memory => Err(StepRefusal::Memory),
             _ => Ok(None),
         },
     }

@@ -5,7 +5,7 @@ ghost use Rattle.worker.specs.Counted.{Counts, IsFailure, TellsRunFailure};
 ghost use Rattle.worker.specs.Outcomes.{YieldsFor, YieldsNoMore};
 ghost use Rattle.worker.specs.Values.{IsAbsolute, StartsOne, StartsNone, made, bad_at};
 
-use crate::failure::Cause;
+use crate::failure::FailureCause;
 use crate::laid::Layout;
 use actions::{Command, Outcome};
 use messages::Path;
@@ -39,7 +39,10 @@ pub enum RunError<A: Allocator> {
     /// The process of a program failed, and the runner counted that. A runner whose count is full
     /// answers `Memory` instead.
     #[error("the process failed")]
-    Device { program: String<A>, cause: Cause },
+    Device {
+        program: String<A>,
+        cause: FailureCause,
+    },
     /// What stands at the path is no output.
     #[error("what stands at an output path is no output")]
     BadOutput(Path<A>),

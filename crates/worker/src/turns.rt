@@ -16,7 +16,7 @@ ghost use Rattle.worker.specs.Going.{AreOneTurn, FinishesOnly, GoesOnBy, is_star
 ghost use Rattle.worker.specs.Going.{taken_in};
 ghost use Rattle.worker.specs.Steps.{IsOfBuild, IsSameBuild};
 ghost use Rattle.worker.specs.Stopped.{IsRefusedBuild};
-ghost use Rattle.worker.specs.Stored.{KeepsOthers};
+ghost use Rattle.worker.specs.Stored.{KeepsAllBut};
 
 use crate::beginning::begin;
 use crate::child::Child;
@@ -127,7 +127,7 @@ pub(crate) fn take_turn<A: Allocator + Copy, S: BlobSink<A>, N: Runner<A>>(
         → YieldsNoMore (N.yields runner.old) (N.yields entry)
         → IsGoing A (N.yields entry) N.may_give (N.starts entry) (N.starts runner.old)
         before (S.tells sink.old) most first engine.old children.old.items
-        → KeepsOthers (IsOfBuild A (N.yields entry) (S.tells sink.new).blobs engine.new)
+        → KeepsAllBut (IsOfBuild A (N.yields entry) (S.tells sink.new).blobs engine.new)
         (S.tells sink.old).blobs (S.tells sink.new).blobs }
     ensures only { OnOk result
         (FinishesOnly (step_of turn children.old.items) engine.old engine.new) }

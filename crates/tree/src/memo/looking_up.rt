@@ -38,7 +38,7 @@ impl<A: Allocator + Copy> Memo<A> {
         // Nothing is asked for but the Directories on the way.
         ensures only { AsksNoOther (OnWay (S.tells source.new).blobs root.now
             (names_in (option_copied path.entry)))
-            (S.tells source.old).blobs (S.tells source.new).blobs }
+            (S.tells source.old) (S.tells source.new) }
         ensures learned { Learns (OnWay (S.tells source.new).blobs root.now
             (names_in (option_copied path.entry))) (IsCutShort result)
             (known_by self.old) (known_by self.new) (S.tells source.old) (S.tells source.new) }
@@ -65,7 +65,7 @@ impl<A: Allocator + Copy> Memo<A> {
         ensures called { Calls (Asks (length path.now)) (S.tells source.old) (S.tells source.new)
             (IsErrOf result TreeError.Fetch) }
         ensures only { AsksNoOther (OnWay (S.tells source.new).blobs root.now path.now)
-            (S.tells source.old).blobs (S.tells source.new).blobs }
+            (S.tells source.old) (S.tells source.new) }
         ensures learned { Learns (OnWay (S.tells source.new).blobs root.now path.now)
             (IsCutShort result) (known_by self.old) (known_by self.new)
             (S.tells source.old) (S.tells source.new) }
@@ -93,7 +93,7 @@ impl<A: Allocator + Copy> Memo<A> {
         ensures called { Calls (Asks (length names.now)) (S.tells source.old) (S.tells source.new)
             (IsErrOf result TreeError.Fetch) }
         ensures only { AsksNoOther (OnWay (S.tells source.new).blobs root.now names.now)
-            (S.tells source.old).blobs (S.tells source.new).blobs }
+            (S.tells source.old) (S.tells source.new) }
         ensures learned { Learns (OnWay (S.tells source.new).blobs root.now names.now)
             (IsCutShort result) (known_by self.old) (known_by self.new)
             (S.tells source.old) (S.tells source.new) }

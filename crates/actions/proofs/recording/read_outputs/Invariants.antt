@@ -15,5 +15,5 @@ invariant-loop-output g l =
     record {
       read : StandForAll (tells l.source).blobs (read_so_far l.output-index l.recorded) (outputs_in l.outputs.items);
       called : Calls (Asks (length (directories_among (read_so_far l.output-index l.recorded)))) (tells l.fn.source) (tells l.source) ⊥;
-      only : AsksNoOther (TreesLookAt (directories_among (recorded_values l.recorded))) (tells l.fn.source).blobs (tells l.source).blobs;
+      only : AsksNoOther (TreesLookAt (directories_among (recorded_values l.recorded))) (tells l.fn.source) (tells l.source);
     }

@@ -3,7 +3,7 @@ use Rattle.std.proofs.lemmas.Result.{err_from_is_err_and}
 use Rattle.blob_source.proofs.Asking.{some_none}
 use Rattle.blob_source.proofs.Puts.{right_grows, right_then}
 use Rattle.worker.specs.Stored.{IsStored}
-use Rattle.worker.specs.declared.error.Refusal.TheVariants as refusals
+use Rattle.worker.specs.declared.error.StepRefusal.TheVariants as refusals
 use Rattle.worker.proofs.Storing.{stored_grown}
 use Rattle.worker.proofs.Failures.{counts_calls, counts_engine, counts_exit, counts_from, counts_none, counts_same}
 use Rattle.builder.proofs.Refusing.{ran_by}

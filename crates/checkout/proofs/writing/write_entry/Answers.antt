@@ -43,12 +43,12 @@ returns-in-Link-clause-only g c = asks_nothing
 pub returns-in_err-content-in-File-clause-only : goal.returns-in_err-content-in-File-clause-only
 returns-in_err-content-in-File-clause-only g c =
     let tells = g.S.BlobSource.tells in
-    subst (λ e. AsksNoOther (EntryLooksAt (entry_value e)) (tells c.args.source.now).blobs (tells c.read_content.new.source).blobs) (sym c.in-File.is) c.read_content.ensures.only
+    subst (λ e. AsksNoOther (EntryLooksAt (entry_value e)) (tells c.args.source.now) (tells c.read_content.new.source)) (sym c.in-File.is) c.read_content.ensures.only
 
 pub returns-in_ok-content-in-File-clause-only : goal.returns-in_ok-content-in-File-clause-only
 returns-in_ok-content-in-File-clause-only g c =
     let tells = g.S.BlobSource.tells in
-    subst (λ e. AsksNoOther (EntryLooksAt (entry_value e)) (tells c.args.source.now).blobs (tells c.read_content.new.source).blobs) (sym c.in-File.is) c.read_content.ensures.only
+    subst (λ e. AsksNoOther (EntryLooksAt (entry_value e)) (tells c.args.source.now) (tells c.read_content.new.source)) (sym c.in-File.is) c.read_content.ensures.only
 
 pub returns-in_err-content-in-File-clause-few : goal.returns-in_err-content-in-File-clause-few
 returns-in_err-content-in-File-clause-few g c =

@@ -15,31 +15,31 @@ pub returns-in_err-jobs-clause-refused : goal.returns-in_err-jobs-clause-refused
 returns-in_err-jobs-clause-refused g c =
     let sees = g.W.World.sees in
     let options = rows_of (found_of c.args.matches.now) in
-    exit_by (λ e. (errors : ChildErrors) → FailsBuild sees (g.W.Workplace.below errors) options e) _ c.from_residual.ensures.1
-    (λ errors. or_memory (FailsFirst (build_words options)) (FailsBuild sees (g.W.Workplace.below errors) options) _ in_memory in_words
+    exit_by (λ e. (errors : ChildErrors) → FailsBuild sees (g.P.Workplace.below errors) options e) _ c.from_residual.ensures.1
+    (λ errors. or_memory (FailsFirst (build_words options)) (FailsBuild sees (g.P.Workplace.below errors) options) _ in_memory in_words
     (fails_in [] (may_have_jobs options ∷ []) (server_words options) _ tt c.in_err-jobs.ensures.checked))
 
 pub returns-in_err-server-clause-refused : goal.returns-in_err-server-clause-refused
 returns-in_err-server-clause-refused g c =
     let sees = g.W.World.sees in
     let options = rows_of (found_of c.args.matches.now) in
-    exit_by (λ e. (errors : ChildErrors) → FailsBuild sees (g.W.Workplace.below errors) options e) _ c.from_residual-in_err-server.ensures.1
-    (λ errors. or_memory (FailsFirst (build_words options)) (FailsBuild sees (g.W.Workplace.below errors) options) _ in_memory in_words
+    exit_by (λ e. (errors : ChildErrors) → FailsBuild sees (g.P.Workplace.below errors) options e) _ c.from_residual-in_err-server.ensures.1
+    (λ errors. or_memory (FailsFirst (build_words options)) (FailsBuild sees (g.P.Workplace.below errors) options) _ in_memory in_words
     (fails_in (may_have_jobs options ∷ []) (server_words options) [] _ (c.in_ok-jobs.ensures.checked.0, tt) c.in_err-server.ensures.checked))
 
 pub returns-in_err-sources-clause-refused : goal.returns-in_err-sources-clause-refused
 returns-in_err-sources-clause-refused g c =
-    exit_by (λ e. (errors : ChildErrors) → FailsBuild g.W.World.sees (g.W.Workplace.below errors) (rows_of (found_of c.args.matches.now)) e) _ c.from_residual-in_err-sources.ensures.1
+    exit_by (λ e. (errors : ChildErrors) → FailsBuild g.W.World.sees (g.P.Workplace.below errors) (rows_of (found_of c.args.matches.now)) e) _ c.from_residual-in_err-sources.ensures.1
     (λ errors. in_digest (c.in_ok-jobs.ensures.checked.0, c.in_ok-server.ensures.checked) c.in_err-sources.ensures.fault)
 
 pub returns-in_err-plan-clause-refused : goal.returns-in_err-plan-clause-refused
 returns-in_err-plan-clause-refused g c =
-    exit_by (λ e. (errors : ChildErrors) → FailsBuild g.W.World.sees (g.W.Workplace.below errors) (rows_of (found_of c.args.matches.now)) e) _ c.from_residual-in_err-plan.ensures.1
+    exit_by (λ e. (errors : ChildErrors) → FailsBuild g.W.World.sees (g.P.Workplace.below errors) (rows_of (found_of c.args.matches.now)) e) _ c.from_residual-in_err-plan.ensures.1
     (λ errors. in_plan (c.in_ok-jobs.ensures.checked.0, c.in_ok-server.ensures.checked) (c.in_ok-sources.sources, c.in_ok-sources.ensures.found) c.in_err-plan.ensures.fault)
 
 pub returns-in_err-work-clause-refused : goal.returns-in_err-work-clause-refused
 returns-in_err-work-clause-refused g c =
-    exit_by (λ e. (errors : ChildErrors) → FailsBuild g.W.World.sees (g.W.Workplace.below errors) (rows_of (found_of c.args.matches.now)) e) _ c.from_residual-in_err-work.ensures.1
+    exit_by (λ e. (errors : ChildErrors) → FailsBuild g.W.World.sees (g.P.Workplace.below errors) (rows_of (found_of c.args.matches.now)) e) _ c.from_residual-in_err-work.ensures.1
     (λ errors. in_memory refl)
 
 pub returns-clause-read : goal.returns-clause-read

@@ -1,17 +1,26 @@
-use Rattle.std.proofs.Common.{◌∙◌, subst, sym}
+use Rattle.std.proofs.Common.{subst, sym}
 use Rattle.std.specs.Prelude.{codes}
 use Rattle.clap.specs.Words.{found_of, rows_of}
 use Rattle.command_lines.specs.CommandLine.{option_text}
 use Rattle.plan.specs.Faults.{IsPlanFault}
 use Rattle.text_verifier.specs.Refused.{IsPlanRefusal}
+use Rattle.commands.specs.Refusal.{FailsPlan}
+use Rattle.commands.proofs.Exits.{exit_by}
+use Rattle.commands.proofs.Unread.{text_fails, unread_fails}
 use Rattle.commands.proofs.verifying.plan_in_file.Goals as goal
+
+pub returns-in_err-bytes-clause-fault : goal.returns-in_err-bytes-clause-fault
+returns-in_err-bytes-clause-fault g c =
+    let sees = g.W.World.sees in
+    let options = rows_of (found_of c.args.matches.now) in
+    exit_by (FailsPlan sees options) _ c.from_residual.ensures.1
+    (unread_fails sees c.text_of-path.result.now (option_text options (codes "plan")) IsPlanFault c.text_of-path.ensures _ c.in_err-bytes.ensures.fault)
 
 pub returns-in-Err-Plan-clause-fault : goal.returns-in-Err-Plan-clause-fault
 returns-in-Err-Plan-clause-fault g c =
-    let bytes = c.as_slice-text.result.now in
-    let read = subst (λ p. g.W.World.sees.reads p c.in-Ok.bytes.items) c.text_of-path.ensures c.in-Ok.ensures.read in
-    let fault : IsPlanFault bytes c.in-Err-Plan.fault =
-    subst (IsPlanRefusal bytes) c.in-Err-Plan.field-0-is c.in-Err-Plan.ensures.fault in (
-      c.in_ok-from_str-in-Err-Plan.ensures.ok ∙ c.text_of-path.ensures,
-      (bytes, subst (λ b. g.W.World.sees.reads (option_text (rows_of (found_of c.args.matches.now)) (codes "plan")) b) (sym c.as_slice-text.ensures.value) read, fault, c.of.ensures),
-    )
+    let sees = g.W.World.sees in
+    let path = c.text_of-path.result.now in
+    let text = c.as_slice-text.result.now in
+    text_fails sees path (option_text (rows_of (found_of c.args.matches.now)) (codes "plan")) IsPlanFault c.text_of-path.ensures text c.in-Err-Plan.fault _
+    (subst (sees.reads path) (sym c.as_slice-text.ensures.value) c.in_ok-bytes.ensures.read)
+    (subst (IsPlanRefusal text) c.in-Err-Plan.field-0-is c.in-Err-Plan.ensures.fault) c.text_error.ensures

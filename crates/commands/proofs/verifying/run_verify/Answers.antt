@@ -5,7 +5,7 @@ use Rattle.verifier.specs.Verdict.{IsYes}
 use Rattle.commands.specs.Printed.{JudgesAsked, NotesFolder}
 use Rattle.commands.specs.Told.{AppendsBeginning}
 use Rattle.commands.specs.Refusal.{FailsAtPlace, FailsVerify, IsPrintFault}
-use Rattle.commands.specs.Refusal.FailsVerify.{in_memory, in_output, in_place, in_record, in_words}
+use Rattle.commands.specs.Refusal.FailsVerify.{in_digests, in_memory, in_output, in_place, in_plan, in_record, in_words}
 use Rattle.commands.specs.Words.{FailsFirst, place_words}
 use Rattle.commands.proofs.Exits.{exit_by}
 use Rattle.commands.proofs.Placed.{lacked_by}
@@ -26,6 +26,24 @@ returns-in_err-store-clause-refused g c =
 
 pub returns-clause-noted : goal.returns-clause-noted
 returns-clause-noted g c = subst (λ o. NotesFolder g.W.World.sees o c.ended_of.result) c.in_ok-store.ensures c.ended_of.ensures.noted
+
+pub returns-in_err-digests-clause-refused : goal.returns-in_err-digests-clause-refused
+returns-in_err-digests-clause-refused g c =
+    exit_by (FailsVerify g.W.World.sees (rows_of (found_of c.args.matches.now))) _ c.from_residual-in_err-digests.ensures.1
+    (in_digests c.in_ok-build.ensures.checked c.in_err-digests.ensures.fault)
+
+pub returns-in_err-plan-clause-unended : goal.returns-in_err-plan-clause-unended
+returns-in_err-plan-clause-unended g c =
+    where_err c.from_residual-in_err-plan.result (no_line_of_same (g.O.Write.contents c.args.out.now) (g.O.Write.contents c.args.out.now) refl)
+
+pub returns-in_err-plan-clause-refused : goal.returns-in_err-plan-clause-refused
+returns-in_err-plan-clause-refused g c =
+    exit_by (FailsVerify g.W.World.sees (rows_of (found_of c.args.matches.now))) _ c.from_residual-in_err-plan.ensures.1
+    (in_plan (record {
+      place = c.in_ok-build.ensures.checked;
+      sources = (c.in_ok-digests.digests.sources, c.in_ok-digests.ensures.sources);
+      claim = (c.in_ok-digests.digests.claim, c.in_ok-digests.ensures.claim);
+    }) c.in_err-plan.ensures.fault)
 
 pub returns-in_err-case-clause-unended : goal.returns-in_err-case-clause-unended
 returns-in_err-case-clause-unended g c =

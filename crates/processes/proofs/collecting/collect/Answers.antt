@@ -16,7 +16,7 @@ use Rattle.processes.proofs.collecting.collect.Goals as goal
 
 pub loop-path-preserved : goal.loop-path-preserved
 loop-path-preserved g c =
-    so_far_taken g.W.Workshop.works c.args.ended.now c.args.folder.now c.args.paths.now c.loop-path.path-index _ c.path-item.result
+    so_far_taken g.W.Workshop.works c.args.left.now.ended.now c.args.folder.now c.args.paths.now c.loop-path.path-index _ c.path-item.result
     c.loop-path.outcome (items_of c.loop-path.blobs.items) c.take_output.new.outcome (items_of c.take_output.new.blobs.items) c.as_str-in-loop-path.result.now
     c.loop-path-test.true c.path-item.is c.loop-path.invariant
     (c.as_str-in-loop-path.ensures.value ∙ c.in-Ok.ensures ∙ ap (λ t. place_in c.args.folder.now t) c.as_str.ensures.value)
@@ -28,14 +28,14 @@ returns-clause-outputs g c =
     let end : length paths ≤ c.loop-path.path-index = omega (arith, c.loop-path-test.false) in
     record {
       found = c.loop-path.invariant.found;
-      settled = subst (AllByRecursion (IsSettled g.W.Workshop.works c.args.ended.now c.args.folder.now c.loop-path.outcome.outputs)) (take_all c.loop-path.path-index paths end) c.loop-path.invariant.settled;
+      settled = subst (AllByRecursion (IsSettled g.W.Workshop.works c.args.left.now.ended.now c.args.folder.now c.loop-path.outcome.outputs)) (take_all c.loop-path.path-index paths end) c.loop-path.invariant.settled;
       only = c.loop-path.invariant.only;
     }
 
 pub returns-in-Err-clause-bad : goal.returns-in-Err-clause-bad
 returns-in-Err-clause-bad g c path is =
     let works = g.W.Workshop.works in
-    let ended = c.args.ended.now in
+    let ended = c.args.left.now.ended.now in
     let folder = c.args.folder.now in
     let told : ◌≡◌ {A = RunError g.row.A.Denot} c.at.result (children.BadOutput path) = let e = is in cc in
     let at = c.at.ensures.bad path told in
@@ -54,7 +54,7 @@ pub returns-in-Err-clause-failed : goal.returns-in-Err-clause-failed
 returns-in-Err-clause-failed g c =
     let works = g.W.Workshop.works in
     let paths = c.args.paths.now in
-    let ended = c.args.ended.now in
+    let ended = c.args.left.now.ended.now in
     let folder = c.args.folder.now in
     let before = take c.loop-path.path-index paths in
     let place : c.as_str-in-loop-path.result.now ≡ place_in folder (path_text c.path-item.result) = c.as_str-in-loop-path.ensures.value ∙ c.in-Ok.ensures ∙ ap (λ t. place_in folder t) c.as_str.ensures.value in

@@ -12,14 +12,14 @@ pub returns-in-Nothing-clause-more : goal.returns-in-Nothing-clause-more
 returns-in-Nothing-clause-more g c = record {
   own = [];
   blobs = sym (append-nil (items_of c.args.blobs.now.items));
-  more = inl (subst (λ s. g.W.Workshop.works.stands c.args.ended.now c.args.place.now s) c.in-Nothing.is c.in_ok-look.ensures.told, refl, refl);
+  more = inl (subst (λ s. g.W.Workshop.works.stands c.args.left.now.ended.now c.args.place.now s) c.in-Nothing.is c.in_ok-look.ensures.told, refl, refl);
 }
 
 pub returns-clause-more : goal.returns-clause-more
 returns-clause-more g c =
     let works = g.W.Workshop.works in
     let place = c.args.place.now in
-    let ended = c.args.ended.now in
+    let ended = c.args.left.now.ended.now in
     let before = items_of c.args.blobs.now.items in
     let output = c.match-branch-2.output in
     let made : (own : List (List ℕ)) × (items_of c.match-branch-2.blobs.items ≡ before ++ own) × IsOutputAt works ended place (output_value output) own = elim c.match-branch-2.branch [
@@ -45,24 +45,24 @@ returns-clause-more g c =
 pub returns-in_err-add-clause-failed : goal.returns-in_err-add-clause-failed
 returns-in_err-add-clause-failed g c =
     let p = err_from_is_err_and c.from_residual-in_err-add.result c.from_residual-in_err-add.ensures.1 in
-    rw p.1 (output_unread g.W.Workshop.works c.args.ended.now c.args.place.now c.in_err-add.field-0.0 p.0 c.args.outcome.now _ c.args.path.now c.in_ok-copy_of.ensures p.2 c.in_err-add.ensures.refused)
+    rw p.1 (output_unread g.W.Workshop.works c.args.left.now.ended.now c.args.place.now c.in_err-add.field-0.0 p.0 c.args.outcome.now _ c.args.path.now c.in_ok-copy_of.ensures p.2 c.in_err-add.ensures.refused)
 
 pub returns-in_err-look-clause-failed : goal.returns-in_err-look-clause-failed
 returns-in_err-look-clause-failed g c =
     let works = g.W.Workshop.works in
     let p = err_from_is_err_and c.from_residual.result c.from_residual.ensures.1 in
-    rw p.1 (unread_added works c.args.ended.now c.args.place.now c.args.outcome.now c.args.path.now p.0 (walk_unread works c.args.ended.now c.args.place.now p.0
-    (here_unwalked works c.args.ended.now c.args.place.now p.0 (system_tells (works.unread c.args.ended.now c.args.place.now) c.in_err-look.field-0.0 p.0 p.2 c.in_err-look.ensures.failed))))
+    rw p.1 (unread_added works c.args.left.now.ended.now c.args.place.now c.args.outcome.now c.args.path.now p.0 (walk_unread works c.args.left.now.ended.now c.args.place.now p.0
+    (here_unwalked works c.args.left.now.ended.now c.args.place.now p.0 (system_tells (works.unread c.args.left.now.ended.now c.args.place.now) c.in_err-look.field-0.0 p.0 p.2 c.in_err-look.ensures.failed))))
 
 pub returns-in_err-digest-in-File-clause-failed : goal.returns-in_err-digest-in-File-clause-failed
 returns-in_err-digest-in-File-clause-failed g c =
     let works = g.W.Workshop.works in
     let p = err_from_is_err_and c.from_residual-in_err-digest-in-File.result c.from_residual-in_err-digest-in-File.ensures.1 in
-    rw (p.1, p.2) (unread_added works c.args.ended.now c.args.place.now c.args.outcome.now c.args.path.now c.in_err-digest-in-File.field-0.0 (walk_unread works c.args.ended.now c.args.place.now c.in_err-digest-in-File.field-0.0
-    (here_unwalked works c.args.ended.now c.args.place.now c.in_err-digest-in-File.field-0.0 c.in_err-digest-in-File.ensures.failed)))
+    rw (p.1, p.2) (unread_added works c.args.left.now.ended.now c.args.place.now c.args.outcome.now c.args.path.now c.in_err-digest-in-File.field-0.0 (walk_unread works c.args.left.now.ended.now c.args.place.now c.in_err-digest-in-File.field-0.0
+    (here_unwalked works c.args.left.now.ended.now c.args.place.now c.in_err-digest-in-File.field-0.0 c.in_err-digest-in-File.ensures.failed)))
 
 pub returns-in_err-keep_folder-in-Folder-clause-failed : goal.returns-in_err-keep_folder-in-Folder-clause-failed
 returns-in_err-keep_folder-in-Folder-clause-failed g c =
     let works = g.W.Workshop.works in
     let p = err_from_is_err_and c.from_residual-in_err-keep_folder-in-Folder.result c.from_residual-in_err-keep_folder-in-Folder.ensures.1 in
-    rw (p.1, p.2) (unread_added works c.args.ended.now c.args.place.now c.args.outcome.now c.args.path.now c.in_err-keep_folder-in-Folder.field-0.0 c.in_err-keep_folder-in-Folder.ensures.failed)
+    rw (p.1, p.2) (unread_added works c.args.left.now.ended.now c.args.place.now c.args.outcome.now c.args.path.now c.in_err-keep_folder-in-Folder.field-0.0 c.in_err-keep_folder-in-Folder.ensures.failed)

@@ -20,14 +20,14 @@ use Rattle.processes.proofs.walking.+walk.Goals.{in-File+in_ok-digest-in-File+in
 pub loop-name-init : goal.loop-name-init
 loop-name-init g t c =
     let bare : IsBare c.args.tree.now (names_in c.args.above.now) = first_of (assumption c.requires, search rules) in
-    none_seen g.W.Workshop.works c.args.ended.now c.args.place.now (names_in c.args.above.now) c.args.tree.now (items_of c.args.blobs.now.items) bare
+    none_seen g.W.Workshop.works c.args.left.now.ended.now c.args.place.now (names_in c.args.above.now) c.args.tree.now (items_of c.args.blobs.now.items) bare
 
 pub walk-requires : goal.walk-requires
 walk-requires g t c κs within =
     let path = names_in c.args.above.now in
     let at : c.in_ok-path.path ≡ path ++ string_bytes c.name-item.result ∷ [] = c.in_ok-path.ensures.path ∙ ap (λ x. path ++ x ∷ []) c.as_str.ensures.value in
     let bare : IsBare c.add-in-Folder.new.self (path ++ string_bytes c.name-item.result ∷ []) =
-    one_bare g.W.Workshop.works c.args.ended.now c.args.place.now path string_bytes c.deref-name-items.result.now c.loop-name.name-index c.name-item.result c.loop-name-test.true c.name-item.is
+    one_bare g.W.Workshop.works c.args.left.now.ended.now c.args.place.now path string_bytes c.deref-name-items.result.now c.loop-name.name-index c.name-item.result c.loop-name-test.true c.name-item.is
     c.args.tree.now c.loop-name.tree c.add-in-Folder.new.self (items_of c.args.blobs.now.items) (items_of c.loop-name.blobs.items) c.loop-name.invariant a_directory _
     (c.in_ok-copy_of-in-Folder.ensures ∙ at) c.in_ok-add-in-Folder.ensures.added c.in_ok-add-in-Folder.ensures.room (place_in c.args.place.now (string_bytes c.name-item.result)) refl refl in
     let all : length path + c.args.most ≡ 64 = first_of (assumption c.requires, search rules) in
@@ -39,7 +39,7 @@ walk-requires g t c κs within =
 pub loop-name-preserved : goal.loop-name-preserved
 loop-name-preserved g t c =
     let works = g.W.Workshop.works in
-    let ended = c.args.ended.now in
+    let ended = c.args.left.now.ended.now in
     let place = c.args.place.now in
     let path = names_in c.args.above.now in
     let n = string_bytes c.name-item.result in
@@ -83,8 +83,8 @@ returns-clause-walked g t c =
     let all : map string_bytes (take i names) ≡ map string_bytes c.in_ok-names.names.items =
     ap (map string_bytes) (take_all i names end ∙ c.deref-name-items.ensures.value) in
     let listed = c.in_ok-names.ensures.listed in
-    all_seen works c.args.ended.now c.args.place.now (names_in c.args.above.now) (map string_bytes (take i names)) c.args.tree.now c.loop-name.tree
-    (items_of c.args.blobs.now.items) (items_of c.loop-name.blobs.items) (subst (λ xs. works.lists c.args.ended.now c.args.place.now (Some xs)) (sym all) listed) c.loop-name.invariant
+    all_seen works c.args.left.now.ended.now c.args.place.now (names_in c.args.above.now) (map string_bytes (take i names)) c.args.tree.now c.loop-name.tree
+    (items_of c.args.blobs.now.items) (items_of c.loop-name.blobs.items) (subst (λ xs. works.lists c.args.left.now.ended.now c.args.place.now (Some xs)) (sym all) listed) c.loop-name.invariant
 
 pub returns-in_err-path-clause-bad : goal.returns-in_err-path-clause-bad
 returns-in_err-path-clause-bad g t c told =
@@ -95,7 +95,7 @@ returns-in_err-path-clause-bad g t c told =
     let p = err_from_is_err_and c.from_residual-in_err-path.result c.from_residual-in_err-path.ensures.1 in
     let bad : p.0 ≡ NoOutput = (let both = sym p.1 ∙ told in cc) in
     let all : length (names_in c.args.above.now) + c.args.most ≡ 64 = first_of (assumption c.requires, search rules) in
-    bad_name g.W.Workshop.works c.args.ended.now c.args.place.now c.args.most (map string_bytes names) n
+    bad_name g.W.Workshop.works c.args.left.now.ended.now c.args.place.now c.args.most (map string_bytes names) n
     c.in_ok-names.ensures.listed one
     (λ some name.
     let full = c.in_err-path.ensures.bad (ap Err (sym p.2 ∙ bad)) (subst IsName (sym c.as_str.ensures.value) name) in
@@ -104,7 +104,7 @@ returns-in_err-path-clause-bad g t c told =
 pub returns-in_err-digest-in-File-clause-bad : goal.returns-in_err-digest-in-File-clause-bad
 returns-in_err-digest-in-File-clause-bad g t c told =
     let works = g.W.Workshop.works in
-    let ended = c.args.ended.now in
+    let ended = c.args.left.now.ended.now in
     let place = c.args.place.now in
     let names = c.in_ok-names.names.items in
     let n = string_bytes c.name-item.result in
@@ -121,7 +121,7 @@ returns-in_err-digest-in-File-clause-bad g t c told =
 pub returns-in_err-walk-in-Folder-clause-bad : goal.returns-in_err-walk-in-Folder-clause-bad
 returns-in_err-walk-in-Folder-clause-bad g t c told =
     let works = g.W.Workshop.works in
-    let ended = c.args.ended.now in
+    let ended = c.args.left.now.ended.now in
     let place = c.args.place.now in
     let names = c.in_ok-names.names.items in
     let n = string_bytes c.name-item.result in
@@ -138,7 +138,7 @@ returns-in_err-walk-in-Folder-clause-bad g t c told =
 pub returns-in-Nothing-clause-bad : goal.returns-in-Nothing-clause-bad
 returns-in-Nothing-clause-bad g t c told =
     let works = g.W.Workshop.works in
-    let ended = c.args.ended.now in
+    let ended = c.args.left.now.ended.now in
     let place = c.args.place.now in
     let names = c.in_ok-names.names.items in
     let n = string_bytes c.name-item.result in
@@ -153,7 +153,7 @@ returns-in-Nothing-clause-bad g t c told =
 pub returns-in_err-add-in-File-clause-failed : goal.returns-in_err-add-in-File-clause-failed
 returns-in_err-add-in-File-clause-failed g t c =
     let works = g.W.Workshop.works in
-    let ended = c.args.ended.now in
+    let ended = c.args.left.now.ended.now in
     let place = c.args.place.now in
     let path = names_in c.args.above.now in
     let n = string_bytes c.name-item.result in
@@ -167,7 +167,7 @@ returns-in_err-add-in-File-clause-failed g t c =
 pub returns-in_err-add-in-Folder-clause-failed : goal.returns-in_err-add-in-Folder-clause-failed
 returns-in_err-add-in-Folder-clause-failed g t c =
     let works = g.W.Workshop.works in
-    let ended = c.args.ended.now in
+    let ended = c.args.left.now.ended.now in
     let place = c.args.place.now in
     let path = names_in c.args.above.now in
     let n = string_bytes c.name-item.result in
@@ -181,24 +181,24 @@ returns-in_err-add-in-Folder-clause-failed g t c =
 pub returns-in_err-names-clause-failed : goal.returns-in_err-names-clause-failed
 returns-in_err-names-clause-failed g t c =
     let p = err_from_is_err_and c.from_residual.result c.from_residual.ensures.1 in
-    rw (p.1, p.2) (here_unwalked g.W.Workshop.works c.args.ended.now c.args.place.now c.in_err-names.field-0.0 c.in_err-names.ensures.failed)
+    rw (p.1, p.2) (here_unwalked g.W.Workshop.works c.args.left.now.ended.now c.args.place.now c.in_err-names.field-0.0 c.in_err-names.ensures.failed)
 
 pub returns-in_err-look-clause-failed : goal.returns-in_err-look-clause-failed
 returns-in_err-look-clause-failed g t c =
     let spot = c.as_str-in-loop-name-2.ensures.value ∙ c.in_ok-place.ensures ∙ ap (λ x. place_in c.args.place.now x) c.as_str-in-loop-name.ensures.value in
     let p = err_from_is_err_and c.from_residual-in_err-look.result c.from_residual-in_err-look.ensures.1 in
-    rw p.1 (below_unwalked g.W.Workshop.works c.args.ended.now c.args.place.now (string_bytes c.name-item.result) _ spot p.0
-    (here_unwalked g.W.Workshop.works c.args.ended.now _ p.0 (system_tells _ c.in_err-look.field-0.0 p.0 p.2 c.in_err-look.ensures.failed)))
+    rw p.1 (below_unwalked g.W.Workshop.works c.args.left.now.ended.now c.args.place.now (string_bytes c.name-item.result) _ spot p.0
+    (here_unwalked g.W.Workshop.works c.args.left.now.ended.now _ p.0 (system_tells _ c.in_err-look.field-0.0 p.0 p.2 c.in_err-look.ensures.failed)))
 
 pub returns-in_err-digest-in-File-clause-failed : goal.returns-in_err-digest-in-File-clause-failed
 returns-in_err-digest-in-File-clause-failed g t c =
     let spot = c.as_str-in-File.ensures.value ∙ c.in_ok-place.ensures ∙ ap (λ x. place_in c.args.place.now x) c.as_str-in-loop-name.ensures.value in
     let p = err_from_is_err_and c.from_residual-in_err-digest-in-File.result c.from_residual-in_err-digest-in-File.ensures.1 in
-    rw (p.1, p.2) (below_unwalked g.W.Workshop.works c.args.ended.now c.args.place.now (string_bytes c.name-item.result) _ spot c.in_err-digest-in-File.field-0.0
-    (here_unwalked g.W.Workshop.works c.args.ended.now _ c.in_err-digest-in-File.field-0.0 c.in_err-digest-in-File.ensures.failed))
+    rw (p.1, p.2) (below_unwalked g.W.Workshop.works c.args.left.now.ended.now c.args.place.now (string_bytes c.name-item.result) _ spot c.in_err-digest-in-File.field-0.0
+    (here_unwalked g.W.Workshop.works c.args.left.now.ended.now _ c.in_err-digest-in-File.field-0.0 c.in_err-digest-in-File.ensures.failed))
 
 pub returns-in_err-walk-in-Folder-clause-failed : goal.returns-in_err-walk-in-Folder-clause-failed
 returns-in_err-walk-in-Folder-clause-failed g t c =
     let spot = c.as_str-in-Folder.ensures.value ∙ c.in_ok-place.ensures ∙ ap (λ x. place_in c.args.place.now x) c.as_str-in-loop-name.ensures.value in
     let p = err_from_is_err_and c.from_residual-in_err-walk-in-Folder.result c.from_residual-in_err-walk-in-Folder.ensures.1 in
-    rw (p.1, p.2) (below_unwalked g.W.Workshop.works c.args.ended.now c.args.place.now (string_bytes c.name-item.result) _ spot c.in_err-walk-in-Folder.field-0.0 c.in_err-walk-in-Folder.ensures.failed)
+    rw (p.1, p.2) (below_unwalked g.W.Workshop.works c.args.left.now.ended.now c.args.place.now (string_bytes c.name-item.result) _ spot c.in_err-walk-in-Folder.field-0.0 c.in_err-walk-in-Folder.ensures.failed)

@@ -8,13 +8,13 @@ use Rattle.processes.proofs.walking.keep_folder.Goals as goal
 pub returns-in-Ok-clause-tree : goal.returns-in-Ok-clause-tree
 returns-in-Ok-clause-tree g c =
     let fold = c.in_ok-folded.ensures in
-    folder_tree g.W.Workshop.works c.args.ended.now c.args.place.now c.walk.new.tree fold.tree fold.list c.in-Ok.tree (c.in-Ok.ensures.directories ∙ ap items_of c.deref.ensures.value ∙ fold.fold.directories)
+    folder_tree g.W.Workshop.works c.args.left.now.ended.now c.args.place.now c.walk.new.tree fold.tree fold.list c.in-Ok.tree (c.in-Ok.ensures.directories ∙ ap items_of c.deref.ensures.value ∙ fold.fold.directories)
     c.new-tree.result (items_of c.args.blobs.now.items) (items_of c.walk.new.blobs.items) c.in_ok-walk.ensures.walked
 
 pub returns-clause-failed : goal.returns-clause-failed
 returns-clause-failed g c =
     let works = g.W.Workshop.works in
-    let ended = c.args.ended.now in
+    let ended = c.args.left.now.ended.now in
     let place = c.args.place.now in
     let fold = c.in_ok-folded.ensures in
     let own = c.in_ok-walk.ensures.walked in
@@ -29,4 +29,4 @@ returns-clause-failed g c =
 pub returns-in_err-walk-clause-failed : goal.returns-in_err-walk-clause-failed
 returns-in_err-walk-clause-failed g c =
     let p = err_from_is_err_and c.from_residual.result c.from_residual.ensures.1 in
-    rw (p.1, p.2) (walk_unread g.W.Workshop.works c.args.ended.now c.args.place.now c.in_err-walk.field-0.0 c.in_err-walk.ensures.failed)
+    rw (p.1, p.2) (walk_unread g.W.Workshop.works c.args.left.now.ended.now c.args.place.now c.in_err-walk.field-0.0 c.in_err-walk.ensures.failed)

@@ -47,21 +47,21 @@ returns-clause-untold g c f fault = absurd (told_or_fault IsFrame frame_bytes (g
 pub returns-in_err-command-clause-only : goal.returns-in_err-command-clause-only
 returns-in_err-command-clause-only g c =
     let tells = g.S.BlobSource.tells in
-    let mid = (tells c.read_message.new.source).blobs in
-    let new = (tells c.read_message-2.new.source).blobs in
-    let told = subst (λ (s : StepValue). IsTold IsFrame frame_bytes mid s.frame c.in_ok-frame.frame) c.step.view_is c.in_ok-frame.ensures.told in
+    let mid = tells c.read_message.new.source in
+    let new = tells c.read_message-2.new.source in
+    let told = subst (λ (s : StepValue). IsTold IsFrame frame_bytes mid.blobs s.frame c.in_ok-frame.frame) c.step.view_is c.in_ok-frame.ensures.told in
     let cached : c.in_ok-frame.frame.do_not_cache ≡ false = search rules in
-    others_then (λ a h. inl h) (λ a h. inr (c.in_ok-frame.frame, frame_still mid new c.args.step.now.frame c.in_ok-frame.frame c.read_message-2.ensures.called.asked.blobs told, cached, h))
-    (subst (λ (s : StepValue). AsksNoOther (LooksAtBlob s.frame) (tells c.args.source.now).blobs mid) c.step.view_is c.read_message.ensures.only)
+    others_then (λ a h. inl h) (λ a h. inr (c.in_ok-frame.frame, frame_still mid.blobs new.blobs c.args.step.now.frame c.in_ok-frame.frame c.read_message-2.ensures.called.asked.blobs told, cached, h))
+    (subst (λ (s : StepValue). AsksNoOther (LooksAtBlob s.frame) (tells c.args.source.now) mid) c.step.view_is c.read_message.ensures.only)
     (subst (λ d. AsksNoOther (LooksAtBlob d) mid new) c.command_digest.ensures.value c.read_message-2.ensures.only)
 
 pub returns-clause-only : goal.returns-clause-only
 returns-clause-only g c =
     let tells = g.S.BlobSource.tells in
-    let mid = (tells c.read_message.new.source).blobs in
-    let new = (tells c.read_message-2.new.source).blobs in
-    let told = subst (λ (s : StepValue). IsTold IsFrame frame_bytes mid s.frame c.in_ok-frame.frame) c.step.view_is c.in_ok-frame.ensures.told in
+    let mid = tells c.read_message.new.source in
+    let new = tells c.read_message-2.new.source in
+    let told = subst (λ (s : StepValue). IsTold IsFrame frame_bytes mid.blobs s.frame c.in_ok-frame.frame) c.step.view_is c.in_ok-frame.ensures.told in
     let cached : c.in_ok-frame.frame.do_not_cache ≡ false = search rules in
-    others_then (λ a h. inl h) (λ a h. inr (c.in_ok-frame.frame, frame_still mid new c.args.step.now.frame c.in_ok-frame.frame c.read_message-2.ensures.called.asked.blobs told, cached, h))
-    (subst (λ (s : StepValue). AsksNoOther (LooksAtBlob s.frame) (tells c.args.source.now).blobs mid) c.step.view_is c.read_message.ensures.only)
+    others_then (λ a h. inl h) (λ a h. inr (c.in_ok-frame.frame, frame_still mid.blobs new.blobs c.args.step.now.frame c.in_ok-frame.frame c.read_message-2.ensures.called.asked.blobs told, cached, h))
+    (subst (λ (s : StepValue). AsksNoOther (LooksAtBlob s.frame) (tells c.args.source.now) mid) c.step.view_is c.read_message.ensures.only)
     (subst (λ d. AsksNoOther (LooksAtBlob d) mid new) c.command_digest.ensures.value c.read_message-2.ensures.only)

@@ -18,7 +18,7 @@ pub loop-number-init : goal.loop-number-init
 loop-number-init g c = record {
   called = called_none (λ n. n);
   few = omega arith;
-  only = record { same = λ d not. refl };
+  only = record { blobs = λ d not. refl; results = λ d not. refl };
   told = rw (c.new-frames.ensures.items, c.new-commands.ensures.items) (told_none (g.S.BlobSource.tells c.args.source.now).blobs c.args.steps.now);
 }
 

@@ -11,6 +11,6 @@ invariant-loop-number g l =
     record {
       called : Called (tells l.fn.source) (tells l.source) ⊥;
       few : (tells l.source).calls ≤ (tells l.fn.source).calls + 2 * l.number;
-      only : AsksNoOther (OpeningLooksAt (tells l.source).blobs l.steps) (tells l.fn.source).blobs (tells l.source).blobs;
+      only : AsksNoOther (OpeningLooksAt (tells l.source).blobs l.steps) (tells l.fn.source) (tells l.source);
       told : ToldSoFar (tells l.source).blobs l.steps l.number l.frames.items l.commands.items;
     }

@@ -20,16 +20,16 @@ pub returns-in_err-verdict-clause-only : goal.returns-in_err-verdict-clause-only
 returns-in_err-verdict-clause-only g c =
     let before = g.S.BlobSource.tells c.args.source.now in
     let tells = g.S.BlobSource.tells c.verify.new.source in
-    subst (λ q. AsksNoOther (AnswerLooksAt g.row.A.Denot tells q) before.blobs tells.blobs) c.case.view_is c.verify.ensures.only
+    subst (λ q. AsksNoOther (AnswerLooksAt g.row.A.Denot tells q) before tells) c.case.view_is c.verify.ensures.only
 
 pub returns-in_err-report-clause-only : goal.returns-in_err-report-clause-only
 returns-in_err-report-clause-only g c =
     let before = g.S.BlobSource.tells c.args.source.now in
     let tells = g.S.BlobSource.tells c.verify.new.source in
-    subst (λ q. AsksNoOther (AnswerLooksAt g.row.A.Denot tells q) before.blobs tells.blobs) c.case.view_is c.verify.ensures.only
+    subst (λ q. AsksNoOther (AnswerLooksAt g.row.A.Denot tells q) before tells) c.case.view_is c.verify.ensures.only
 
 pub returns-clause-only : goal.returns-clause-only
 returns-clause-only g c =
     let before = g.S.BlobSource.tells c.args.source.now in
     let tells = g.S.BlobSource.tells c.verify.new.source in
-    subst (λ q. AsksNoOther (AnswerLooksAt g.row.A.Denot tells q) before.blobs tells.blobs) c.case.view_is c.verify.ensures.only
+    subst (λ q. AsksNoOther (AnswerLooksAt g.row.A.Denot tells q) before tells) c.case.view_is c.verify.ensures.only

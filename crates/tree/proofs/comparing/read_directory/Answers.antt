@@ -40,7 +40,7 @@ returns-in-Ok-clause-told g c =
 pub returns-in_default-clause-unasked : goal.returns-in_default-clause-unasked
 returns-in_default-clause-unasked g c =
     let none = none_of (encodings_in c.args.own.now) c.args.own.now.digests.now c.args.digest.now c.requires.own.digests c.in_default.ensures in
-    leaves_at none c.message.ensures.only
+    leaves_at none c.message.ensures.learned.only
 
 pub returns-in-Ok-clause-unasked : goal.returns-in-Ok-clause-unasked
 returns-in-Ok-clause-unasked g c = leaves_none

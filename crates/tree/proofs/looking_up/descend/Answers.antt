@@ -36,15 +36,15 @@ returns-in-None-clause-called g c =
 
 pub returns-in_err-directory-clause-only : goal.returns-in_err-directory-clause-only
 returns-in_err-directory-clause-only g c =
-    others_on_way c.args.root.now c.in-Dir.digest c.args.names.now c.loop-name.name-index c.loop-name.node c.loop-name-test.true c.in-Dir.is c.loop-name.invariant.way c.loop-name.invariant.only c.fetch_message.ensures.only c.fetch_message.ensures.unasked
+    others_on_way c.args.root.now c.in-Dir.digest c.args.names.now c.loop-name.name-index c.loop-name.node c.loop-name-test.true c.in-Dir.is c.loop-name.invariant.way c.loop-name.invariant.only c.fetch_message.ensures.called.asked.some.blobs c.fetch_message.ensures.only
 
 pub returns-in_err-next-clause-only : goal.returns-in_err-next-clause-only
 returns-in_err-next-clause-only g c =
-    others_on_way c.args.root.now c.in-Dir.digest c.args.names.now c.loop-name.name-index c.loop-name.node c.loop-name-test.true c.in-Dir.is c.loop-name.invariant.way c.loop-name.invariant.only c.fetch_message.ensures.only c.fetch_message.ensures.unasked
+    others_on_way c.args.root.now c.in-Dir.digest c.args.names.now c.loop-name.name-index c.loop-name.node c.loop-name-test.true c.in-Dir.is c.loop-name.invariant.way c.loop-name.invariant.only c.fetch_message.ensures.called.asked.some.blobs c.fetch_message.ensures.only
 
 pub returns-in-None-clause-only : goal.returns-in-None-clause-only
 returns-in-None-clause-only g c =
-    others_on_way c.args.root.now c.in-Dir.digest c.args.names.now c.loop-name.name-index c.loop-name.node c.loop-name-test.true c.in-Dir.is c.loop-name.invariant.way c.loop-name.invariant.only c.fetch_message.ensures.only c.fetch_message.ensures.unasked
+    others_on_way c.args.root.now c.in-Dir.digest c.args.names.now c.loop-name.name-index c.loop-name.node c.loop-name-test.true c.in-Dir.is c.loop-name.invariant.way c.loop-name.invariant.only c.fetch_message.ensures.called.asked.some.blobs c.fetch_message.ensures.only
 
 pub loop-name-preserved : goal.loop-name-preserved
 loop-name-preserved g c =
@@ -57,5 +57,5 @@ loop-name-preserved g c =
           (sym c.in-Some.is ∙ (c.in_ok-next.ensures {u = tt}).exact ∙ ap (λ n. child n c.in_ok-directory.directory) c.as_bytes.ensures.value);
       way = way_child _ _ c.args.root.now c.in-Dir.digest c.args.names.now c.loop-name.name-index c.loop-name-test.true way grows c.name-item.result _ (Some c.in-Some.next) c.in_ok-directory.ensures.told c.name-item.is
           (sym c.in-Some.is ∙ (c.in_ok-next.ensures {u = tt}).exact ∙ ap (λ n. child n c.in_ok-directory.directory) c.as_bytes.ensures.value);
-      only = others_on_way c.args.root.now c.in-Dir.digest c.args.names.now c.loop-name.name-index c.loop-name.node c.loop-name-test.true c.in-Dir.is c.loop-name.invariant.way c.loop-name.invariant.only c.fetch_message.ensures.only c.fetch_message.ensures.unasked;
+      only = others_on_way c.args.root.now c.in-Dir.digest c.args.names.now c.loop-name.name-index c.loop-name.node c.loop-name-test.true c.in-Dir.is c.loop-name.invariant.way c.loop-name.invariant.only c.fetch_message.ensures.called.asked.some.blobs c.fetch_message.ensures.only;
     }

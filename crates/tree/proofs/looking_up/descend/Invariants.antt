@@ -16,5 +16,5 @@ invariant-loop-name g l =
       called : Calls (Asks l.name-index) (tells l.fn.source) (tells l.source) ⊥;
       goes : GoesOn (tells l.source).blobs l.root l.names (Some (node_value l.node)) (drop l.name-index l.names);
       way : WayGoesOn (tells l.source).blobs l.root l.names (Some (node_value l.node)) (drop l.name-index l.names);
-      only : AsksNoOther (OnWay (tells l.source).blobs l.root l.names) (tells l.fn.source).blobs (tells l.source).blobs;
+      only : AsksNoOther (OnWay (tells l.source).blobs l.root l.names) (tells l.fn.source) (tells l.source);
     }

@@ -10,7 +10,6 @@ use Rattle.tree.specs.Unfolding.{child_values, AreChildren, ExplainsChild}
 use Rattle.blob_source.proofs.Asking.{ok_no_error}
 use Rattle.blob_source.proofs.Calling.{called_exit, called_no, called_on, calls_some}
 use Rattle.tree.proofs.Leaving.{others_more, others_then}
-use Rattle.tree.proofs.Memos.{others_at}
 use Rattle.tree.proofs.Ways.{unfold_here, unfold_still}
 use Rattle.tree.proofs.FoundEntries.{asks_below, asks_done, asks_root}
 use Rattle.tree.proofs.UnfoldSteps.{Unfolds, child_looks, fault_here, unfolds_first, unfolds_leaf, unfolds_folder, unfolds_end, child_too_deep, child_fault, flat_pushed, counts_leaf, counts_folder}
@@ -23,17 +22,17 @@ returns-in_err-directory-clause-refused g t c =
     rw (p.1, p.2) (fault_here _ c.args.digest.now _ _ c.in_err-directory.ensures.faulty)
 
 pub returns-in_err-directory-clause-only : goal.returns-in_err-directory-clause-only
-returns-in_err-directory-clause-only g t c = others_more (unfold_here c.args.digest.now) (others_at c.fetch_message.ensures.only c.fetch_message.ensures.unasked)
+returns-in_err-directory-clause-only g t c = others_more (unfold_here c.args.digest.now) c.fetch_message.ensures.only
 
 pub returns-in_err-name-items-clause-only : goal.returns-in_err-name-items-clause-only
-returns-in_err-name-items-clause-only g t c = others_more (unfold_here c.args.digest.now) (others_at c.fetch_message.ensures.only c.fetch_message.ensures.unasked)
+returns-in_err-name-items-clause-only g t c = others_more (unfold_here c.args.digest.now) c.fetch_message.ensures.only
 
 pub loop-name-init : goal.loop-name-init
 loop-name-init g t c = record {
   next = tt;
   finite = tt;
   called = calls_some (called_no ok_no_error (λ n. n) c.in_ok-directory.ensures.called);
-  only = others_more (unfold_here c.args.digest.now) (others_at c.fetch_message.ensures.only c.fetch_message.ensures.unasked);
+  only = others_more (unfold_here c.args.digest.now) c.fetch_message.ensures.only;
   few = omega (arith, c.fetch_message.ensures.called.asked.most_calls);
   unfolds = unfolds_first _ c.args.digest.now c.in_ok-directory.directory (names_in c.args.above.now) _ _ c.in_ok-directory.ensures.told
       (subst (λ l. AreChildren (child_values l) c.in_ok-directory.directory) (sym c.into_iter-name-iterator.ensures.into_iter_gives.0) (c.in_ok-items.ensures {u = tt}));

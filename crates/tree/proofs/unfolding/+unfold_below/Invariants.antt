@@ -19,7 +19,7 @@ invariant-loop-name g l =
       next : (goal.iterator-loop-name g).can_next l.name-iterator;
       finite : (goal.iterator-loop-name g).is_finite l.name-iterator;
       called : Called (tells l.fn.source) (tells l.source) ⊥;
-      only : AsksNoOther (UnfoldLooksAt (tells l.source).blobs l.digest) (tells l.fn.source).blobs (tells l.source).blobs;
+      only : AsksNoOther (UnfoldLooksAt (tells l.source).blobs l.digest) (tells l.fn.source) (tells l.source);
       few : (tells l.source).calls + directories_in (flat_value l.fn.entries.items) ≤ (tells l.fn.source).calls + 1 + directories_in (flat_value l.entries.items);
       unfolds : Unfolds (tells l.source).blobs l.digest (names_in l.above) (flat_value l.fn.entries.items) (flat_value l.entries.items) (child_values l.name-iterator);
     }

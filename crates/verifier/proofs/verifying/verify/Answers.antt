@@ -34,4 +34,4 @@ pub returns-clause-only : goal.returns-clause-only
 returns-clause-only g c =
     let before = g.S.BlobSource.tells c.args.source.now in
     let tells = g.S.BlobSource.tells c.decide.new.source in
-    subst (λ digests. AsksNoOther (PlanLooksAt g.row.A.Denot tells c.args.sources.now c.args.plan.now digests) before.blobs tells.blobs) c.digests.ensures.value c.decide.ensures.learned.only
+    subst (λ digests. AsksNoOther (PlanLooksAt g.row.A.Denot tells c.args.sources.now c.args.plan.now digests) before tells) c.digests.ensures.value c.decide.ensures.learned.only

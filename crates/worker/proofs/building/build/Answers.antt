@@ -22,8 +22,8 @@ end_all-requires g c = record {
 pub returns-in-Ok-clause-led : goal.returns-in-Ok-clause-led
 returns-in-Ok-clause-led g c = let going = c.in-Ok.ensures.going in let ends = going.1 in (going.0.led, record { whole = ends.whole; turns = ends.turns; all = ends.all; refused = tt; in_order = ends.in_order; put = ends.put; watched = ends.watched })
 
-pub returns-clause-led : goal.returns-clause-led
-returns-clause-led g c =
+pub returns-in-Err-clause-led : goal.returns-in-Err-clause-led
+returns-in-Err-clause-led g c =
     let going = c.in-Err.ensures.going in
     let rest = c.end_all.ensures.led c.args.runner.now (g.S.BlobSource.tells c.args.sink.now) (g.S.BlobSource.tells c.take_turns.new.sink) c.args.jobs c.args.engine.now going.0 in
     let stop = going.1.refused in
@@ -41,8 +41,8 @@ returns-clause-led g c =
       },
     )
 
-pub returns-clause-alive : goal.returns-clause-alive
-returns-clause-alive g c = c.end_all.ensures.alive (g.N.Runner.alive c.args.runner.now) c.take_turns.ensures.alive
+pub returns-in-Err-clause-alive : goal.returns-in-Err-clause-alive
+returns-in-Err-clause-alive g c = c.end_all.ensures.alive (g.N.Runner.alive c.args.runner.now) c.take_turns.ensures.alive
 
 pub returns-in-Ok-clause-stored : goal.returns-in-Ok-clause-stored
 returns-in-Ok-clause-stored g c none = all_stored (g.S.BlobSource.tells c.take_turns.new.sink) c.take_turns.new.engine (c.in-Ok.ensures.stored (steps_none none))
@@ -56,11 +56,11 @@ returns-in-Ok-clause-fetched g c = c.in-Ok.ensures.fetched
 pub returns-in-Ok-clause-unfailed : goal.returns-in-Ok-clause-unfailed
 returns-in-Ok-clause-unfailed g c = c.in-Ok.ensures.device.unfailed (λ f. f)
 
-pub returns-clause-fetched : goal.returns-clause-fetched
-returns-clause-fetched g c = c.in-Err.ensures.fetched
+pub returns-in-Err-clause-fetched : goal.returns-in-Err-clause-fetched
+returns-in-Err-clause-fetched g c = c.in-Err.ensures.fetched
 
-pub returns-clause-device : goal.returns-clause-device
-returns-clause-device g c told =
+pub returns-in-Err-clause-device : goal.returns-in-Err-clause-device
+returns-in-Err-clause-device g c told =
     let rises = c.in-Err.ensures.device.failed told in
     let still = c.end_all.ensures.device in
     omega (arith, rises, still)
@@ -68,17 +68,17 @@ returns-clause-device g c told =
 pub returns-in-Ok-clause-alone : goal.returns-in-Ok-clause-alone
 returns-in-Ok-clause-alone g c one = c.in-Ok.ensures.device
 
-pub returns-clause-alone : goal.returns-clause-alone
-returns-clause-alone g c one =
+pub returns-in-Err-clause-alone : goal.returns-in-Err-clause-alone
+returns-in-Err-clause-alone g c one =
     let few = c.in-Err.ensures.few in
-    let still = c.end_all.ensures.none (no_child c.take_turns.new.children.items c.args.jobs one few) in
+    let still = c.end_all.ensures.none (no_child c.take_turns.new.underway.children.items c.args.jobs one few) in
     subst (λ n. Counts (g.N.Runner.failures c.args.runner.now) n (IsDevice c.in-Err.error.refusal)) (sym still) c.in-Err.ensures.device
 
 pub returns-in-Ok-clause-blobs : goal.returns-in-Ok-clause-blobs
 returns-in-Ok-clause-blobs g c = c.take_turns.ensures.blobs
 
-pub returns-clause-blobs : goal.returns-clause-blobs
-returns-clause-blobs g c =
+pub returns-in-Err-clause-blobs : goal.returns-in-Err-clause-blobs
+returns-in-Err-clause-blobs g c =
     let t = g.S.BlobSource.tells c.take_turns.new.sink in
     let yields = g.N.Runner.yields c.args.runner.now in
     let rest = c.end_all.ensures.led c.args.runner.now (g.S.BlobSource.tells c.args.sink.now) t c.args.jobs c.args.engine.now c.in-Err.ensures.going.0 in

@@ -18,10 +18,12 @@ returns-then-fits-clause-held g c =
     let told = c.in_ok-bytes.ensures.told in
     let results = c.recorded.ensures.called.asked.some.results in
     record {
-      bytes = c.in-Some.bytes.items;
-      held = results c.args.job.now.digest c.in-Some.bytes.items (sym told ∙ ap bytes_of c.in-Some.is);
       result = c.in-Ok.made;
-      reads = subst (λ bs. Reads c.in-Ok.made bs) c.deref.ensures.value c.in-Ok.ensures.found;
+      held = (
+        c.in-Some.bytes.items,
+        results c.args.job.now.digest c.in-Some.bytes.items (sym told ∙ ap bytes_of c.in-Some.is),
+        subst (λ bs. Reads c.in-Ok.made bs) c.deref.ensures.value c.in-Ok.ensures.found,
+      );
       recorded = c.in-Ok-recorded.ensures.found;
     }
 

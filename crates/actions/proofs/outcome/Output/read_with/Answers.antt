@@ -5,7 +5,6 @@ use Rattle.blob_source.proofs.Asking.{ok_no_error}
 use Rattle.blob_source.proofs.Calling.{called_no}
 use Rattle.tree.proofs.Learning.{learns_more, learns_refused, refused_exit}
 use Rattle.tree.proofs.Leaving.{others_more}
-use Rattle.tree.proofs.Memos.{others_at}
 use Rattle.actions.proofs.outcome.Output.read_with.Goals as goal
 
 pub returns-in_ok-message-in-Directory-clause-called : goal.returns-in_ok-message-in-Directory-clause-called
@@ -21,8 +20,8 @@ returns-in_ok-message-in-Directory-clause-learned g c =
 
 pub returns-in_ok-message-in-Directory-clause-only : goal.returns-in_ok-message-in-Directory-clause-only
 returns-in_ok-message-in-Directory-clause-only g c =
-    others_more (λ a h. rw c.in-Directory.is (subst (λ (d : Bor OutputDirectoryValue). LooksAtBlob d.now.tree a) c.directory.view_is h)) (others_at c.message.ensures.only c.message.ensures.unasked)
+    others_more (λ a h. rw c.in-Directory.is (subst (λ (d : Bor OutputDirectoryValue). LooksAtBlob d.now.tree a) c.directory.view_is h)) c.message.ensures.learned.only
 
 pub returns-in_err-message-in-Directory-clause-only : goal.returns-in_err-message-in-Directory-clause-only
 returns-in_err-message-in-Directory-clause-only g c =
-    others_more (λ a h. rw c.in-Directory.is (subst (λ (d : Bor OutputDirectoryValue). LooksAtBlob d.now.tree a) c.directory.view_is h)) (others_at c.message.ensures.only c.message.ensures.unasked)
+    others_more (λ a h. rw c.in-Directory.is (subst (λ (d : Bor OutputDirectoryValue). LooksAtBlob d.now.tree a) c.directory.view_is h)) c.message.ensures.learned.only

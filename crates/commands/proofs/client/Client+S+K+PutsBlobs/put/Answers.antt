@@ -3,7 +3,7 @@ use Rattle.std.proofs.Math.Logic.{∥∥₁_map, ∥∥₁_map₂}
 use Rattle.blob_digest.specs.Digest.{digest_of}
 use Rattle.http_core.specs.declared.event.Area.TheVariants.{Ac, Cas}
 use Rattle.remote.specs.Line.{RefusesRequest, put}
-use Rattle.remote.specs.Remote.{connection_of}
+use Rattle.remote.specs.Remote.{connection_of, telling_of}
 use Rattle.remote.specs.Table.{told_by}
 use Rattle.commands.specs.Faults.{TellsFailure, kept_failure}
 use Rattle.commands.specs.Places.{CameAllOver, KeepsRefused, puts_blobs}
@@ -11,7 +11,7 @@ use Rattle.commands.specs.declared.failure.Method.TheVariants.{PutBlob}
 use Rattle.commands.specs.Put.{TakesBlob}
 use Rattle.commands.proofs.Failures.{blob_refused, keeps_after}
 use Rattle.commands.proofs.Taken.{taken_by_put}
-use Rattle.commands.proofs.Tellings.{LacksAllOver, comes_by_put}
+use Rattle.commands.proofs.Tellings.{LacksAllOver, comes_by_blob, same_put}
 use Rattle.commands.proofs.client.Client+S+K+PutsBlobs.put.Goals as goal
 
 -- what is told stays, and the connection comes on
@@ -21,16 +21,19 @@ invariant_of-self g c =
     let flow = g.S.Stream.flow in
     let old = connection_of flow c.args.self.now.remote in
     let new = connection_of flow c.send_blob-put.new.self in
+    let puts = (telling_of c.args.self.now.remote).puts in
     let bytes = c.args.bytes.now in
     let sent = c.send_blob-put.ensures.sent in
     let kept = subst (λ x. c.keep_failure.new.kept ≡ kept_failure c.args.self.now.failure PutBlob x c.send_blob-put.result c.last_fault-fault.result)
     c.digest_put-digest.ensures c.keep_failure.ensures in
     record {
-      over = ∥∥₁_map c.args.self.now.over (λ over. record {
-        came = comes_by_put puts_blobs start Cas (digest_of bytes).hash bytes old new c.send_blob-put.result sent.taken sent.refused refl over.came;
-        blobs = subst (λ t. CameAllOver puts_blobs start Cas (told_by t)) (sym sent.blobs) over.blobs;
-        results = subst (λ t. CameAllOver puts_blobs start Ac (told_by t)) (sym sent.results) over.results;
-      });
+      over = ∥∥₁_map c.args.self.now.over (λ over. let on = same_put puts (telling_of c.send_blob-put.new.self).puts new sent.puts
+          (comes_by_blob puts_blobs start (digest_of bytes).hash bytes old new puts c.send_blob-put.result sent.taken sent.refused refl (over.came, over.puts)) in record {
+            came = on.0;
+            puts = on.1;
+            blobs = subst (λ t. CameAllOver puts_blobs start Cas (told_by t)) (sym sent.blobs) over.blobs;
+            results = subst (λ t. CameAllOver puts_blobs start Ac (told_by t)) (sym sent.results) over.results;
+          });
       lacked = ∥∥₁_map c.args.self.now.lacked (λ lacked. record {
         blobs = subst (LacksAllOver puts_blobs start Cas) (sym sent.blobs) lacked.blobs;
         results = subst (LacksAllOver puts_blobs start Ac) (sym sent.results) lacked.results;

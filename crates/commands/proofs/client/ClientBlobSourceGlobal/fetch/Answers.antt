@@ -1,12 +1,12 @@
 use Rattle.std.proofs.Common.{[], refl, subst, sym}
 use Rattle.std.proofs.Math.Logic.{∥∥₁_map, ∥∥₁_map₂}
 use Rattle.http_core.specs.declared.event.Area.TheVariants.{Ac, Cas}
-use Rattle.remote.specs.Remote.{connection_of, blobs_of}
+use Rattle.remote.specs.Remote.{connection_of, blobs_of, telling_of}
 use Rattle.remote.specs.Table.{told_by}
 use Rattle.commands.specs.Places.{CameAllOver, KeepsRefused}
 use Rattle.commands.specs.declared.failure.Method.TheVariants.{GetBlob}
 use Rattle.commands.proofs.Failures.{keeps_after}
-use Rattle.commands.proofs.Tellings.{LacksAllOver, came_on, comes_on, lacks_now, lacks_on, may_get}
+use Rattle.commands.proofs.Tellings.{LacksAllOver, came_on, comes_on, lacks_now, lacks_on, may_get, same_put}
 use Rattle.commands.proofs.client.ClientBlobSourceGlobal.fetch.Goals as goal
 
 pub invariant_of-self : goal.invariant_of-self
@@ -19,12 +19,14 @@ invariant_of-self g c =
     let d = c.args.digest.now in
     let is = c.fetch-found.ensures in
     record {
-      over = ∥∥₁_map c.args.self.now.over (λ over. record {
-        came = comes_on access start Cas d (connection_of flow old) (connection_of flow new) (blobs_of old) (blobs_of new) c.fetch-found.result is.asked over.came;
-        blobs = came_on access start Cas d (connection_of flow old) (connection_of flow new) (blobs_of old) (blobs_of new) c.fetch-found.result is.asked over.came
-            is.told is.called.asked.blobs over.blobs;
-        results = subst (λ t. CameAllOver access start Ac (told_by t)) (sym is.untouched) over.results;
-      });
+      over = ∥∥₁_map c.args.self.now.over (λ over. let on = same_put (telling_of old).puts (telling_of new).puts _ is.called.asked.puts
+          (comes_on access start Cas d (connection_of flow old) (connection_of flow new) (blobs_of old) (blobs_of new) (telling_of old).puts c.fetch-found.result is.asked (over.came, over.puts)) in record {
+            came = on.0;
+            puts = on.1;
+            blobs = came_on access start Cas d (connection_of flow old) (connection_of flow new) (blobs_of old) (blobs_of new) c.fetch-found.result is.asked over.came
+                is.told is.called.asked.blobs over.blobs;
+            results = subst (λ t. CameAllOver access start Ac (told_by t)) (sym is.untouched) over.results;
+          });
       lacked = ∥∥₁_map₂ c.args.self.now.over c.args.self.now.lacked (λ over lacked. record {
         blobs = lacks_on access start Cas d (connection_of flow old) (connection_of flow new) (blobs_of old) (blobs_of new) c.fetch-found.result is.asked over.came
             is.told lacked.blobs;

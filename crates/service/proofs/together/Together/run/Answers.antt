@@ -7,9 +7,7 @@ use Rattle.service.proofs.together.Together.run.Goals as goal
 
 pub loop-preserved : goal.loop-preserved
 loop-preserved g c = record {
-  keeps = λ accepted. keeps_further false g.S.Peer.spoke g.N.Sockets.ended g.N.Sockets.lost c.args.self.now.members.entries c.loop.self.members.entries c.turn.new.self.members.entries
-      accepted accepted accepted c.args.server.now c.loop.server c.turn.new.server
-      (c.loop.invariant.keeps accepted) (c.turn.ensures.keeps accepted);
+  keeps = λ accepted. keeps_further (c.loop.invariant.keeps accepted) (c.turn.ensures.keeps accepted);
   seen = λ seen. c.turn.ensures.seen (c.loop.invariant.seen seen);
   eased = λ eased. c.turn.ensures.eased (c.loop.invariant.eased eased);
   places = λ all accepted. placed_further (c.loop.invariant.places all accepted) (c.turn.ensures.places all accepted);
@@ -17,9 +15,7 @@ loop-preserved g c = record {
 
 pub returns-then-self-clause-keeps : goal.returns-then-self-clause-keeps
 returns-then-self-clause-keeps g c accepted =
-    keeps_further false g.S.Peer.spoke g.N.Sockets.ended g.N.Sockets.lost c.args.self.now.members.entries c.loop.self.members.entries c.release.new.self.members.entries
-    accepted accepted accepted c.args.server.now c.loop.server c.loop.server
-    (c.loop.invariant.keeps accepted)
+    keeps_further (c.loop.invariant.keeps accepted)
     (keeps_but_held false g.S.Peer.spoke g.N.Sockets.ended g.N.Sockets.lost _ c.loop.self.members.entries c.release.new.self.members.entries accepted c.loop.server c.release.ensures.same)
 
 pub returns-then-self-clause-places : goal.returns-then-self-clause-places

@@ -1,4 +1,4 @@
-use Rattle.std.proofs.Common.{false, ◌≤◌, sym, ◌∙◌, subst, arith}
+use Rattle.std.proofs.Common.{◌≤◌, sym, ◌∙◌, subst, arith}
 use Rattle.std.specs.Prelude.{IfSome}
 use Rattle.service.specs.Member.{deadline_at}
 use Rattle.service.proofs.Keeping.{keeps_further}
@@ -10,9 +10,7 @@ use Rattle.service.proofs.together.Together.sweep.Goals as goal
 
 pub loop-preserved : goal.loop-preserved
 loop-preserved g c = record {
-  keeps = λ accepted. keeps_further false g.S.Peer.spoke g.N.Sockets.ended g.N.Sockets.lost c.args.self.now.members.entries c.loop.self.members.entries c.give_up.new.self.members.entries
-      accepted accepted accepted c.args.server.now c.loop.server c.give_up.new.server
-      (c.loop.invariant.keeps accepted) (c.give_up.ensures.keeps accepted);
+  keeps = λ accepted. keeps_further (c.loop.invariant.keeps accepted) (c.give_up.ensures.keeps accepted);
   places = λ all accepted. placed_further (c.loop.invariant.places all accepted) (c.give_up.ensures.places all accepted);
   seen = λ seen. c.give_up.ensures.seen (c.loop.invariant.seen seen);
   idle = c.give_up.ensures.idle ∙ c.loop.invariant.idle;

@@ -1,4 +1,4 @@
-use Rattle.std.proofs.Common.{◌≡◌, ◌∷◌, false, Option, Some, None, refl, sym, ◌∙◌, ap, subst, rules, arith}
+use Rattle.std.proofs.Common.{◌≡◌, ◌∷◌, false, Option, Some, None, refl, sym, ◌∙◌, subst, rules, arith}
 use Rattle.std.specs.Prelude.{Err, IfSome}
 use Rattle.cache_server.specs.declared.error.ConnError.TheVariants.{Memory}
 use Rattle.service.specs.Member.{AwaitsEvent, MemberValue, end_of}
@@ -6,7 +6,7 @@ use Rattle.service.specs.Together.{MovesOnAt, member_at}
 use Rattle.service.specs.declared.turn.Turn.TheVariants.{Again, Held, Waits}
 use Rattle.service.proofs.Keeping.{keeps_further, keeps_moved, keeps_left, keeps_lost, keeps_queued}
 use Rattle.service.proofs.Places.{placed_further, placed_moved, placed_queued}
-use Rattle.service.proofs.Seeing.{HadTurn, ended_keeps, first_keeps, had_turn, kept_after, keeps_on, list_keeps, seen_awaiting, seen_gone, seen_held, seen_queued}
+use Rattle.service.proofs.Seeing.{ended_keeps, first_keeps, had_turn, kept_after, keeps_on, list_keeps, seen_awaiting, seen_gone, seen_held, seen_queued}
 use Rattle.service.proofs.Whole.{none_stays, others_stay}
 use Rattle.service.proofs.together.Together.turn.Goals as goal
 
@@ -17,8 +17,7 @@ some_of (Some m) R is P h = h is
 
 pub returns-in-Again-clause-keeps : goal.returns-in-Again-clause-keeps
 returns-in-Again-clause-keeps g c accepted =
-    keeps_further false g.S.Peer.spoke g.N.Sockets.ended g.N.Sockets.lost c.args.self.now.members.entries c.advance.new.self.members.entries c.queue.new.self.members.entries
-    accepted accepted accepted c.args.server.now c.advance.new.server c.advance.new.server
+    keeps_further
     (keeps_moved false g.S.Peer.spoke g.N.Sockets.ended g.N.Sockets.lost g.S.Peer.over c.args.self.now.members.entries c.advance.new.self.members.entries accepted c.args.server.now c.advance.new.server c.in-Some.number
     (subst (λ t. MovesOnAt (end_of t) g.S.Peer.spoke g.S.Peer.over c.in-Some.number c.args.server.now c.args.self.now.members.entries c.advance.new.server c.advance.new.self.members.entries) c.in-Again.is c.in-Some-advance.ensures.some))
     (keeps_queued false g.S.Peer.spoke g.N.Sockets.ended g.N.Sockets.lost c.in-Some.number c.advance.new.self.members.entries c.queue.new.self.members.entries accepted c.advance.new.server c.queue.ensures.at c.queue.ensures.others)
@@ -61,34 +60,28 @@ returns-in-Again-clause-seen g c =
     let v = c.advance.new.self in
     let k = c.in-Some.number in
     let some = c.in-Some-advance.ensures in
-    let rest = c.advance.ensures.rest in
-    let first : t.ready.items ≡ k ∷ c.pop_front.new.self.items = search rules in
-    let turn : HadTurn k t v some.some.after = had_turn k t v some.some.after some.some.others (first ∙ ap (λ z. k ∷ z.ready.items) (sym rest)) (ap (λ z. z.short) rest) (ap (λ z. z.held) rest) (ap (λ z. z.idle) rest) some.some.at some.queued some.wake in
+    let first : c.args.self.now.ready.items ≡ c.in-Some.number ∷ c.pop_front.new.self.items = search rules in
+    let turn = had_turn c.in-Some.number c.args.self.now c.advance.new.self some.some.after c.advance.ensures.rest first refl refl refl some.some.others some.some.at some.queued some.wake in
     seen_queued g.S.Peer.full g.S.Peer.dry k t v c.queue.new.self turn.keeps (kept_after k t v some.some.after (c.in-Some-advance.turn ≡ Held) turn some.held (λ e. let n : Again ≡ Held = sym c.in-Again.is ∙ e in cc))
     c.queue.ensures.at c.queue.ensures.others c.queue.ensures.list c.queue.ensures.short c.queue.ensures.rest
 
 pub returns-in-Waits-clause-seen : goal.returns-in-Waits-clause-seen
 returns-in-Waits-clause-seen g c =
-    let t = c.args.self.now in
     let v = c.advance.new.self in
     let k = c.in-Some.number in
     let some = c.in-Some-advance.ensures in
-    let rest = c.advance.ensures.rest in
-    let first : t.ready.items ≡ k ∷ c.pop_front.new.self.items = search rules in
-    let turn : HadTurn k t v some.some.after = had_turn k t v some.some.after some.some.others (first ∙ ap (λ z. k ∷ z.ready.items) (sym rest)) (ap (λ z. z.short) rest) (ap (λ z. z.held) rest) (ap (λ z. z.idle) rest) some.some.at some.queued some.wake in
+    let first : c.args.self.now.ready.items ≡ c.in-Some.number ∷ c.pop_front.new.self.items = search rules in
+    let turn = had_turn c.in-Some.number c.args.self.now c.advance.new.self some.some.after c.advance.ensures.rest first refl refl refl some.some.others some.some.at some.queued some.wake in
     let awaits = some_of (member_at v.members.entries k) (c.in-Some-advance.turn ≡ Waits) c.in-Waits.is (AwaitsEvent g.S.Peer.full g.S.Peer.dry) some.waits in
-    seen_awaiting g.S.Peer.full g.S.Peer.dry k t v some.some.after (c.in-Some-advance.turn ≡ Held) turn some.held (λ e. let n : Waits ≡ Held = sym c.in-Waits.is ∙ e in cc) awaits
+    seen_awaiting g.S.Peer.full g.S.Peer.dry k c.args.self.now v some.some.after (c.in-Some-advance.turn ≡ Held) turn some.held (λ e. let n : Waits ≡ Held = sym c.in-Waits.is ∙ e in cc) awaits
 
 pub returns-else-is_err-clause-seen : goal.returns-else-is_err-clause-seen
 returns-else-is_err-clause-seen g c =
-    let t = c.args.self.now in
     let v = c.advance.new.self in
-    let k = c.in-Some.number in
     let some = c.in-Some-advance.ensures in
-    let rest = c.advance.ensures.rest in
-    let first : t.ready.items ≡ k ∷ c.pop_front.new.self.items = search rules in
-    let turn : HadTurn k t v some.some.after = had_turn k t v some.some.after some.some.others (first ∙ ap (λ z. k ∷ z.ready.items) (sym rest)) (ap (λ z. z.short) rest) (ap (λ z. z.held) rest) (ap (λ z. z.idle) rest) some.some.at some.queued some.wake in
-    seen_held g.S.Peer.full g.S.Peer.dry k t v (record v { held = c.list.new.held }) some.some.before some.some.after c.in-Some-advance.was_held (c.in-Some-advance.turn ≡ Held) turn some.held c.in-Held.is some.some.held some.was refl (search rules)
+    let first : c.args.self.now.ready.items ≡ c.in-Some.number ∷ c.pop_front.new.self.items = search rules in
+    let turn = had_turn c.in-Some.number c.args.self.now c.advance.new.self some.some.after c.advance.ensures.rest first refl refl refl some.some.others some.some.at some.queued some.wake in
+    seen_held g.S.Peer.full g.S.Peer.dry c.in-Some.number c.args.self.now v (record v { held = c.list.new.held }) some.some.before some.some.after c.in-Some-advance.was_held (c.in-Some-advance.turn ≡ Held) turn some.held c.in-Held.is some.some.held some.was refl (search rules)
 
 pub returns-then-is_err-clause-seen : goal.returns-then-is_err-clause-seen
 returns-then-is_err-clause-seen g c =
@@ -96,9 +89,8 @@ returns-then-is_err-clause-seen g c =
     let v = c.advance.new.self in
     let k = c.in-Some.number in
     let some = c.in-Some-advance.ensures in
-    let rest = c.advance.ensures.rest in
-    let first : t.ready.items ≡ k ∷ c.pop_front.new.self.items = search rules in
-    let turn : HadTurn k t v some.some.after = had_turn k t v some.some.after some.some.others (first ∙ ap (λ z. k ∷ z.ready.items) (sym rest)) (ap (λ z. z.short) rest) (ap (λ z. z.held) rest) (ap (λ z. z.idle) rest) some.some.at some.queued some.wake in
+    let first : c.args.self.now.ready.items ≡ c.in-Some.number ∷ c.pop_front.new.self.items = search rules in
+    let turn = had_turn c.in-Some.number c.args.self.now c.advance.new.self some.some.after c.advance.ensures.rest first refl refl refl some.some.others some.some.at some.queued some.wake in
     let w = record v { held = c.list.new.held } in
     let u = c.end.new.self in
     let ends = c.end.ensures.ends in
@@ -114,9 +106,8 @@ returns-in-Ends-clause-seen g c =
     let v = c.advance.new.self in
     let k = c.in-Some.number in
     let some = c.in-Some-advance.ensures in
-    let rest = c.advance.ensures.rest in
-    let first : t.ready.items ≡ k ∷ c.pop_front.new.self.items = search rules in
-    let turn : HadTurn k t v some.some.after = had_turn k t v some.some.after some.some.others (first ∙ ap (λ z. k ∷ z.ready.items) (sym rest)) (ap (λ z. z.short) rest) (ap (λ z. z.held) rest) (ap (λ z. z.idle) rest) some.some.at some.queued some.wake in
+    let first : c.args.self.now.ready.items ≡ c.in-Some.number ∷ c.pop_front.new.self.items = search rules in
+    let turn = had_turn c.in-Some.number c.args.self.now c.advance.new.self some.some.after c.advance.ensures.rest first refl refl refl some.some.others some.some.at some.queued some.wake in
     let u = c.end-in-Ends.new.self in
     let ends = c.end-in-Ends.ensures.ends in
     seen_gone g.S.Peer.full g.S.Peer.dry k t u
@@ -129,10 +120,8 @@ returns-in_default-advance-clause-seen g c =
     let t = c.args.self.now in
     let u = c.advance.new.self in
     let k = c.in-Some.number in
-    let rest = c.advance.ensures.rest in
     let same = c.advance.ensures.members c.in_default-advance.is in
     let still = c.advance.ensures.still c.in_default-advance.is in
     let first : t.ready.items ≡ k ∷ c.pop_front.new.self.items = search rules in
-    seen_gone g.S.Peer.full g.S.Peer.dry k t u
-    (first_keeps k t u (λ j n. same.0 j) (first ∙ ap (λ z. k ∷ z.ready.items) (sym rest)) (ap (λ z. z.short) rest) (ap (λ z. z.held) rest) (ap (λ z. z.idle) rest) (omega (arith, still)))
+    seen_gone g.S.Peer.full g.S.Peer.dry k t u (first_keeps k t u (λ j n. same.0 j) c.advance.ensures.rest first refl refl refl (omega (arith, still)))
     (same.0 k ∙ c.advance.ensures.none c.in_default-advance.is)

@@ -26,7 +26,7 @@ returns-in_err-next-clause-called g c =
 
 pub returns-in_err-next-clause-only : goal.returns-in_err-next-clause-only
 returns-in_err-next-clause-only g c =
-    others_on_way c.args.root.now c.in-Dir.digest c.args.names.now c.loop-name.name-index c.loop-name.node c.loop-name-test.true c.in-Dir.is c.loop-name.invariant.way c.loop-name.invariant.only c.child.ensures.only c.child.ensures.unasked
+    others_on_way c.args.root.now c.in-Dir.digest c.args.names.now c.loop-name.name-index c.loop-name.node c.loop-name-test.true c.in-Dir.is c.loop-name.invariant.way c.loop-name.invariant.only c.child.ensures.called.asked.some.blobs c.child.ensures.learned.only
 
 pub returns-in_err-next-clause-learned : goal.returns-in_err-next-clause-learned
 returns-in_err-next-clause-learned g c =
@@ -53,7 +53,7 @@ returns-in-None-clause-called g c =
 
 pub returns-in-None-clause-only : goal.returns-in-None-clause-only
 returns-in-None-clause-only g c =
-    others_on_way c.args.root.now c.in-Dir.digest c.args.names.now c.loop-name.name-index c.loop-name.node c.loop-name-test.true c.in-Dir.is c.loop-name.invariant.way c.loop-name.invariant.only c.child.ensures.only c.child.ensures.unasked
+    others_on_way c.args.root.now c.in-Dir.digest c.args.names.now c.loop-name.name-index c.loop-name.node c.loop-name-test.true c.in-Dir.is c.loop-name.invariant.way c.loop-name.invariant.only c.child.ensures.called.asked.some.blobs c.child.ensures.learned.only
 
 pub returns-in-None-clause-learned : goal.returns-in-None-clause-learned
 returns-in-None-clause-learned g c =
@@ -75,7 +75,7 @@ loop-name-preserved g c =
       called = calls_on asks_then c.loop-name.invariant.called (called_no ok_no_error (λ n. n) c.in_ok-next.ensures.called);
       goes = goes_child _ _ c.args.root.now _ c.args.names.now c.loop-name.name-index c.name-item.result told.0 (Some c.in-Some.next) c.loop-name-test.true goes grows told.1 c.name-item.is (sym c.in-Some.is ∙ told.2);
       way = way_child _ _ c.args.root.now c.in-Dir.digest c.args.names.now c.loop-name.name-index c.loop-name-test.true way grows c.name-item.result told.0 (Some c.in-Some.next) told.1 c.name-item.is (sym c.in-Some.is ∙ told.2);
-      only = others_on_way c.args.root.now c.in-Dir.digest c.args.names.now c.loop-name.name-index c.loop-name.node c.loop-name-test.true c.in-Dir.is c.loop-name.invariant.way c.loop-name.invariant.only c.child.ensures.only c.child.ensures.unasked;
+      only = others_on_way c.args.root.now c.in-Dir.digest c.args.names.now c.loop-name.name-index c.loop-name.node c.loop-name-test.true c.in-Dir.is c.loop-name.invariant.way c.loop-name.invariant.only c.child.ensures.called.asked.some.blobs c.child.ensures.learned.only;
       learned = learns_then {t1 = tells c.loop-name.source} (λ a. way_still _ _ c.args.root.now c.args.names.now a grows)
           (way_here _ _ c.args.root.now c.in-Dir.digest c.args.names.now c.loop-name.name-index c.loop-name-test.true way grows) (λ n. n) c.loop-name.invariant.learned c.in_ok-next.ensures.learned;
     }

@@ -16,6 +16,6 @@ invariant-loop-name g l =
       called : Calls (Asks l.name-index) (tells l.fn.source) (tells l.source) ⊥;
       goes : GoesOn (tells l.source).blobs l.root l.names (Some (node_value l.node)) (drop l.name-index l.names);
       way : WayGoesOn (tells l.source).blobs l.root l.names (Some (node_value l.node)) (drop l.name-index l.names);
-      only : AsksNoOther (OnWay (tells l.source).blobs l.root l.names) (tells l.fn.source).blobs (tells l.source).blobs;
+      only : AsksNoOther (OnWay (tells l.source).blobs l.root l.names) (tells l.fn.source) (tells l.source);
       learned : Learns (OnWay (tells l.source).blobs l.root l.names) ⊥ (known_by l.fn.self) (known_by l.self) (tells l.fn.source) (tells l.source);
     }

@@ -2,7 +2,7 @@ use Rattle.std.proofs.Common.{drop, take}
 use Rattle.clap.specs.Words.{found_of, rows_of}
 use Rattle.commands.specs.Words.{serve_words}
 use Rattle.commands.proofs.Checking.{checks_exit}
-use Rattle.commands.proofs.serving.read_asked.Goals as goal
+use Rattle.commands.proofs.serving.read_request.Goals as goal
 
 pub returns-in_err-address-clause-checked : goal.returns-in_err-address-clause-checked
 returns-in_err-address-clause-checked c =

@@ -6,12 +6,12 @@ use Rattle.remote.specs.Table.{told_by}
 use Rattle.text_verifier.specs.declared.lack.Lack.TheVariants.{ActionResult}
 use Rattle.commands.specs.Places.{LacksAll, WereRead}
 use Rattle.commands.proofs.Tellings.{absent_on, failed_on, read_on}
-use Rattle.commands.proofs.shelf.ShelfBlobSourceGlobal.result.Goals as goal
+use Rattle.commands.proofs.folder_store.FolderStoreBlobSourceGlobal.result.Goals as goal
 
 pub invariant_of-self : goal.invariant_of-self
 invariant_of-self g c =
     let sees = g.W.World.sees in
-    let folder = g.K.StoreFolder.folder in
+    let folder = g.K.FolderMark.folder in
     let old = c.args.self.now.store in
     let new = c.result.new.self in
     let d = c.args.digest.now in

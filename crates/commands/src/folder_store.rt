@@ -13,13 +13,13 @@ use std::marker::{Brand, PhantomData};
 use text_verifier::Lack;
 
 /// Marks a store by its folder.
-pub trait StoreFolder {
+pub trait FolderMark {
     ghost use Rattle.std.specs.Prelude.{ℕ, List};
 
     ghost folder: { List ℕ };
 }
 
-impl StoreFolder for Brand {
+impl FolderMark for Brand {
     ghost use Rattle.std.specs.Prelude.{[]};
 
     ghost folder = { [] };
@@ -27,19 +27,23 @@ impl StoreFolder for Brand {
 
 /// The store in the marked folder of a world.
 #[derive(Drop)]
-pub(crate) struct Shelf<'w, W: World, K: StoreFolder> {
+pub(crate) struct FolderStore<'w, W: World, K: FolderMark> {
     store: FolderSource<'w, FilesOf<'w, W>, Global>,
     of: PhantomData<K>,
     ghost place: { place_of store ≡ K.folder },
     ghost told: { ∥ IsInFolder W.sees K.folder store ∥₁ },
 }
 
-impl<'w, W: World, K: StoreFolder> Shelf<'w, W, K> {
-    pub(crate) fn new(alloc: Global, files: &'w FilesOf<'w, W>, folder: String) -> Shelf<'w, W, K>
+impl<'w, W: World, K: FolderMark> FolderStore<'w, W, K> {
+    pub(crate) fn new(
+        alloc: Global,
+        files: &'w FilesOf<'w, W>,
+        folder: String,
+    ) -> FolderStore<'w, W, K>
         requires { K.folder ≡ string_bytes folder }
         ensures { IsFreshFolder (string_bytes folder) result.store }
     {
-        Shelf {
+        FolderStore {
             store: FolderSource::new(alloc, files, folder),
             of: PhantomData,
         }
@@ -79,7 +83,7 @@ impl<'w, W: World, K: StoreFolder> Shelf<'w, W, K> {
     }
 }
 
-impl<W: World, K: StoreFolder> BlobSource<Global> for Shelf<'_, W, K> {
+impl<W: World, K: FolderMark> BlobSource<Global> for FolderStore<'_, W, K> {
     ghost use Rattle.remote.specs.Folder.{telling_of};
 
     ghost tells = { λ s. telling_of s.store };

@@ -7,18 +7,18 @@ use Rattle.commands.specs.PutRefused.{FailsHere}
 use Rattle.commands.specs.PutRefused.FailsHere.{unread}
 use Rattle.commands.proofs.Exits.{exit_by}
 use Rattle.commands.proofs.Refused.{file_fails}
-use Rattle.commands.proofs.putting.put_file.Goals as goal
+use Rattle.commands.proofs.putting.Uploader.upload_file.Goals as goal
 
 pub returns-in_err-bytes-clause-refused : goal.returns-in_err-bytes-clause-refused
 returns-in_err-bytes-clause-refused g c =
-    exit_by (OrMemory (λ e. (left : ℕ) → FailsHere g.W.World.sees g.K.Opened.start (string_bytes c.args.server.now.address) left c.args.place.now e)) _ c.from_residual.ensures.1
+    exit_by (OrMemory (λ e. (left : ℕ) → FailsHere g.W.World.sees g.K.Opened.start (string_bytes c.args.self.now.server.now.address) left c.args.place.now e)) _ c.from_residual.ensures.1
     (inr (λ left. unread _ c.in_err-bytes.ensures.fault refl))
 
 pub returns-in_err-digest-clause-refused : goal.returns-in_err-digest-clause-refused
 returns-in_err-digest-clause-refused g c =
     let sees = g.W.World.sees in
     let start = g.K.Opened.start in
-    let address = string_bytes c.args.server.now.address in
+    let address = string_bytes c.args.self.now.server.now.address in
     let place = c.args.place.now in
     exit_by (OrMemory (λ e. (left : ℕ) → FailsHere sees start address left place e)) _ c.from_residual-in_err-digest.ensures.1
     (file_fails sees start address place c.deref.result.now _ (subst (λ b. sees.reads place b) (sym c.deref.ensures.value) c.in_ok-bytes.ensures.read) c.in_err-digest.ensures.refused)

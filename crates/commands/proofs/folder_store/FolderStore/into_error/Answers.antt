@@ -1,6 +1,6 @@
 use Rattle.std.proofs.Common.{◌∙◌, inr, sym}
 use Rattle.std.proofs.Math.Logic.{∥∥₁_map}
-use Rattle.commands.proofs.shelf.Shelf.into_error.Goals as goal
+use Rattle.commands.proofs.folder_store.FolderStore.into_error.Goals as goal
 
 pub returns-in-Some-clause-fault : goal.returns-in-Some-clause-fault
 returns-in-Some-clause-fault g c =
