@@ -82,8 +82,8 @@ def try_heads(rows, program):
             rows.tell(" ".join(["Connection: close", *more]), seen == refused("200 OK"), seen)
 
 
-# How long a client that works may wait for an answer beside others, in seconds.
-SOON = 1.0
+# How long a client that works may wait for an answer beside others, in seconds. A machine that is busy may stand still for one.
+SOON = 2.5
 
 # A blob that no socket's buffers hold four times.
 LARGE = bytes(8 << 20)
@@ -242,7 +242,7 @@ def try_silence(rows, program):
         waiter.start()
         longest = slowest(it.port, 3)
         waiter.join(20)
-        right = bool(ends) and ends[0][0] == b"" and 0.5 < ends[0][1] < 3 and longest < SOON
+        right = bool(ends) and ends[0][0] == b"" and 0.5 < ends[0][1] < 10 and longest < SOON
         rows.tell("one that is silent for --idle 1 is let go, and one that works isn't", right, (ends, longest))
 
 
@@ -269,23 +269,35 @@ def try_waiting(rows, program):
             time.sleep(0.2)
             right = [ask(stream, rest, DONE) for stream, rest in clients]
         rows.tell("where requests hold all that they may, none waits for one that stops in its head", all(right), right)
+    # Where this machine stands still for some seconds, our own bytes come too late: once more then, with more time.
+    for idle in (3, 12):
+        right = wait_behind(program, idle)
+        if all(right):
+            break
+    rows.tell("those that wait for one of them for longer than --idle go on behind it", all(right), right)
+
+
+def wait_behind(program, idle):
+    """Of a slow client, and of those that wait for it for longer than so many seconds, whether each gets its answer."""
     body = bytes(12 << 20)
     text = put(path_of(body), body)
-    end = len(text) - (3 << 20)
-    with many(program, "--idle", "3") as it:
+    end, pieces = len(text) - (3 << 20), 10 * idle + 10
+    with many(program, "--idle", str(idle)) as it:
         clients = begin_bodies(it.port, 1 << 19)
         time.sleep(0.5)
         with connect(it.port) as slow:
             slow.sendall(text[:end])
             time.sleep(0.5)
-            for stream, rest in clients:
-                stream.sendall(rest[:1000])
-            for at in range(end, end + 40):
+            try:
+                for stream, rest in clients:
+                    stream.sendall(rest[:1000])
+            except OSError:
+                return [False]
+            for at in range(end, end + pieces):
                 slow.sendall(text[at : at + 1])
                 time.sleep(0.1)
-            right = [ask(slow, text[end + 40 :], DONE)]
-            right += [ask(stream, rest[1000:], DONE) for stream, rest in clients]
-        rows.tell("those that wait for one of them for longer than --idle go on behind it", all(right), right)
+            right = [ask(slow, text[end + pieces :], DONE)]
+            return right + [ask(stream, rest[1000:], DONE) for stream, rest in clients]
 
 
 def try_stopped(rows, program):
