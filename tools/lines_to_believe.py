@@ -22,7 +22,7 @@ ASIDE = {
     "processes": ["Process", "Walking"],
     "remote": ["Steps"],
     "runs": ["TwoSteps"],
-    "service": ["Member", "Together"],
+    "service": ["Member", "Rounds", "Together"],
     "tree": ["Comparing", "Given", "MergeExample", "MergeParts", "Unfolding", "Visiting"],
     "verifier": ["Answers", "Checks", "Stage", "TwoSteps"],
     "worker": ["Gathering", "Going", "Stopping", "Storing", "TwoSteps"],

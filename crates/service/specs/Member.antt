@@ -12,7 +12,7 @@ use Rattle.std.specs.declared.io.ErrorKind.TheVariants.{Interrupted, OutOfMemory
 use Rattle.cache_server.specs.Answer.{AnswerValue, text_of}
 use Rattle.cache_server.specs.Cache.{CacheValue}
 use Rattle.cache_server.specs.History.{HistoryEntry}
-use Rattle.cache_server.specs.Server.{ServerValue, ServerStands}
+use Rattle.cache_server.specs.Server.{ServerValue, ServerStands, held_bytes_at, session_at}
 use Rattle.service.specs.Sockets.{Cause, Failed, IsBroken, Stays, Why}
 use Rattle.cache_server.specs.declared.error.ConnError.{ConnError}
 use Rattle.cache_server.specs.declared.error.ConnError.TheVariants.{Memory}
@@ -188,6 +188,17 @@ PausesFor full dry held (Ends why) m = ⊤
 -- it has no leave to answer more, or to read more of a request of which it keeps so much
 abbrev pub HasNoLeave : Leave → Load → Type 0
 HasNoLeave leave load = (leave.answers ≡ false) ⊎ (leave.kept < load.requests)
+
+-- It went ahead at this time: a call was made on its stream, or its stream is the same, and less is
+-- left of what was read.
+abbrev pub GoesAhead :
+    {S : Type 0} → (S → ℕ → Type 0) → ℕ → MemberValue S → MemberValue S → Type 0
+GoesAhead tried now old new =
+    tried new.stream now ⊎ ((new.stream ≡ old.stream) × (length new.left < length old.left))
+
+-- as many bytes count as kept of a request that isn't whole as its session keeps
+abbrev pub CountsKept : {S : Type 0} → ServerValue → ℕ → MemberValue S → Type 0
+CountsKept server k m = m.load.requests ≡ held_bytes_at (session_at server k)
 
 -- it goes on: what was read and what was sent is as the entries say
 pub record TalksOn

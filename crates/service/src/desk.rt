@@ -1,3 +1,5 @@
+ghost use Rattle.std.specs.Prelude.{◌≡◌, IfOk, length};
+
 use std::alloc::{AllocError, Global};
 
 /// How many bytes are read at once, and gathered to be written.
@@ -12,7 +14,9 @@ pub(crate) struct Desk {
 }
 
 impl Desk {
-    pub(crate) fn new(alloc: Global) -> Result<Desk, AllocError> {
+    pub(crate) fn new(alloc: Global) -> Result<Desk, AllocError>
+        ensures room { IfOk result (λ desk. length desk.buffer.items ≡ 65536) }
+    {
         Ok(Desk {
             alloc,
             buffer: Vec::from_elem(alloc, 0, PIECE)?,

@@ -44,6 +44,8 @@ impl<S: Peer + Drop> Together<S> {
             sockets.new self.new.members.entries accepted.new }
         ensures within { accepted.new ≤ connections }
         ensures fails { IfErr result (AcceptsNone N.failed N.refused sockets.new) }
+        ensures more { OnOk result ((self.new.waits ≡ false) ⊎ ((accepted.new ≡ connections)
+            ⊎ (at_once ≤ length self.new.members.entries))) }
         ensures none { OnErr result (self.new.members.entries ≡ []) }
         ensures again { (IsTrue self.old.waits ⊎ (self.old.retry ≤ now)) → self.new.waits ≡ false
             → FindsNone N.refused sockets.new ⊎ (self.new.retry ≡ min (now + 500) u64.MAX) }
@@ -80,6 +82,8 @@ impl<S: Peer + Drop> Together<S> {
             sockets.old self.old.members.entries accepted.old
             sockets.new self.new.members.entries accepted.new }
         ensures within { accepted.new ≤ connections }
+        ensures one { OnOk result ((accepted.new ≡ accepted.old + 1)
+            ⊎ ((self.new.waits ≡ false) × (accepted.new ≡ accepted.old))) }
         ensures fails { IfErr result (AcceptsNone N.failed N.refused sockets.new) }
         ensures none { OnErr result (self.new.members.entries ≡ []) }
         ensures again { IsTrue self.old.waits → self.new.waits ≡ false
@@ -123,6 +127,7 @@ impl<S: Peer + Drop> Together<S> {
         ensures fails { IfErr result (AcceptsNone N.failed N.refused sockets.new) }
         ensures none { OnErr result (self.new.members.entries ≡ []) }
         ensures stays { OnErr result (KeepsPlaces N.places sockets.old sockets.new) }
+        ensures waits { IfOk result (λ found. IfNone found (self.new.waits ≡ false)) }
         ensures again { IsTrue self.old.waits → self.new.waits ≡ false
             → FindsNone N.refused sockets.new ⊎ (self.new.retry ≡ min (now + 500) u64.MAX) }
         ensures rest { self.new ≡ record self.old {
@@ -157,6 +162,8 @@ impl<S: Peer + Drop> Together<S> {
     /// Once the pause after a fault is over, one may wait.
     fn try_again(&mut self, now: u64)
         ensures waits { (IsTrue self.old.waits ⊎ (self.old.retry ≤ now)) → IsTrue self.new.waits }
+        ensures over { self.old.retry ≤ now → self.new.retry ≡ u64.MAX }
+        ensures still { now < self.old.retry → self.new ≡ self.old }
         ensures rest { self.new
             ≡ record self.old { waits = self.new.waits; retry = self.new.retry } }
     {

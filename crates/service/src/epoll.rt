@@ -53,6 +53,8 @@ impl Peer for TcpStream {
 
     ghost quiet = { λ _ _. Unit {0} };
 
+    ghost tried = { λ _ _. Unit {0} };
+
     fn read(&mut self, buffer: &mut [u8], _now: u64) -> io::Result<usize> {
         let mut stream = &*self;
         Read::read(&mut stream, buffer)
@@ -69,7 +71,7 @@ impl Peer for TcpStream {
         now.saturating_sub(moved) >= allowed
     }
 
-    fn shut(&mut self) {
+    fn shut(&mut self, _now: u64) {
         let _ended = self.shutdown(Shutdown::Write);
     }
 

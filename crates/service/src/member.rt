@@ -1,9 +1,9 @@
-ghost use Rattle.std.specs.Prelude.{◌≡◌, ◌↔◌, ◌-◌, ◌<◌, ◌≤◌, ◌⊎◌, [], drop};
+ghost use Rattle.std.specs.Prelude.{◌≡◌, ◌↔◌, ◌-◌, ◌<◌, ◌≤◌, ◌⊎◌, [], drop, length};
 ghost use Rattle.std.specs.Prelude.{IfSome, IsSome, IsTrue, None, Ok, Some, false, true};
 ghost use Rattle.cache_server.specs.Server.{IsOpenAt, session_at};
 ghost use Rattle.std.specs.declared.io.ErrorKind.TheVariants.{WouldBlock};
-ghost use Rattle.service.specs.Member.{CountsRead, EndsWell, HasNoLeave, HoldsAlone, IsDeadline};
-ghost use Rattle.service.specs.Member.{MovesOn, PausesFor};
+ghost use Rattle.service.specs.Member.{CountsKept, CountsRead, EndsWell, GoesAhead, HasNoLeave};
+ghost use Rattle.service.specs.Member.{HoldsAlone, IsDeadline, MovesOn, PausesFor};
 ghost use Rattle.service.specs.Member.{answer_size, deadline_at, end_of, new_member, own_size};
 ghost use Rattle.service.specs.Member.{pressed_limit, roused, unsent_of};
 ghost use Rattle.service.specs.Sockets.{Failed, Finished, Shut, Stays};
@@ -231,6 +231,9 @@ impl<S: Peer + Drop> Member<S> {
         ensures pauses { PausesFor S.full S.dry (HasNoLeave leave self.new.load) result self.new }
         ensures held { IsTrue self.new.held ↔ (result ≡ Turn.Held) }
         ensures queued { self.new.queued ≡ self.old.queued }
+        ensures ahead { result ≡ Turn.Again → GoesAhead S.tried now self.old self.new }
+        ensures counts { end_of result ≡ None → CountsKept server.old number self.old
+            → CountsKept server.new number self.new }
     {
         for _ in 0..STEPS {
             match self.step(number, server, desk, leave, now) {
@@ -268,6 +271,9 @@ impl<S: Peer + Drop> Member<S> {
         ensures share { self.old.left ≡ [] → leave.kept < self.old.load.requests
             → server.new ≡ server.old }
         ensures queued { self.new.queued ≡ self.old.queued }
+        ensures ahead { result ≡ Turn.Again → GoesAhead S.tried now self.old self.new }
+        ensures counts { end_of result ≡ None → CountsKept server.old number self.old
+            → CountsKept server.new number self.new }
     {
         if !self.is_sent() {
             return self.send(desk, now);
@@ -308,8 +314,9 @@ impl<S: Peer + Drop> Member<S> {
           lingering = Some (record { begun = now; reads = 0 });
           readable = true;
         } }
+        ensures tried { S.tried self.new.stream now }
     {
-        self.stream.shut();
+        self.stream.shut(now);
         self.lingering = Some(Lingering::begin(now));
         self.readable = true;
     }
@@ -333,6 +340,8 @@ impl<S: Peer + Drop> Member<S> {
         ensures reads { IfSome self.old.lingering (λ it. IfSome self.new.lingering (λ next.
             CountsRead (end_of result) now self.old self.new it next)) }
         ensures pauses { PausesFor S.full S.dry ⊥ result self.new }
+        ensures tried { result ≡ Turn.Again → S.tried self.new.stream now }
+        ensures load { self.new.load ≡ self.old.load }
     {
         let Some(lingering) = self.lingering else {
             self.shut(now);
@@ -366,10 +375,14 @@ impl<S: Peer + Drop> Member<S> {
     fn go_on(&mut self, number: u64, server: &mut Server<Global>, desk: &Desk) -> Turn
         requires unsent { self.old.unsent ≡ [] }
         requires more { IsOpenAt (session_at server.old number) }
+        requires some { self.old.left ≡ [] → ⊥ }
         ensures moves { MovesOn (end_of result) S.spoke S.over number
             server.old self.old server.new self.new }
         ensures pauses { PausesFor S.full S.dry ⊥ result self.new }
         ensures queued { self.new.queued ≡ self.old.queued }
+        ensures stream { self.new.stream ≡ self.old.stream }
+        ensures less { end_of result ≡ None → length self.new.left < length self.old.left }
+        ensures counts { end_of result ≡ None → CountsKept server.new number self.new }
     {
         let input = mem::replace(&mut self.input, Vec::new(desk.alloc));
         let at = self.at.min(input.len());
@@ -401,6 +414,9 @@ impl<S: Peer + Drop> Member<S> {
             server.old self.old server.new self.new }
         ensures pauses { PausesFor S.full S.dry ⊥ result self.new }
         ensures queued { self.new.queued ≡ self.old.queued }
+        ensures tried { S.tried self.new.stream now }
+        ensures counts { end_of result ≡ None → CountsKept server.old number self.old
+            → CountsKept server.new number self.new }
     {
         let buffer = desk.buffer.as_mut_slice();
         let count = match self.stream.read(buffer, now) {

@@ -86,6 +86,7 @@ impl<S: Peer + Drop> Together<S> {
         ensures free { AllByRecursion
             (λ k. IsFree now (member_at self.new.members.entries k)) self.old.held.items }
         ensures none { self.new.held.items ≡ [] }
+        ensures scales { self.new.scales ≡ self.old.scales }
         ensures seen { AreSeenTo S.full S.dry self.old → AreSeenTo S.full S.dry self.new }
     {
         for _ in 0..self.held.len() {

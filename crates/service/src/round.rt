@@ -1,8 +1,9 @@
 //! A round: a turn of each that has something to do.
 ghost use Rattle.std.specs.Prelude.{◌≡◌, ◌↔◌, ◌==◌, ◌&&◌, ℕ, [], None, IfSome, IsTrue, min, nat_le};
-ghost use Rattle.std.specs.Prelude.{false, if◌then◌else◌, not, true};
+ghost use Rattle.std.specs.Prelude.{false, if◌then◌else◌, length, not, true};
 ghost use Rattle.std.specs.Option.{option_map_or, unwrap_or};
-ghost use Rattle.service.specs.Member.{AwaitsEvent, deadline_at, end_of, load_after};
+ghost use Rattle.service.specs.Member.{AwaitsEvent, CountsKept, deadline_at, end_of, load_after};
+ghost use Rattle.service.specs.Rounds.{GoesAheadAt, HasTurn, TakesTurns};
 ghost use Rattle.service.specs.Together.{AreFull, AreSame, AreSeenTo, HoldAlone, LeavesPlaced};
 ghost use Rattle.service.specs.Together.{LeavesTogether, MovesOnAt, member_at};
 
@@ -30,8 +31,12 @@ impl<S: Peer + Drop> Together<S> {
         ensures places { LeavesPlaced N.places (sockets.old, self.old.members.entries)
             (sockets.new, self.new.members.entries) }
         ensures seen { AreSeenTo S.full S.dry self.old → AreSeenTo S.full S.dry self.new }
+        // Each that is queued has a turn.
+        ensures turns { TakesTurns S.spoke S.tried (length self.old.ready.items)
+            self.old self.new }
         // Who waits for others goes on once less is held.
         ensures goes { IsTrue self.old.scales.eased → self.new.held.items ≡ [] }
+        ensures over { self.new.scales.eased ≡ false }
     {
         for _ in 0..self.ready.len() {
             // All turns together may take so long that a connection would seem to be silent.
@@ -60,6 +65,7 @@ impl<S: Peer + Drop> Together<S> {
             (sockets.new, self.new.members.entries) }
         ensures seen { AreSeenTo S.full S.dry self.old → AreSeenTo S.full S.dry self.new }
         ensures eased { IsTrue self.old.scales.eased → IsTrue self.new.scales.eased }
+        ensures turns { HasTurn S.tried now self.old self.new }
     {
         let Some(number) = self.ready.pop_front() else {
             return;
@@ -95,6 +101,12 @@ impl<S: Peer + Drop> Together<S> {
         ensures load { IfSome (member_at self.old.members.entries number) (λ before.
             IfSome (member_at self.new.members.entries number) (λ after.
             self.new.scales.load ≡ load_after self.old.scales.load before.load after.load)) }
+        ensures ahead { IfSome result (λ out. out.0 ≡ Turn.Again
+            → GoesAheadAt S.tried now number self.old.members.entries self.new.members.entries) }
+        ensures counts { IfSome result (λ out. end_of out.0 ≡ None
+            → IfSome (member_at self.old.members.entries number) (λ before.
+            IfSome (member_at self.new.members.entries number) (λ after.
+            CountsKept server.old number before → CountsKept server.new number after))) }
         ensures queued { IfSome result (λ out. IfSome (member_at self.new.members.entries number)
             (λ m. m.queued ≡ false)) }
         ensures held { IfSome result (λ out. IfSome (member_at self.new.members.entries number)

@@ -1,8 +1,9 @@
 //! Which connections were silent for too long.
 ghost use Rattle.std.specs.Prelude.{◌≡◌, ◌+◌, ◌<◌, ◌≤◌, ◌⊎◌, IfErr, IfOk, IfSome, IsSome, Some};
-ghost use Rattle.std.specs.Prelude.{Bool, IsTrue, OnOk, false, length, nat_le, true};
-ghost use Rattle.service.specs.Member.{IsDeadline};
-ghost use Rattle.service.specs.Together.{AreFull, AreHeavyInTime, AreSeenTo, HoldLittle};
+ghost use Rattle.std.specs.Prelude.{Bool, IsTrue, None, OnOk, false, length, nat_le, true};
+ghost use Rattle.service.specs.Member.{IsDeadline, load_after, no_load};
+ghost use Rattle.service.specs.Rounds.{ArePressed, EndLate};
+ghost use Rattle.service.specs.Together.{AreHeavyInTime, AreSeenTo, HoldLittle};
 ghost use Rattle.service.specs.Together.{LeavesPlaced, LeavesTogether, MayEndAt, OthersAreSame};
 ghost use Rattle.service.specs.Together.{SparesInTime, WakesAfter, WakesInTime};
 ghost use Rattle.service.specs.Together.{first_deadline, member_at};
@@ -38,6 +39,8 @@ impl<S: Peer + Drop> Together<S> {
             self.old.members.entries self.new.members.entries }
         ensures heavy { nat_le 268435456 self.new.scales.load.requests ≡ true
             → AreHeavyInTime self.old.idle now self.new.members.entries }
+        ensures late { EndLate self.old.idle now self.old.members.entries self.old.scales.load
+            self.new.members.entries self.new.scales.load }
     {
         if now < self.wake && !self.is_pressed() {
             return;
@@ -59,9 +62,7 @@ impl<S: Peer + Drop> Together<S> {
 
     /// Whether others wait for memory, as requests that aren't whole or answers hold too much.
     fn is_pressed(&self) -> bool
-        ensures requests { nat_le 268435456 self.now.scales.load.requests ≡ true → IsTrue result }
-        ensures answers { nat_le 268435456 self.now.scales.load.requests ≡ false
-            → AreFull self.now.members.entries self.now.scales.load result }
+        ensures { ArePressed self.now.members.entries self.now.scales.load result }
     {
         is_too_much(self.scales.load.requests) || self.is_full()
     }
@@ -110,7 +111,10 @@ impl<S: Peer + Drop> Together<S> {
         ensures places { LeavesPlaced N.places (sockets.old, self.old.members.entries)
             (sockets.new, self.new.members.entries) }
         ensures fewer { length self.new.members.entries + 1 ≡ length self.old.members.entries }
+        ensures gone { member_at self.new.members.entries number ≡ None }
         ensures others { OthersAreSame number self.old.members.entries self.new.members.entries }
+        ensures less { IfSome (member_at self.old.members.entries number) (λ m.
+            self.new.scales.load ≡ load_after self.old.scales.load m.load no_load) }
         ensures idle { self.new.idle ≡ self.old.idle }
         ensures seen { AreSeenTo S.full S.dry self.old → AreSeenTo S.full S.dry self.new }
         ensures little { HoldLittle self.old.scales.load → HoldLittle self.new.scales.load }

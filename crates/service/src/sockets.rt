@@ -47,8 +47,12 @@ pub trait Peer {
     /// begin to count anew, say so.
     ghost quiet: { Self → ℕ → Type 0 };
 
+    /// That a call was made there at this time. Only the calls say so.
+    ghost tried: { Self → ℕ → Type 0 };
+
     /// Reads some bytes into a buffer that has room, none only at the end.
     fn read(&mut self, buffer: &mut [u8], now: u64) -> io::Result<usize>
+        ensures tried { tried self.new now }
         ensures bound { ReadsAtMost result buffer.new }
         ensures read { IfOk result (λ count.
             ReadsFrom spoke self.old (take count buffer.new) self.new) }
@@ -64,6 +68,7 @@ pub trait Peer {
 
     /// Sends some of the bytes, of which there are some, and none only where it is over.
     fn write(&mut self, bytes: &[u8], now: u64) -> io::Result<usize>
+        ensures tried { tried self.new now }
         ensures bound { WritesAtMost result bytes.now }
         ensures sent { IfOk result (λ count.
             SendsTo spoke self.old (take count bytes.now) self.new) }
@@ -93,13 +98,15 @@ pub trait Peer {
         ensures found { IsTrue result → over self.now Silent };
 
     /// Ends the writing side.
-    fn shut(&mut self)
+    fn shut(&mut self, now: u64)
+        ensures tried { tried self.new now }
         ensures stays { Stays spoke self.old self.new }
         ensures still { StaysQuiet quiet self.old self.new }
         ensures shut { over self.new Shut };
 
     /// Drops some of what still comes, none only at the end.
     fn discard(&mut self, buffer: &mut [u8], now: u64) -> io::Result<usize>
+        ensures tried { tried self.new now }
         ensures stays { Stays spoke self.old self.new }
         ensures moved { IfOk result (IsQuietAfter quiet now self.old self.new) }
         ensures still { OnErr result (StaysQuiet quiet self.old self.new) }

@@ -211,6 +211,7 @@ impl<S: Peer + Drop> Together<S> {
             (self.old.members.entries, server) (self.new.members.entries, server) }
         ensures places { LeavesPlaced N.places (sockets.old, self.old.members.entries)
             (sockets.new, self.new.members.entries) }
+        ensures short { OnOk result (self.old.short ≡ false) }
         ensures stops { IfErr result (λ e. N.broken e
             ⊎ ((self.old.short ≡ true) × (error_kind e ≡ OutOfMemory))) }
     {

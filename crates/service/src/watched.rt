@@ -52,6 +52,7 @@ impl<S: Peer> Watched<S> {
     }
 
     pub(crate) fn read(&mut self, buffer: &mut [u8], now: u64) -> io::Result<usize>
+        ensures tried { S.tried self.new.stream now }
         ensures bound { ReadsAtMost result buffer.new }
         ensures read { IfOk result (λ count.
             ReadsFrom S.spoke self.old.stream (take count buffer.new) self.new.stream) }
@@ -70,6 +71,7 @@ impl<S: Peer> Watched<S> {
     }
 
     pub(crate) fn write(&mut self, bytes: &[u8], now: u64) -> io::Result<usize>
+        ensures tried { S.tried self.new.stream now }
         ensures bound { WritesAtMost result bytes.now }
         ensures sent { IfOk result (λ count.
             SendsTo S.spoke self.old.stream (take count bytes.now) self.new.stream) }
@@ -89,6 +91,7 @@ impl<S: Peer> Watched<S> {
     }
 
     pub(crate) fn discard(&mut self, buffer: &mut [u8], now: u64) -> io::Result<usize>
+        ensures tried { S.tried self.new.stream now }
         ensures stays { Stays S.spoke self.old.stream self.new.stream }
         ensures shut { StaysShut S.over self.old.stream self.new.stream }
         ensures end { IfOk result (λ count. count ≡ 0 → S.over self.new.stream Finished) }
@@ -103,12 +106,13 @@ impl<S: Peer> Watched<S> {
         called
     }
 
-    pub(crate) fn shut(&mut self)
+    pub(crate) fn shut(&mut self, now: u64)
+        ensures tried { S.tried self.new.stream now }
         ensures stays { Stays S.spoke self.old.stream self.new.stream }
         ensures shut { S.over self.new.stream Shut }
         ensures moved { self.new.moved ≡ self.old.moved }
     {
-        self.stream.shut();
+        self.stream.shut(now);
     }
 
     /// It waits for others, and isn't silent by itself.

@@ -1,8 +1,8 @@
 //! How an answer is sent.
 ghost use Rattle.std.specs.Prelude.{◌≡◌, ◌↔◌, ◌<◌, ◌≤◌, [], length, take, IfErr, IfOk, IsTrue};
-ghost use Rattle.std.specs.Prelude.{OnErr};
+ghost use Rattle.std.specs.Prelude.{OnErr, OnOk};
 ghost use Rattle.std.specs.IoError.{error_kind};
-ghost use Rattle.std.specs.declared.io.ErrorKind.TheVariants.{WouldBlock};
+ghost use Rattle.std.specs.declared.io.ErrorKind.TheVariants.{OutOfMemory, WouldBlock};
 ghost use Rattle.service.specs.Member.{Passes, PassesSent, PausesFor, end_of};
 ghost use Rattle.service.specs.Sockets.{Failed, IsBroken, SendsTo, Stays};
 
@@ -22,6 +22,8 @@ impl<S: Peer + Drop> Member<S> {
         ensures passes { Passes (end_of result) S.spoke S.over self.old self.new }
         ensures pauses { PausesFor S.full S.dry ⊥ result self.new }
         ensures queued { self.new.queued ≡ self.old.queued }
+        ensures tried { result ≡ Turn.Again → S.tried self.new.stream now }
+        ensures keeps { self.new.load.requests ≡ self.old.load.requests }
     {
         match self.write_some(desk, now) {
             Ok(count) => self.pass(count),
@@ -31,6 +33,10 @@ impl<S: Peer + Drop> Member<S> {
 
     /// Writes some of what isn't sent.
     fn write_some(&mut self, desk: &mut Desk, now: u64) -> io::Result<usize>
+        requires { self.old.unsent ≡ [] → ⊥ }
+        ensures tried { OnOk result (S.tried self.new.stream now) }
+        ensures failed { IfErr result (λ e. (error_kind e ≡ OutOfMemory → ⊥)
+            → S.tried self.new.stream now) }
         ensures same { self.new
             ≡ record self.old { stream = self.new.stream; moved = self.new.moved } }
         ensures sent { IfOk result (λ count.
@@ -65,6 +71,8 @@ impl<S: Peer + Drop> Member<S> {
         ensures none { count ≡ 0 → result ≡ Turn.Ends (Err ConnError.WriteFault) }
         ensures some { 0 < count → result ≡ Turn.Again }
         ensures queued { self.new.queued ≡ self.old.queued }
+        ensures stream { self.new.stream ≡ self.old.stream }
+        ensures keeps { self.new.load.requests ≡ self.old.load.requests }
     {
         if count == 0 {
             return Turn::Ends(Err(ConnError::WriteFault));

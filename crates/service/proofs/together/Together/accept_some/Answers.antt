@@ -16,6 +16,7 @@ pub loop-preserved : goal.loop-preserved
 loop-preserved g c = record {
   keeps = λ server. keeps_further (c.loop.invariant.keeps server) (c.accept_one.ensures.keeps server);
   places = placed_further c.loop.invariant.places c.accept_one.ensures.places;
+  count = counts_on c.loop.self.waits c.accept_one.new.self.waits c.args.accepted.now c.loop.counter c.loop.accepted c.accept_one.new.accepted (search rules) c.loop.invariant.count c.accept_one.ensures.one;
   within = c.accept_one.ensures.within;
   again = λ was. c.accept_one.ensures.again (search rules);
   seen = λ seen. c.accept_one.ensures.seen (c.loop.invariant.seen seen);
@@ -31,6 +32,7 @@ loop-init g c =
     record {
       keeps = λ server. keeps_same false g.S.Peer.spoke g.N.Sockets.ended g.N.Sockets.lost f t c.args.accepted.now server same;
       places = placed_still c.args.sockets.now f t c.args.accepted.now same;
+      count = inr (omega arith);
       within = c.requires;
       again = λ was shut. let z : false ≡ true = sym shut ∙ c.try_again.ensures.waits was in absurd cc;
       seen = seen_same g.S.Peer.full g.S.Peer.dry c.args.self.now c.try_again.new.self rest;

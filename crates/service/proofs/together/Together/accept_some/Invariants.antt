@@ -9,6 +9,7 @@ abbrev pub invariant-loop : goal.invariant-loop
 invariant-loop g l = record {
   keeps : (server : ServerValue) → GoesOnTogether false g.S.Peer.spoke g.N.Sockets.ended g.N.Sockets.lost l.fn.self.members.entries l.fn.accepted server l.self.members.entries l.accepted server;
   places : StaysPlaced g.N.Sockets.places l.fn.at_once l.fn.sockets l.fn.self.members.entries l.fn.accepted l.sockets l.self.members.entries l.accepted;
+  count : (l.self.waits ≡ false) ⊎ (l.fn.accepted + l.counter ≡ l.accepted);
   within : l.accepted ≤ l.fn.connections;
   again : IsTrue l.fn.self.waits ⊎ (l.fn.self.retry ≤ l.fn.now) → l.self.waits ≡ false → FindsNone g.N.Sockets.refused l.sockets ⊎ (l.self.retry ≡ min (l.fn.now + 500) 18446744073709551615);
   seen : AreSeenTo g.S.Peer.full g.S.Peer.dry l.fn.self → AreSeenTo g.S.Peer.full g.S.Peer.dry l.self;

@@ -9,6 +9,7 @@ pub loop-preserved : goal.loop-preserved
 loop-preserved g c = record {
   keeps = λ accepted. keeps_further (c.loop.invariant.keeps accepted) (c.turn.ensures.keeps accepted);
   seen = λ seen. c.turn.ensures.seen (c.loop.invariant.seen seen);
+  turns = turn_now g.S.Peer.tried _ c.loop.counter c.args.self.now c.loop.self c.turn.new.self c.loop.invariant.turns c.turn.ensures.turns;
   eased = λ eased. c.turn.ensures.eased (c.loop.invariant.eased eased);
   places = λ all accepted. placed_further (c.loop.invariant.places all accepted) (c.turn.ensures.places all accepted);
 }

@@ -3,6 +3,7 @@ use Rattle.std.specs.Prelude.{IfSome}
 use Rattle.service.specs.Member.{deadline_at}
 use Rattle.service.proofs.Keeping.{keeps_further}
 use Rattle.service.proofs.Places.{placed_further}
+use Rattle.service.proofs.Rounds.{ends_one}
 use Rattle.service.proofs.Seeing.{seen_wake}
 use Rattle.service.proofs.Waking.{first_at_most, is_calm, or_never, spares_on}
 use Rattle.service.proofs.Whole.{none_open}
@@ -18,6 +19,9 @@ loop-preserved g c = record {
       c.args.self.now.members.entries c.loop.self.members.entries c.give_up.new.self.members.entries
       (λ is. is_calm c.loop.self.members.entries c.loop.self.scales.load c.is_pressed-pressed.result c.is_pressed-pressed.ensures.answers (c.loop.invariant.little (few is)))
       (c.loop.invariant.spares calm few) c.loop.invariant.idle c.in-Err.ensures.late c.in-Err.ensures.due c.give_up.ensures.others;
+  late = ends_one c.args.self.now.idle c.loop.self.idle c.is_pressed-pressed.result c.args.now c.in-Err.number c.in-Err.deadline
+      c.args.self.now.members.entries c.loop.self.members.entries c.give_up.new.self.members.entries c.args.self.now.scales.load c.loop.self.scales.load c.give_up.new.self.scales.load
+      c.loop.invariant.late c.loop.invariant.idle c.in-Err.ensures.open c.is_pressed-pressed.ensures c.in-Err.ensures.late c.in-Err.ensures.due c.give_up.ensures.gone c.give_up.ensures.others c.give_up.ensures.less;
   little = λ few. c.give_up.ensures.little (c.loop.invariant.little few);
   fewer = omega (arith, c.give_up.ensures.fewer, c.loop.invariant.fewer);
 }

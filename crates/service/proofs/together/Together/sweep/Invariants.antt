@@ -1,5 +1,6 @@
 use Rattle.std.specs.Prelude.{Bool, false, true}
 use Rattle.std.proofs.Common.{◌≡◌, ℕ, ◌+◌, length}
+use Rattle.service.specs.Rounds.{EndLate}
 use Rattle.service.specs.Together.{AreSeenTo, GoesOnTogether, HoldLittle, LeavesPlaced, SparesInTime}
 use Rattle.service.proofs.together.Together.sweep.Given as goal
 
@@ -10,6 +11,7 @@ invariant-loop g l = record {
   seen : AreSeenTo g.S.Peer.full g.S.Peer.dry l.fn.self → AreSeenTo g.S.Peer.full g.S.Peer.dry l.self;
   idle : l.self.idle ≡ l.fn.self.idle;
   spares : (calm : Bool) → (calm ≡ true → HoldLittle l.fn.self.scales.load) → SparesInTime calm l.fn.self.idle l.fn.now l.fn.self.members.entries l.self.members.entries;
+  late : EndLate l.fn.self.idle l.fn.now l.fn.self.members.entries l.fn.self.scales.load l.self.members.entries l.self.scales.load;
   little : HoldLittle l.fn.self.scales.load → HoldLittle l.self.scales.load;
   fewer : l.counter + length l.self.members.entries ≡ length l.fn.self.members.entries;
 }

@@ -1,4 +1,4 @@
-use Rattle.std.proofs.Common.{◌≡◌, ◌∷◌, false, Option, Some, None, refl, sym, ◌∙◌, subst, rules, arith}
+use Rattle.std.proofs.Common.{◌≡◌, ◌∷◌, false, Option, Some, None, refl, sym, ◌∙◌, ap, subst, rules, arith}
 use Rattle.std.specs.Prelude.{Err, IfSome}
 use Rattle.cache_server.specs.declared.error.ConnError.TheVariants.{Memory}
 use Rattle.service.specs.Member.{AwaitsEvent, MemberValue, end_of}
@@ -6,6 +6,8 @@ use Rattle.service.specs.Together.{MovesOnAt, member_at}
 use Rattle.service.specs.declared.turn.Turn.TheVariants.{Again, Held, Waits}
 use Rattle.service.proofs.Keeping.{keeps_further, keeps_moved, keeps_left, keeps_lost, keeps_queued}
 use Rattle.service.proofs.Places.{placed_further, placed_moved, placed_queued}
+use Rattle.service.proofs.Rounds.{is_behind, is_out}
+use Rattle.service.specs.declared.together.Together.{Together}
 use Rattle.service.proofs.Seeing.{ended_keeps, first_keeps, had_turn, kept_after, keeps_on, list_keeps, seen_awaiting, seen_gone, seen_held, seen_queued}
 use Rattle.service.proofs.Whole.{none_stays, others_stay}
 use Rattle.service.proofs.together.Together.turn.Goals as goal
@@ -125,3 +127,31 @@ returns-in_default-advance-clause-seen g c =
     let first : t.ready.items ≡ k ∷ c.pop_front.new.self.items = search rules in
     seen_gone g.S.Peer.full g.S.Peer.dry k t u (first_keeps k t u (λ j n. same.0 j) c.advance.ensures.rest first refl refl refl (omega (arith, still)))
     (same.0 k ∙ c.advance.ensures.none c.in_default-advance.is)
+
+pub returns-in-Again-clause-turns : goal.returns-in-Again-clause-turns
+returns-in-Again-clause-turns g c =
+    let first : c.args.self.now.ready.items ≡ c.in-Some.number ∷ c.pop_front.new.self.items = search rules in
+    is_behind g.S.Peer.tried c.args.now c.in-Some.number c.args.self.now c.advance.new.self c.queue.new.self first c.advance.ensures.rest
+    (c.in-Some-advance.ensures.ahead c.in-Again.is) c.in-Some-advance.ensures.queued c.queue.ensures.at c.queue.ensures.list
+
+pub returns-in-Waits-clause-turns : goal.returns-in-Waits-clause-turns
+returns-in-Waits-clause-turns g c =
+    is_out g.S.Peer.tried c.args.now c.in-Some.number c.pop_front.new.self.items c.args.self.now c.advance.new.self (search rules) (ap (λ (z : Together g.row.S.Denot). z.ready.items) c.advance.ensures.rest)
+
+pub returns-else-is_err-clause-turns : goal.returns-else-is_err-clause-turns
+returns-else-is_err-clause-turns g c =
+    is_out g.S.Peer.tried c.args.now c.in-Some.number c.pop_front.new.self.items c.args.self.now (record c.advance.new.self { held = c.list.new.held }) (search rules) (ap (λ (z : Together g.row.S.Denot). z.ready.items) c.advance.ensures.rest)
+
+pub returns-then-is_err-clause-turns : goal.returns-then-is_err-clause-turns
+returns-then-is_err-clause-turns g c =
+    is_out g.S.Peer.tried c.args.now c.in-Some.number c.pop_front.new.self.items c.args.self.now c.end.new.self (search rules)
+    (ap (λ (z : Together g.row.S.Denot). z.ready.items) c.end.ensures.rest ∙ ap (λ (z : Together g.row.S.Denot). z.ready.items) c.advance.ensures.rest)
+
+pub returns-in-Ends-clause-turns : goal.returns-in-Ends-clause-turns
+returns-in-Ends-clause-turns g c =
+    is_out g.S.Peer.tried c.args.now c.in-Some.number c.pop_front.new.self.items c.args.self.now c.end-in-Ends.new.self (search rules)
+    (ap (λ (z : Together g.row.S.Denot). z.ready.items) c.end-in-Ends.ensures.rest ∙ ap (λ (z : Together g.row.S.Denot). z.ready.items) c.advance.ensures.rest)
+
+pub returns-in_default-advance-clause-turns : goal.returns-in_default-advance-clause-turns
+returns-in_default-advance-clause-turns g c =
+    is_out g.S.Peer.tried c.args.now c.in-Some.number c.pop_front.new.self.items c.args.self.now c.advance.new.self (search rules) (ap (λ (z : Together g.row.S.Denot). z.ready.items) c.advance.ensures.rest)

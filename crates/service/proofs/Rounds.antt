@@ -1,0 +1,80 @@
+-- Who has a turn, and who is ended, one after another.
+use Rattle.std.proofs.Common.{◌≡◌, ℕ, ◌<◌, ◌≤◌, ◌⊎◌, inl, inr, Bool, true, false, Option, Some, None, List, [], ◌∷◌, ◌++◌, length, refl, sym, ◌∙◌, ap, subst, arith}
+use Rattle.std.specs.Prelude.{IfSome, IsSome, if◌then◌else◌, option_map}
+use Rattle.service.specs.Member.{GoesAhead, IsDeadline, MemberValue, in_queue, load_after, no_load}
+use Rattle.service.specs.Rounds.{ArePressed, EndLate, EndsLate, GoesAheadAt, HasTurn, OneEnds, OneTurn, TakeTurns}
+use Rattle.service.specs.Together.{OthersAreSame, joining, member_at}
+use Rattle.service.specs.declared.load.Load.{Load}
+use Rattle.service.specs.declared.together.Together.{Together}
+
+-- once more
+pub goes_further : {S : Type 0} (tried : S → ℕ → Type 0) (now : ℕ) (old mid new : MemberValue S) → GoesAhead tried now old mid → GoesAhead tried now mid new → GoesAhead tried now old new
+goes_further tried now old mid new first (inl t) = inl t
+goes_further tried now old mid new (inl t) (inr (same, less)) = inl (subst (λ s. tried s now) (sym same) t)
+goes_further tried now old mid new (inr (e, before)) (inr (same, less)) = inr (same ∙ e, omega (arith, before, less))
+
+-- or for the first time
+pub goes_first : {S : Type 0} (tried : S → ℕ → Type 0) (now : ℕ) (none : Type 0) (old mid new : MemberValue S) → (none × (mid ≡ old)) ⊎ GoesAhead tried now old mid → GoesAhead tried now mid new → GoesAhead tried now old new
+goes_first tried now none old mid new (inl (z, same)) goes = subst (λ m. GoesAhead tried now m new) same goes
+goes_first tried now none old mid new (inr before) goes = goes_further tried now old mid new before goes
+
+-- that the clock was read makes no difference
+pub turn_now : {S : Type 0} (tried : S → ℕ → Type 0) (now count : ℕ) (old mid new : Together S) → TakeTurns tried count old mid → HasTurn tried now mid new → TakeTurns tried (1 + count) old new
+turn_now tried now count old mid new turns turn = OneTurn count now old mid new turns turn
+
+-- it is out of the queue
+pub is_out : {S : Type 0} (tried : S → ℕ → Type 0) (now k : ℕ) (others : List ℕ) (old new : Together S) → old.ready.items ≡ k ∷ others → new.ready.items ≡ others → HasTurn tried now old new
+is_out tried now k others old new was is = inr (record {
+  first = k;
+  others = others;
+  was = was;
+  is = λ few. inl is;
+})
+
+joining_one : {S : Type 0} (k : ℕ) (o : Option (MemberValue S)) (m : MemberValue S) → o ≡ Some m → IfSome o (λ m. m.queued ≡ false) → joining o k ≡ k ∷ []
+joining_one {S} k o m is queued = ap (λ o. joining o k) is ∙ ap (λ b. if b then [] else k ∷ []) (subst (λ o. IfSome o (λ m. m.queued ≡ false)) is queued)
+
+-- or behind the others there
+pub is_behind : {S : Type 0} {w : Together S} (tried : S → ℕ → Type 0) (now k : ℕ) (old mid new : Together S) → old.ready.items ≡ k ∷ w.ready.items → mid ≡ w
+    → GoesAheadAt tried now k old.members.entries mid.members.entries → IfSome (member_at mid.members.entries k) (λ m. m.queued ≡ false)
+    → member_at new.members.entries k ≡ option_map in_queue (member_at mid.members.entries k) → (new.short ≡ false → new.ready.items ≡ mid.ready.items ++ joining (member_at mid.members.entries k) k)
+    → HasTurn tried now old new
+is_behind {S} {w} tried now k old mid new was rest goes queued at list = inr (record {
+  first = k;
+  others = w.ready.items;
+  was = was;
+  is = λ few. inr (
+    list few ∙ ap (λ (z : Together S). z.ready.items ++ joining (member_at mid.members.entries k) k) rest ∙ ap (λ ks. w.ready.items ++ ks) (joining_one k (member_at mid.members.entries k) goes.after goes.at queued),
+    record {
+      before = goes.before;
+      after = in_queue goes.after;
+      held = goes.held;
+      at = at ∙ ap (option_map in_queue) goes.at;
+      goes = goes.goes;
+    },
+  );
+})
+
+-- one more is ended
+pub ends_one : {S : Type 0} (idle limit : Option ℕ) (pressed : Bool) (now number deadline : ℕ) (old mid new : List (ℕ × MemberValue S)) (before between after : Load)
+    → EndLate idle now old before mid between → limit ≡ idle → IsSome (member_at mid number) → ArePressed mid between pressed
+    → IfSome (member_at mid number) (λ m. IsDeadline m limit pressed (Some deadline)) → deadline ≤ now → member_at new number ≡ None → OthersAreSame number mid new
+    → IfSome (member_at mid number) (λ m. after ≡ load_after between m.load no_load) → EndLate idle now old before new after
+ends_one {S} idle limit pressed now number deadline old mid new before between after ends same open are late due gone others less =
+    OneEnds old mid new before between after ends (by (member_at mid number) refl open late less)
+  where
+    by : (o : Option (MemberValue S)) → member_at mid number ≡ o → IsSome o → IfSome o (λ m. IsDeadline m limit pressed (Some deadline)) → IfSome o (λ m. after ≡ load_after between m.load no_load) → EndsLate idle now mid between new after
+    by None at open late less = absurd open
+    by (Some m) at open late less = record {
+      k = number;
+      m = m;
+      open = at;
+      pressed = pressed;
+      are = are;
+      deadline = deadline;
+      is = subst (λ l. IsDeadline m l pressed (Some deadline)) same late;
+      over = due;
+      gone = gone;
+      others = others;
+      less = less;
+    }
