@@ -1,8 +1,8 @@
 -- Who has a turn, and who is ended, one after another.
-use Rattle.std.proofs.Common.{◌≡◌, ℕ, ◌<◌, ◌≤◌, ◌⊎◌, inl, inr, Bool, true, false, Option, Some, None, List, [], ◌∷◌, ◌++◌, length, refl, sym, ◌∙◌, ap, subst, arith}
+use Rattle.std.proofs.Common.{◌≡◌, ℕ, ◌+◌, ◌≤◌, ◌⊎◌, inl, inr, Bool, true, false, Option, Some, None, List, [], ◌∷◌, ◌++◌, refl, sym, ◌∙◌, ap, subst, arith}
 use Rattle.std.specs.Prelude.{IfSome, IsSome, if◌then◌else◌, option_map}
 use Rattle.service.specs.Member.{GoesAhead, IsDeadline, MemberValue, in_queue, load_after, no_load}
-use Rattle.service.specs.Rounds.{ArePressed, EndLate, EndsLate, GoesAheadAt, HasTurn, OneEnds, OneTurn, TakeTurns}
+use Rattle.service.specs.Rounds.{ArePressed, EndLate, EndsLate, GoesAheadAt, HasTurn, NoneEnds, OneEnds}
 use Rattle.service.specs.Together.{OthersAreSame, joining, member_at}
 use Rattle.service.specs.declared.load.Load.{Load}
 use Rattle.service.specs.declared.together.Together.{Together}
@@ -18,9 +18,20 @@ pub goes_first : {S : Type 0} (tried : S → ℕ → Type 0) (now : ℕ) (none :
 goes_first tried now none old mid new (inl (z, same)) goes = subst (λ m. GoesAhead tried now m new) same goes
 goes_first tried now none old mid new (inr before) goes = goes_further tried now old mid new before goes
 
--- that the clock was read makes no difference
-pub turn_now : {S : Type 0} (tried : S → ℕ → Type 0) (now count : ℕ) (old mid new : Together S) → TakeTurns tried count old mid → HasTurn tried now mid new → TakeTurns tried (1 + count) old new
-turn_now tried now count old mid new turns turn = OneTurn count now old mid new turns turn
+-- none yet
+pub none_ends : {S : Type 0} (idle : Option ℕ) (now : ℕ) (members : List (ℕ × MemberValue S)) (load : Load) → EndLate idle now members load members load
+none_ends idle now members load = NoneEnds members load
+
+-- the connection with the number went ahead
+pub goes_at : {S : Type 0} (tried : S → ℕ → Type 0) (now k : ℕ) (old new : List (ℕ × MemberValue S)) (before after : MemberValue S) → member_at old k ≡ Some before → member_at new k ≡ Some after
+    → GoesAhead tried now before after → GoesAheadAt tried now k old new
+goes_at tried now k old new before after held at goes = record {
+  before = before;
+  after = after;
+  held = held;
+  at = at;
+  goes = goes;
+}
 
 -- it is out of the queue
 pub is_out : {S : Type 0} (tried : S → ℕ → Type 0) (now k : ℕ) (others : List ℕ) (old new : Together S) → old.ready.items ≡ k ∷ others → new.ready.items ≡ others → HasTurn tried now old new
@@ -60,15 +71,15 @@ pub ends_one : {S : Type 0} (idle limit : Option ℕ) (pressed : Bool) (now numb
     → EndLate idle now old before mid between → limit ≡ idle → IsSome (member_at mid number) → ArePressed mid between pressed
     → IfSome (member_at mid number) (λ m. IsDeadline m limit pressed (Some deadline)) → deadline ≤ now → member_at new number ≡ None → OthersAreSame number mid new
     → IfSome (member_at mid number) (λ m. after ≡ load_after between m.load no_load) → EndLate idle now old before new after
-ends_one {S} idle limit pressed now number deadline old mid new before between after ends same open are late due gone others less =
-    OneEnds old mid new before between after ends (by (member_at mid number) refl open late less)
+ends_one {S} idle limit pressed now number deadline old mid new before between after ends same some are late due gone others less =
+    OneEnds old mid new before between after ends (by (member_at mid number) refl some late less)
   where
     by : (o : Option (MemberValue S)) → member_at mid number ≡ o → IsSome o → IfSome o (λ m. IsDeadline m limit pressed (Some deadline)) → IfSome o (λ m. after ≡ load_after between m.load no_load) → EndsLate idle now mid between new after
-    by None at open late less = absurd open
-    by (Some m) at open late less = record {
+    by None at some late less = let c : false ≡ true = some in absurd cc
+    by (Some m) at some late less = record {
       k = number;
       m = m;
-      open = at;
+      held = at;
       pressed = pressed;
       are = are;
       deadline = deadline;
@@ -78,3 +89,9 @@ ends_one {S} idle limit pressed now number deadline old mid new before between a
       others = others;
       less = less;
     }
+
+-- one more was accepted, or none waits
+pub counts_on : (was is : Bool) (first count mid new : ℕ) → was ≡ true → (was ≡ false) ⊎ (first + count ≡ mid) → (new ≡ mid + 1) ⊎ ((is ≡ false) × (new ≡ mid)) → (is ≡ false) ⊎ (first + (count + 1) ≡ new)
+counts_on was is first count mid new waits before (inr (none, same)) = inl none
+counts_on was is first count mid new waits (inl none) (inl one) = let c : true ≡ false = sym waits ∙ none in absurd cc
+counts_on was is first count mid new waits (inr all) (inl one) = inr (omega (arith, all, one))

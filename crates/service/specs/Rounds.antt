@@ -1,5 +1,5 @@
 -- One after another: turns of those in the queue, and ends of those that were silent for too long.
-use Rattle.std.specs.Prelude.{◌≡◌, ℕ, zero, suc, ◌≤◌, ◌⊎◌, ◌++◌, ◌∷◌, [], List, Bool, true, false}
+use Rattle.std.specs.Prelude.{◌≡◌, ℕ, ◌+◌, ◌≤◌, ◌⊎◌, ◌++◌, ◌∷◌, [], List, Bool, true, false}
 use Rattle.std.specs.Prelude.{Option, Some, None, nat_le}
 use Rattle.service.specs.Member.{GoesAhead, IsDeadline, MemberValue, load_after, no_load}
 use Rattle.service.specs.Together.{AreFull, AreSameButHeld, OthersAreSame, member_at}
@@ -27,18 +27,19 @@ pub record FirstHasTurn
       ⊎ ((new.ready.items ≡ others ++ first ∷ [])
       × GoesAheadAt tried now first old.members.entries new.members.entries)
 
--- so it is, or the queue was empty, and nothing changed
+-- so it is, or the queue was empty and still is, and the connections are the same
 abbrev pub HasTurn : {S : Type 0} → (S → ℕ → Type 0) → ℕ → Together S → Together S → Type 0
 HasTurn tried now old new =
-    ((old.ready.items ≡ []) × (new ≡ old)) ⊎ FirstHasTurn tried now old new
+    ((old.ready.items ≡ []) × (new.ready.items ≡ []) × (new.members ≡ old.members))
+    ⊎ FirstHasTurn tried now old new
 
 -- so many turns, one after another
 pub data TakeTurns {S : Type 0} (tried : S → ℕ → Type 0)
     : ℕ → Together S → Together S → Type 0 where
-  NoTurn : (all : Together S) → TakeTurns tried zero all all
+  NoTurn : (all : Together S) → TakeTurns tried 0 all all
   OneTurn : (count now : ℕ) (old mid new : Together S)
       → TakeTurns tried count old mid → HasTurn tried now mid new
-      → TakeTurns tried (suc count) old new
+      → TakeTurns tried (count + 1) old new
 
 -- so many turns, and then those that waited for others may wait no more
 pub record TakesTurns
@@ -62,7 +63,7 @@ pub record EndsLate
     (members' : List (ℕ × MemberValue S)) (load' : Load) : Type 0 where
   pub k : ℕ
   pub m : MemberValue S
-  pub open : member_at members k ≡ Some m
+  pub held : member_at members k ≡ Some m
   pub pressed : Bool
   pub are : ArePressed members load pressed
   pub deadline : ℕ

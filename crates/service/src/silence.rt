@@ -18,7 +18,7 @@ use std::alloc::Global;
 impl<S: Peer + Drop> Together<S> {
     /// Ends the connections that were silent for too long by this time, one after another. As long
     /// as others wait for memory, those that hold much may be silent for less.
-    #[tactic(auto, using(crate::proofs::Keeping::keeps_nowhere, crate::proofs::Keeping::keeps_further, crate::proofs::Places::placed_nowhere, crate::proofs::Waking::spares_all))]
+    #[tactic(auto, using(crate::proofs::Keeping::keeps_nowhere, crate::proofs::Keeping::keeps_further, crate::proofs::Places::placed_nowhere, crate::proofs::Rounds::none_ends, crate::proofs::Waking::spares_all))]
     pub(crate) fn sweep<R: Log, N: Sockets<Stream = S>>(
         &mut self,
         rt: &R,

@@ -16,3 +16,10 @@ returns-then-self-len-clause-share g c none few =
     let long = ap length left in
     let size = length-drop c.self.inside.at c.self.inside.input.items in
     absurd (omega (arith, long, size, c.if-self-len.true))
+
+pub go_on-requires-clause-some : goal.go_on-requires-clause-some
+go_on-requires-clause-some g c none =
+    let left : drop c.self.inside.at c.self.inside.input.items ≡ [] = ap (λ (z : MemberValue g.row.S.Denot). z.left) c.self.view_is ∙ none in
+    let long = ap length left in
+    let size = length-drop c.self.inside.at c.self.inside.input.items in
+    absurd (omega (arith, long, size, c.if-self-len.true))

@@ -1,8 +1,9 @@
 use Rattle.std.specs.Prelude.{false}
-use Rattle.std.proofs.Common.{◌≡◌, true, length, sym, ◌∙◌, ap, subst, rules}
+use Rattle.std.proofs.Common.{◌≡◌, inr, arith, true, length, sym, ◌∙◌, ap, subst, rules}
 use Rattle.service.specs.Together.{AreSame, WakesAfter, member_at}
 use Rattle.service.proofs.Keeping.{keeps_further, keeps_same}
 use Rattle.service.proofs.Places.{placed_further, placed_still}
+use Rattle.service.proofs.Rounds.{counts_on}
 use Rattle.service.proofs.Seeing.{seen_same}
 use Rattle.service.proofs.together.Together.accept_some.Goals as goal
 
@@ -16,7 +17,7 @@ pub loop-preserved : goal.loop-preserved
 loop-preserved g c = record {
   keeps = λ server. keeps_further (c.loop.invariant.keeps server) (c.accept_one.ensures.keeps server);
   places = placed_further c.loop.invariant.places c.accept_one.ensures.places;
-  count = counts_on c.loop.self.waits c.accept_one.new.self.waits c.args.accepted.now c.loop.counter c.loop.accepted c.accept_one.new.accepted (search rules) c.loop.invariant.count c.accept_one.ensures.one;
+  count = counts_on c.loop.self.waits c.accept_one.new.self.waits c.args.accepted.now c.loop.counter c.loop.accepted c.accept_one.new.accepted (search rules) c.loop.invariant.count c.in_ok-accept_one.ensures.one;
   within = c.accept_one.ensures.within;
   again = λ was. c.accept_one.ensures.again (search rules);
   seen = λ seen. c.accept_one.ensures.seen (c.loop.invariant.seen seen);

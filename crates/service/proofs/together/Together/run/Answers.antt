@@ -1,15 +1,16 @@
 use Rattle.std.specs.Prelude.{false}
 use Rattle.service.proofs.Keeping.{keeps_but_held, keeps_further}
-use Rattle.std.proofs.Common.{refl}
+use Rattle.std.proofs.Common.{◌≡◌, inl, length, refl, subst, arith}
 use Rattle.service.proofs.Places.{placed_further, placed_but_held}
 use Rattle.service.proofs.Seeing.{seen_same}
+use Rattle.service.specs.Rounds.{NoTurn, OneTurn, TakeTurns}
 use Rattle.service.proofs.together.Together.run.Goals as goal
 
 pub loop-preserved : goal.loop-preserved
 loop-preserved g c = record {
   keeps = λ accepted. keeps_further (c.loop.invariant.keeps accepted) (c.turn.ensures.keeps accepted);
   seen = λ seen. c.turn.ensures.seen (c.loop.invariant.seen seen);
-  turns = turn_now g.S.Peer.tried _ c.loop.counter c.args.self.now c.loop.self c.turn.new.self c.loop.invariant.turns c.turn.ensures.turns;
+  turns = OneTurn c.loop.counter _ c.args.self.now c.loop.self c.turn.new.self c.loop.invariant.turns c.turn.ensures.turns;
   eased = λ eased. c.turn.ensures.eased (c.loop.invariant.eased eased);
   places = λ all accepted. placed_further (c.loop.invariant.places all accepted) (c.turn.ensures.places all accepted);
 }
@@ -27,3 +28,32 @@ returns-then-self-clause-places g c all accepted =
 pub returns-then-self-clause-seen : goal.returns-then-self-clause-seen
 returns-then-self-clause-seen g c seen =
     c.release.ensures.seen (seen_same g.S.Peer.full g.S.Peer.dry c.loop.self (record c.loop.self { scales = record c.loop.self.scales { eased = false } }) refl (c.loop.invariant.seen seen))
+
+pub loop-init : goal.loop-init
+loop-init g c = record {
+  keeps = λ accepted. record { on = λ prefix opening history keeps. keeps };
+  turns = NoTurn c.args.self.now;
+  seen = λ seen. seen;
+  eased = λ eased. eased;
+  places = λ all accepted. record { on = λ placed. placed };
+}
+
+pub returns-then-self-clause-turns : goal.returns-then-self-clause-turns
+returns-then-self-clause-turns g c =
+    let all : c.loop.counter ≡ length c.args.self.now.ready.items = omega arith in
+    record {
+      last = c.loop.self;
+      turns = subst (λ n. TakeTurns g.S.Peer.tried n c.args.self.now c.loop.self) all c.loop.invariant.turns;
+      now = _;
+      same = c.release.ensures.same;
+    }
+
+pub returns-else-self-clause-turns : goal.returns-else-self-clause-turns
+returns-else-self-clause-turns g c =
+    let all : c.loop.counter ≡ length c.args.self.now.ready.items = omega arith in
+    record {
+      last = c.loop.self;
+      turns = subst (λ n. TakeTurns g.S.Peer.tried n c.args.self.now c.loop.self) all c.loop.invariant.turns;
+      now = 0;
+      same = (λ j. inl refl, refl);
+    }
