@@ -17,7 +17,7 @@ use crate::connecting::read_prefix;
 use crate::error::CommandError;
 use crate::options::{invalid_value, is_address, number_in};
 use crate::printing::print_all;
-use crate::world::{Listening, Service, World};
+use crate::world::{Hosting, Listening, Service};
 use cache_server::Cache;
 use clap::ArgMatches;
 use command_lines::{option_of, text_of};
@@ -154,7 +154,7 @@ fn read_request<'a>(
 }
 
 /// Listens at the address.
-fn listen<W: World>(alloc: Global, world: &W, address: &str) -> Result<Listening, CommandError>
+fn listen<W: Hosting>(alloc: Global, world: &W, address: &str) -> Result<Listening, CommandError>
     ensures listens { IfOk result (λ l. W.sees.listens address.now l.address) }
     ensures fault { IfErr result (OrMemory (FailsToListen W.sees address.now)) }
 {
@@ -191,7 +191,7 @@ fn print_address<O: Write>(
 
 /// Prints the address where it listens, and serves as many connections as the words say, or without
 /// end.
-pub fn run_serve<W: World, O: Write>(
+pub fn run_serve<W: Hosting, O: Write>(
     alloc: Global,
     world: &W,
     matches: &ArgMatches<'_>,

@@ -11,7 +11,7 @@ use crate::connecting::ServerOptions;
 use crate::ended::Ended;
 use crate::error::{CommandError, OTHER_BYTES, blob_error};
 use crate::printing::print_all;
-use crate::world::World;
+use crate::world::{Inputs, Outputs};
 use blob_digest::Digest;
 use checkout::CheckoutError;
 use remote::Stream;
@@ -82,7 +82,7 @@ fn print_lack<S: Stream + Drop, K: Opened, O: Write>(
 
 /// Writes the tree with the digest into a folder that isn't there or is empty, where the server has
 /// all of it. The line of a blob that it lacks is printed, and what was written before stays.
-pub(crate) fn get_tree<W: World, K: Opened, O: Write>(
+pub(crate) fn get_tree<W: Inputs + Outputs, K: Opened, O: Write>(
     alloc: Global,
     world: &W,
     server: &ServerOptions,
