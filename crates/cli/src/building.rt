@@ -337,7 +337,7 @@ fn ended_of(told: Told<Global>) -> Ended
 }
 
 /// Builds the plan that the words name, and prints the line of what it came to. Where it came to
-/// its root, the record is written first.
+/// its root, the record is written first. By its bound it doesn't listen.
 pub(crate) fn run_build<W: Inputs + Outputs, P: Workplace + Drop, O: Write, T: Write + Drop>(
     alloc: Global,
     world: &W,

@@ -137,7 +137,7 @@ fn get_over<W: Inputs + Outputs, K: Opened, O: Write>(
 }
 
 /// Writes the bytes of the blob whose digest the words spell, or its tree into the folder that they
-/// name, where the server has all of it.
+/// name, where the server has all of it. By its bound it doesn't listen.
 pub fn run_get<W: Inputs + Outputs, O: Write>(
     alloc: Global,
     world: &W,

@@ -207,7 +207,7 @@ fn print_digest<O: Write>(alloc: Global, digest: &Digest, out: &mut O) -> Result
 }
 
 /// Puts the file or the folder that the words name, and prints its digest. On a terminal it tells
-/// how far it is, until it ends.
+/// how far it is, until it ends. By its bound it writes no file, and doesn't listen.
 pub fn run_put<R, W: Inputs, O: Write, T: Write + Drop>(
     rt: &R,
     world: &W,

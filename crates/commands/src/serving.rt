@@ -190,7 +190,7 @@ fn print_address<O: Write>(
 }
 
 /// Prints the address where it listens, and serves as many connections as the words say, or without
-/// end.
+/// end. By its bound it reads and writes no file, and connects to no server.
 pub fn run_serve<W: Hosting, O: Write>(
     alloc: Global,
     world: &W,

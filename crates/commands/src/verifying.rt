@@ -328,7 +328,8 @@ fn ended_of<W: Inputs>(alloc: Global, world: &W, store: Option<String>, is_yes: 
 }
 
 /// Prints the verdict's line, and answers done where it is yes. The words are read first, then the
-/// plan's file and its text, then the record's; then the store or the server is asked.
+/// plan's file and its text, then the record's; then the store or the server is asked. By its bound
+/// it writes no file, and doesn't listen.
 pub fn run_verify<W: Inputs, O: Write>(
     alloc: Global,
     world: &W,
