@@ -115,6 +115,7 @@ fn put_root<S: Stream + Drop, K: Opened>(
 ) -> Result<(), CommandError>
     ensures held { OnOk result
         (HoldsRoot K.start (telling_of (remote_of client.old)) told.now) }
+    ensures whole { OnErr result (ended_of told.now ≡ Ended.Done) }
     ensures fault { IfErr result (OrMemory
         (λ e. ∥ FailsOver puts_too K.start (string_bytes server.now.address) e ∥₁)) }
 {

@@ -83,7 +83,8 @@ pub trait World {
     ghost sees: { Sight };
 }
 
-/// A command reads: files, and servers. It changes nothing but by what it sends to a server.
+/// What a command reads: files and folders, and servers. Nothing changes outside but by what is sent
+/// over a connection.
 pub trait Inputs: World {
     /// A connection to a server.
     type Link: Stream + Drop;
@@ -125,7 +126,7 @@ pub trait Inputs: World {
         ensures fault { IfErr result (Self.sees.refuses (string_bytes server.now.address)) };
 }
 
-/// A command writes: files, and trees into folders.
+/// What a command writes: files, and trees into folders.
 pub trait Outputs: World {
     /// A file or nothing stands at a path, where links are followed, and its folder takes a new
     /// file. Nothing is changed.
@@ -167,7 +168,7 @@ pub trait Outputs: World {
             (IsErrOf result CheckoutError.Fetch) };
 }
 
-/// A command serves: it listens, and takes connections.
+/// By what a command serves: it listens, and takes connections.
 pub trait Hosting: World {
     ghost use Rattle.commands.specs.World.{serving};
 
