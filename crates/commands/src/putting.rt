@@ -243,6 +243,7 @@ where
         place,
     );
     progress.clear();
+    progress.end();
     let digest = put?;
     print_digest(alloc, &digest, out)?;
     Ok(())

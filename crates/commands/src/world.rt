@@ -174,7 +174,8 @@ pub trait Hosting: World {
 
     /// Random keys for the tables of a cache.
     fn random_keys(&self) -> io::Result<RandomState>
-        ensures { IfErr result Self.sees.unrandom };
+        ensures given { OnOk result Self.sees.random }
+        ensures fault { IfErr result Self.sees.unrandom };
 
     /// Listens at an address.
     fn listen(&self, address: &str) -> io::Result<Listening>

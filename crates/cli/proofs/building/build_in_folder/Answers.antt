@@ -21,10 +21,10 @@ returns-in-Ok-clause-told g c =
           (subst (λ r. TellsNothing (telling_of r)) (sym c.new-client.ensures.remote) (nothing_by c.args.remote c.requires.fresh))
           (∥∥₁_map c.tell_build-told.new.sink.over (λ over. (connection_of g.S.Stream.flow remote, over))) _ _
           (record {
-      within = subst (λ w. YieldsNoMore (g.P.Steps.Runner.yields c.steps-runner.result) (g.P.Workplace.below c.args.errors w).yields) work c.steps-runner.ensures.yields;
-      none = c.steps-runner.ensures.unstarted;
-      all = λ started h. subst (λ w. (g.P.Workplace.below c.args.errors w).ran started) c.as_str-2.ensures.value (c.end_steps.ensures.ran c.args.errors started h);
-    }) c.tell_build-told.result c.tell_build-told.ensures.told.came c.tell_build-told.ensures.told.order.fetched _ c.in-Ok.is;
+            within = subst (λ w. YieldsNoMore (g.P.Steps.Runner.yields c.steps-runner.result) (g.P.Workplace.below c.args.errors w).yields) work c.steps-runner.ensures.yields;
+            none = c.steps-runner.ensures.unstarted;
+            all = λ started h. subst (λ w. (g.P.Workplace.below c.args.errors w).ran started) c.as_str-2.ensures.value (c.end_steps.ensures.ran c.args.errors started h);
+          }) c.tell_build-told.result c.tell_build-told.ensures.told.came c.tell_build-told.ensures.told.order.fetched _ c.in-Ok.is;
       holds = c.in_ok-put_root-in-Ok.ensures.held;
     }
 
