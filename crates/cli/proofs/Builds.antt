@@ -8,8 +8,7 @@ use Rattle.clap.specs.Words.{Row, first_of}
 use Rattle.command_lines.specs.CommandLine.{IsSet, option_text}
 use Rattle.commands.specs.Faults.{OrMemory}
 use Rattle.commands.specs.Options.{decimal_number}
-use Rattle.commands.specs.Places.{FailsOver, FailsToConnect, IsConnected, IsFresh, IsToldOver, puts_too}
-use Rattle.commands.proofs.Tellings.{none_unasked}
+use Rattle.commands.specs.Places.{FailsOver, FailsToConnect, IsConnected, IsToldOver, puts_too}
 use Rattle.commands.proofs.Placed.{opened_to}
 use Rattle.commands.specs.Printed.{IsConnectedTo}
 use Rattle.commands.specs.Words.{AllValid, IsUpTo}
@@ -27,8 +26,6 @@ use Rattle.builder.specs.declared.telling.Told.{Told}
 use Rattle.plan.specs.Values.{PlanValue}
 use Rattle.processes.specs.declared.disk.ChildErrors.TheVariants.{Discarded, Shown}
 use Rattle.remote.specs.Line.{ConnectionValue}
-use Rattle.remote.specs.Remote.{blobs_of, results_of, telling_of}
-use Rattle.remote.specs.declared.remote.Remote.{Remote}
 use Rattle.std.specs.Result.{IsErrAnd}
 use Rattle.worker.specs.Counted.{Counts}
 use Rattle.worker.specs.Outcomes.{Yields}
@@ -41,16 +38,6 @@ use Rattle.cli.specs.Refused.{EndsAtServer, FailsBuild, FailsTelling, ReachesSer
 use Rattle.cli.specs.Running.{EndsFor}
 use Rattle.cli.specs.declared.building.Stopped.{Stopped}
 use Rattle.cli.specs.Refused.FailsBuild.{in_connection, in_memory, in_process, in_request}
-
--- nothing is told where nothing was asked
-pub nothing_by : {S : Type 0} (r : Remote S Global) → IsFresh r → TellsNothing (telling_of r)
-nothing_by r fresh = record {
-  blobs = λ d. none_unasked (blobs_of r) d (fresh.blobs d);
-  results = λ d. none_unasked (results_of r) d (fresh.results d);
-  failures = fresh.failures;
-  calls = fresh.calls;
-  puts = fresh.puts;
-}
 
 -- What was told of a build by a source that told nothing before, and now over the connection.
 module _ (start : ConnectionValue) (plan : PlanValue) (sources : DigestValue) (most : ℕ) (old new : Seen) (nothing : TellsNothing old.store) (over : ∥ IsToldOver puts_too start new.store ∥₁)

@@ -19,13 +19,15 @@ use Rattle.http_core.specs.declared.event.Area.TheVariants.{Ac, Cas}
 use Rattle.remote.specs.Folder.{IsNothingAt, IsReadAt, LooksInFolder}
 use Rattle.blob_source.specs.declared.source.FetchError.TheVariants.{Failed, Memory}
 use Rattle.remote.specs.Line.{ConnectionValue, Gets, Puts, RefusesRequest, get, put}
-use Rattle.remote.specs.Remote.{LooksUp, Stores}
+use Rattle.remote.specs.Remote.{LooksUp, Stores, blobs_of, results_of, telling_of}
+use Rattle.remote.specs.declared.remote.Remote.{Remote}
+use Rattle.blob_source.specs.Memory.{TellsNothing}
 use Rattle.remote.specs.Table.{HasAnswer, IsSameBut, KeepsNone, answers, bytes_kept, told_by}
 use Rattle.remote.specs.declared.files.FileError.{FileError}
 use Rattle.remote.specs.declared.table.Table.{Table}
 use Rattle.text_verifier.specs.declared.lack.Lack.{Lack}
 use Rattle.commands.specs.Got.{GetsFirst}
-use Rattle.commands.specs.Places.{Access, CameAllOver, CameOver, Comes, FailsInStore, LacksAll, LacksOver, MaySend, file_of, gets_alone, puts_blobs, puts_too, requests_made, results_put}
+use Rattle.commands.specs.Places.{Access, CameAllOver, CameOver, Comes, FailsInStore, IsFresh, LacksAll, LacksOver, MaySend, file_of, gets_alone, puts_blobs, puts_too, requests_made, results_put}
 use Rattle.commands.specs.Places.Comes.{fresh, got, taken, refused}
 use Rattle.commands.specs.World.{Sight}
 
@@ -201,6 +203,16 @@ none_unasked t d not = by (answers t d) not
     by : {X : Type 0} (o : Option (Option (Vec ℕ X))) → (o ≢ None → ⊥) → bytes_kept o ≡ None
     by None none = refl
     by (Some answer) none = absurd (none some_not_none)
+
+-- a remote that was asked nothing tells nothing
+pub nothing_by : {S : Type 0} (r : Remote S Global) → IsFresh r → TellsNothing (telling_of r)
+nothing_by r fresh = record {
+  blobs = λ d. none_unasked (blobs_of r) d (fresh.blobs d);
+  results = λ d. none_unasked (results_of r) d (fresh.results d);
+  failures = fresh.failures;
+  calls = fresh.calls;
+  puts = fresh.puts;
+}
 
 pub none_lacked : {A : Type 0} (P : DigestValue → Type 0) (t : Table A) → ((d : DigestValue) → HasAnswer t d → ⊥) → LacksAll P t
 none_lacked P t unasked d none = absurd (unasked d (λ e. some_not_none (sym none ∙ e)))

@@ -2,8 +2,9 @@ use Rattle.std.proofs.Common.{◌≡◌, ◌∙◌, inl, inr, refl, rules, strin
 use Rattle.std.proofs.Math.Logic.{∥∥₁_map}
 use Rattle.builder.specs.Faults.{IsStoreFailure, fault_of}
 use Rattle.remote.specs.Remote.{connection_of, telling_of}
-use Rattle.cli.proofs.Builds.{nothing_by, server_stops, stops_of, told_as}
+use Rattle.cli.proofs.Builds.{server_stops, stops_of, told_as}
 use Rattle.commands.proofs.Exits.{exit_by}
+use Rattle.commands.proofs.Tellings.{nothing_by}
 use Rattle.worker.specs.Outcomes.{YieldsNoMore}
 use Rattle.blob_source.specs.Memory.{TellsNothing}
 use Rattle.cli.specs.Refused.{FailsTelling}
