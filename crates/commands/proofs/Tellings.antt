@@ -207,12 +207,12 @@ none_unasked t d not = by (answers t d) not
 
 -- a remote that was asked nothing tells nothing
 pub nothing_by : {S : Type 0} (r : Remote S Global) → IsFresh r → TellsNothing (telling_of r)
-nothing_by r fresh = record {
-  blobs = λ d. none_unasked (blobs_of r) d (fresh.blobs d);
-  results = λ d. none_unasked (results_of r) d (fresh.results d);
-  failures = fresh.failures;
-  calls = fresh.calls;
-  puts = fresh.puts;
+nothing_by r none = record {
+  blobs = λ d. none_unasked (blobs_of r) d (none.blobs d);
+  results = λ d. none_unasked (results_of r) d (none.results d);
+  failures = none.failures;
+  calls = none.calls;
+  puts = none.puts;
 }
 
 pub none_lacked : {A : Type 0} (P : DigestValue → Type 0) (t : Table A) → ((d : DigestValue) → HasAnswer t d → ⊥) → LacksAll P t
