@@ -8,8 +8,7 @@ use Rattle.clap.specs.Words.{Row, first_of}
 use Rattle.command_lines.specs.CommandLine.{IsSet, option_text}
 use Rattle.commands.specs.Faults.{OrMemory}
 use Rattle.commands.specs.Options.{decimal_number}
-use Rattle.commands.specs.Places.{FailsOver, FailsToConnect, IsConnected, IsFresh, IsToldOver, puts_too}
-use Rattle.commands.proofs.Tellings.{none_unasked}
+use Rattle.commands.specs.Places.{FailsOver, FailsToConnect, IsConnected, IsToldOver, puts_too}
 use Rattle.commands.proofs.Placed.{opened_to}
 use Rattle.commands.specs.Printed.{IsConnectedTo}
 use Rattle.commands.specs.Words.{AllValid, IsUpTo}
@@ -19,6 +18,7 @@ use Rattle.std.specs.declared.alloc.Global.{Global}
 use Rattle.blob_digest.specs.Digest.{DigestValue}
 use Rattle.blob_source.specs.Memory.{TellsNothing}
 use Rattle.builder.specs.Built.{Seen}
+use Rattle.builder.specs.Faults.{IsStoreFailure, fault_of}
 use Rattle.builder.specs.Telling.{IsBuildTold}
 use Rattle.builder.specs.declared.error.BuildPlanError.{BuildPlanError}
 use Rattle.builder.specs.declared.error.BuildPlanError.TheVariants.{Step}
@@ -26,47 +26,45 @@ use Rattle.builder.specs.declared.telling.Told.{Told}
 use Rattle.plan.specs.Values.{PlanValue}
 use Rattle.processes.specs.declared.disk.ChildErrors.TheVariants.{Discarded, Shown}
 use Rattle.remote.specs.Line.{ConnectionValue}
-use Rattle.remote.specs.Remote.{blobs_of, results_of, telling_of}
-use Rattle.remote.specs.declared.remote.Remote.{Remote}
+use Rattle.std.specs.Result.{IsErrAnd}
+use Rattle.worker.specs.Counted.{Counts}
 use Rattle.worker.specs.Outcomes.{Yields}
 use Rattle.worker.specs.declared.error.StepRefusal.TheVariants.{Run}
 use Rattle.worker.specs.declared.runner.RunError.TheVariants.{Device}
 use Rattle.cli.proofs.Within.{IsRunBelow, told_below}
 use Rattle.cli.specs.Built.{Below, IsReadOf, IsToldBy, IsToldOf, Processes, StartsBuild, TellsAsked, at_first, at_last, build_words, errors_asked, jobs_asked}
 use Rattle.cli.specs.declared.building.BuildRequest.{BuildRequest}
-use Rattle.cli.specs.Refused.{FailsBuild, FailsTelling, ReachesServer, StopsAtProcess, TellsProcess}
+use Rattle.cli.specs.Refused.{EndsAtServer, FailsBuild, FailsTelling, ReachesServer, StopsAtProcess, StopsAtRequest, TellsProcess}
 use Rattle.cli.specs.Running.{EndsFor}
 use Rattle.cli.specs.declared.building.Stopped.{Stopped}
 use Rattle.cli.specs.Refused.FailsBuild.{in_connection, in_memory, in_process, in_request}
 
--- nothing is told where nothing was asked
-pub nothing_by : {S : Type 0} (r : Remote S Global) → IsFresh r → TellsNothing (telling_of r)
-nothing_by r fresh = record {
-  blobs = λ d. none_unasked (blobs_of r) d (fresh.blobs d);
-  results = λ d. none_unasked (results_of r) d (fresh.results d);
-  failures = fresh.failures;
-  calls = fresh.calls;
-  puts = fresh.puts;
-}
-
 -- What was told of a build by a source that told nothing before, and now over the connection.
 module _ (start : ConnectionValue) (plan : PlanValue) (sources : DigestValue) (most : ℕ) (old new : Seen) (nothing : TellsNothing old.store) (over : ∥ IsToldOver puts_too start new.store ∥₁)
-    (z : Yields) (processes : Processes) (below : IsRunBelow z old new processes) where
-  abbrev pub told_as : (r it : Result (Told Global) (BuildPlanError Global)) → IsBuildTold z most plan sources old new r → r ≡ it → IsToldBy start processes most plan sources it
-  told_as r it h is = record {
+    (z : Yields) (processes : Processes) (below : IsRunBelow z old new processes) (r : Result (Told Global) (BuildPlanError Global)) (h : IsBuildTold z most plan sources old new r)
+    (failed : Counts old.store.failures new.store.failures (IsErrAnd r (λ e. IsStoreFailure (fault_of e)))) where
+  abbrev pub told_as : (it : Result (Told Global) (BuildPlanError Global)) → r ≡ it → IsToldBy start processes most plan sources it
+  told_as it is = record {
     before = old.store;
     nothing = nothing;
     after = new.store;
     over = over;
     is = subst (IsBuildTold processes.yields most plan sources (at_first old.store) (at_last processes new.store)) is (told_below z most plan sources old new processes below r h);
+    failed = subst (λ x. Counts old.store.failures new.store.failures (IsErrAnd x (λ e. IsStoreFailure (fault_of e)))) is failed;
   }
 
   -- a build ended for a process, and the error tells of it
-  pub stops_of : (ended : BuildPlanError Global) (stopped : Stopped) (e : CommandError) (r : Result (Told Global) (BuildPlanError Global)) → IsBuildTold z most plan sources old new r
+  pub stops_of : (ended : BuildPlanError Global) (stopped : Stopped) (e : CommandError)
       → r ≡ Err ended → EndsFor ended stopped → TellsProcess plan stopped.step (string_bytes stopped.program) stopped.cause e → StopsAtProcess start processes most plan sources e
-  stops_of ended stopped e r h err so told =
+  stops_of ended stopped e err so told =
       let came : Result (Told Global) (BuildPlanError Global) = Err (Step (record { step = stopped.step; refusal = Run (Device stopped.program stopped.cause) })) in
-      record { step = stopped.step; program = stopped.program; cause = stopped.cause; ended = told_as r came h (subst (λ x. r ≡ Err x) so err); told = told }
+      record { step = stopped.step; program = stopped.program; cause = stopped.cause; ended = told_as came (subst (λ x. r ≡ Err x) so err); told = told }
+
+  -- or since a request of it failed
+  pub server_stops : (address : List ℕ) (ended : Result (Told Global) (BuildPlanError Global)) (e : CommandError) → r ≡ ended → EndsAtServer ended
+      → OrMemory (λ x. ∥ FailsOver puts_too start address x ∥₁) e → FailsTelling start address processes most plan sources e
+  server_stops address ended e is at (inl memory) = inl memory
+  server_stops address ended e is at (inr told) = inr (inr (record { came = ended; is = at; ended = told_as ended is; told = told }))
 
 -- the folder and the number of jobs are those of the options
 pub by_options : (P : List ℕ → ℕ → Type 0) (work path : List ℕ) (most jobs : ℕ) → work ≡ path → most ≡ jobs → P work most → P path jobs
@@ -107,12 +105,6 @@ not_shown false options off none =
     none_set true decides none = absurd (none (decides.0 refl))
     none_set false decides none = refl
 
--- the server was at fault, or memory ran out
-pub over_fails : (start : ConnectionValue) (address : List ℕ) (processes : Processes) (most : ℕ) (plan : PlanValue) (sources : DigestValue) (e : CommandError)
-    → OrMemory (λ x. ∥ FailsOver puts_too start address x ∥₁) e → FailsTelling start address processes most plan sources e
-over_fails start address processes most plan sources e (inl memory) = inl memory
-over_fails start address processes most plan sources e (inr over) = inr (inr over)
-
 module _ (sees : Sight) (below : Below) (options : List Row) where
   module _ (asked : BuildRequest) (read : IsReadOf sees options asked) where
     -- the server couldn't be reached
@@ -151,4 +143,6 @@ module _ (sees : Sight) (below : Below) (options : List Row) where
             → FailsTelling start (string_bytes asked.server.address) (below (string_bytes asked.work)) asked.jobs asked.plan asked.sources e → FailsBuild sees below options e
         telling_fails e (inl memory) = in_memory memory
         telling_fails e (inr (inl process)) = in_process asked.plan asked.sources starts start to (by (λ w n. StopsAtProcess start (below w) n asked.plan asked.sources e) process)
-        telling_fails e (inr (inr over)) = in_request asked.plan asked.sources starts start to (subst (λ a. ∥ FailsOver puts_too start a e ∥₁) read.server.address over)
+        telling_fails e (inr (inr request)) = in_request asked.plan asked.sources starts start to
+            (subst (λ a. StopsAtRequest start a (below (option_text options (codes "work"))) (jobs_asked options) asked.plan asked.sources e) read.server.address
+            (by (λ w n. StopsAtRequest start (string_bytes asked.server.address) (below w) n asked.plan asked.sources e) request))

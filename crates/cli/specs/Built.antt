@@ -1,12 +1,14 @@
 -- What `build` prints.
 use Rattle.std.specs.Prelude.{◌≡◌, ◌⊎◌, ◌<◌, ℕ, Bool, true, false, List, [], ◌∷◌, Option, Some}
 use Rattle.std.specs.Prelude.{None, Result, Ok, bytes_eq, codes, if◌then◌else◌, string_bytes}
+use Rattle.std.specs.Result.{IsErrAnd}
 use Rattle.std.specs.Io.KnownBytes.{Appends}
 use Rattle.std.specs.declared.alloc.Global.{Global}
 use Rattle.blob_digest.specs.Digest.{DigestValue}
 use Rattle.blob_source.specs.Memory.{TellsNothing}
 use Rattle.blob_source.specs.Source.{Telling}
 use Rattle.builder.specs.Built.{Seen, seen}
+use Rattle.builder.specs.Faults.{IsStoreFailure, fault_of}
 use Rattle.builder.specs.Telling.{IsBuildTold}
 use Rattle.builder.specs.declared.error.BuildPlanError.{BuildPlanError}
 use Rattle.cli.specs.declared.building.BuildRequest.{BuildRequest}
@@ -29,6 +31,7 @@ use Rattle.processes.specs.declared.disk.ChildErrors.{ChildErrors}
 use Rattle.processes.specs.declared.disk.ChildErrors.TheVariants.{Discarded, Shown}
 use Rattle.remote.specs.Line.{ConnectionValue}
 use Rattle.text_verifier.specs.Texts.{IsDigestText}
+use Rattle.worker.specs.Counted.{Counts}
 use Rattle.worker.specs.Outcomes.{HasAllRight, Yields}
 use Rattle.worker.specs.Values.{Starts}
 use Rattle.tree.specs.Folded.{items_of}
@@ -53,6 +56,7 @@ at_last processes told = seen told processes.ran 0 0 None
 -- By what the server told over the connection that stood so at first, where nothing was told
 -- before, and by all the processes that ran, this is told of a build of the plan, at most so many
 -- jobs running after each call: of the root, which is answered yes, or of the refusal that stands.
+-- A call of the server failed, one, exactly where it tells that.
 pub record IsToldBy (start : ConnectionValue) (processes : Processes) (most : ℕ) (plan : PlanValue)
     (sources : DigestValue) (told : Result (Told Global) (BuildPlanError Global)) : Type 0 where
   pub before : Telling
@@ -61,6 +65,8 @@ pub record IsToldBy (start : ConnectionValue) (processes : Processes) (most : �
   pub over : ∥ IsToldOver puts_too start after ∥₁
   pub is : IsBuildTold processes.yields most plan sources (at_first before)
       (at_last processes after) told
+  pub failed : Counts before.failures after.failures
+      (IsErrAnd told (λ e. IsStoreFailure (fault_of e)))
 
 -- Each Directory that was made for the root of a build that came to it was then told over the
 -- connection, and no result was put since.

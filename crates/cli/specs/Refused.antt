@@ -1,13 +1,16 @@
 -- Why `build` ends without its line: the first fault, in the order jobs, server, digest, plan,
 -- connection, folder, record and work. Of a file, that it can't be read comes before what is wrong
 -- in its text.
-use Rattle.std.specs.Prelude.{◌≡◌, ◌⊎◌, ◌<◌, ℕ, List, [], length, Err, codes, string_bytes}
+use Rattle.std.specs.Prelude.{◌≡◌, ◌⊎◌, ◌<◌, ℕ, List, [], length, Result, Ok, Err, codes}
+use Rattle.std.specs.Prelude.{string_bytes}
 use Rattle.std.specs.IoError.{error_kind}
 use Rattle.std.specs.declared.alloc.Global.{Global}
 use Rattle.std.specs.declared.io.ErrorKind.TheVariants.{DirectoryNotEmpty}
 use Rattle.std.specs.declared.string.String.{String}
 use Rattle.blob_digest.specs.Digest.{DigestValue}
+use Rattle.builder.specs.Faults.{IsStoreFailure, fault_of}
 use Rattle.builder.specs.Lines.{place_text}
+use Rattle.builder.specs.declared.error.BuildPlanError.{BuildPlanError}
 use Rattle.builder.specs.declared.error.BuildPlanError.TheVariants as errors
 use Rattle.builder.specs.declared.fault.Place.TheVariants.{Step}
 use Rattle.builder.specs.declared.telling.Told.{Told}
@@ -81,13 +84,27 @@ pub record StopsAtProcess (start : ConnectionValue) (processes : Processes) (mos
       (Err (errors.Step (record { step = step; refusal = Run (Device program cause) })))
   pub told : TellsProcess plan step (string_bytes program) cause e
 
+-- a request of a build failed: one of its calls, or a PUT of a Directory of the root that it came to
+abbrev pub EndsAtServer : Result (Told Global) (BuildPlanError Global) → Type 0
+EndsAtServer (Ok told) = ended_of told ≡ Done
+EndsAtServer (Err error) = IsStoreFailure (fault_of error)
+
+-- By what the server told over the connection, and by these processes, so a build of the plan ended,
+-- and the error tells of a request that the server at the address refused.
+pub record StopsAtRequest (start : ConnectionValue) (address : List ℕ) (processes : Processes)
+    (most : ℕ) (plan : PlanValue) (sources : DigestValue) (e : CommandError) : Type 0 where
+  pub came : Result (Told Global) (BuildPlanError Global)
+  pub is : EndsAtServer came
+  pub ended : IsToldBy start processes most plan sources came
+  pub told : ∥ FailsOver puts_too start address e ∥₁
+
 -- memory ran out, or a process was at fault, or the server at the address, over the connection that
 -- stood so at first
 abbrev pub FailsTelling : ConnectionValue → List ℕ → Processes → ℕ → PlanValue → DigestValue
     → CommandError → Type 0
 FailsTelling start address processes most plan sources =
     OrMemory (λ e. StopsAtProcess start processes most plan sources e
-    ⊎ ∥ FailsOver puts_too start address e ∥₁)
+    ⊎ StopsAtRequest start address processes most plan sources e)
 
 -- what is asked for can be built, and a connection to the server was opened
 pub record ReachesServer (sees : Sight) (options : List Row) : Type 0 where
@@ -117,7 +134,8 @@ pub data FailsBuild (sees : Sight) (below : Below) (options : List Row) (e : Com
       → FailsAtPath sees (option_text options (codes "record")) e → FailsBuild sees below options e
   in_request : (plan : PlanValue) (sources : DigestValue) → StartsBuild sees options plan sources
       → (start : ConnectionValue) → IsConnectedTo sees options start
-      → ∥ FailsOver puts_too start (option_text options (codes "server")) e ∥₁
+      → StopsAtRequest start (option_text options (codes "server"))
+      (below (option_text options (codes "work"))) (jobs_asked options) plan sources e
       → FailsBuild sees below options e
   in_process : (plan : PlanValue) (sources : DigestValue) → StartsBuild sees options plan sources
       → (start : ConnectionValue) → IsConnectedTo sees options start

@@ -8,8 +8,7 @@ use std::io::Write;
 use worker::{Progress, Watcher};
 
 /// How far a build is, told on a terminal in one line that is written over. Without a terminal
-/// nothing is told.
-#[derive(Drop)]
+/// nothing is told. It is no `Drop`, so that it has to be ended.
 pub(crate) struct BuildProgress<'a, T: Write + Drop> {
     alloc: Global,
     plan: &'a Plan<Global>,
@@ -39,6 +38,17 @@ impl<'a, T: Write + Drop> BuildProgress<'a, T> {
         ensures silent { self.old.line.terminal ≡ None → self.new.line.terminal ≡ None }
     {
         self.line.clear();
+    }
+
+    /// Ends it, once its line was taken away.
+    pub(crate) fn end(self)
+        requires { self.line.is_written ≡ false }
+    {
+        let BuildProgress {
+            alloc: _alloc,
+            plan: _plan,
+            line: _line,
+        } = self;
     }
 }
 

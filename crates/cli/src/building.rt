@@ -26,8 +26,9 @@ use builder::{BuildPlanError, Fault, Place, Told, fault_of, place_text, tell_bui
 use clap::ArgMatches;
 use command_lines::{is_set, option_of, text_of};
 use commands::{
-    Client, CommandError, Ended, Note, Opened, ProcessCause, ProcessFault, PutsToo, ServerOptions,
-    World, invalid_value, number_in, open, plan_in_file, print_all, read_digest, read_server,
+    Client, CommandError, Ended, Inputs, Note, Opened, Outputs, ProcessCause, ProcessFault,
+    PutsToo, ServerOptions, invalid_value, number_in, open, plan_in_file, print_all, read_digest,
+    read_server,
 };
 use plan::Plan;
 use processes::ChildErrors;
@@ -69,7 +70,7 @@ fn read_jobs(alloc: Global, matches: &ArgMatches<'_>) -> Result<usize, CommandEr
 
 /// Reads what the words ask for: the number of jobs, the server, the digest, and then the plan; and
 /// copies the path of the folder of the jobs.
-fn read_asked<W: World, P: Workplace>(
+fn read_asked<W: Inputs, P: Workplace>(
     alloc: Global,
     world: &W,
     matches: &ArgMatches<'_>,
@@ -114,6 +115,7 @@ fn put_root<S: Stream + Drop, K: Opened>(
 ) -> Result<(), CommandError>
     ensures held { OnOk result
         (HoldsRoot K.start (telling_of (remote_of client.old)) told.now) }
+    ensures whole { OnErr result (ended_of told.now ≡ Ended.Done) }
     ensures fault { IfErr result (OrMemory
         (λ e. ∥ FailsOver puts_too K.start (string_bytes server.now.address) e ∥₁)) }
 {
@@ -236,7 +238,7 @@ fn build_in_folder<S: Stream + Drop, K: Opened, P: Workplace + Drop, T: Write + 
 }
 
 /// The folder of the jobs is there, and nothing is in it.
-fn check_work<W: World>(alloc: Global, world: &W, path: &str) -> Result<(), CommandError>
+fn check_work<W: Inputs>(alloc: Global, world: &W, path: &str) -> Result<(), CommandError>
     ensures empty { OnOk result (W.sees.lists path.now []) }
     ensures fault { IfErr result (FailsFolder W.sees path.now) }
 {
@@ -251,7 +253,7 @@ fn check_work<W: World>(alloc: Global, world: &W, path: &str) -> Result<(), Comm
 }
 
 /// Writes the record of a build that came to its root to the file that the words name.
-fn write_record<W: World>(
+fn write_record<W: Outputs>(
     alloc: Global,
     world: &W,
     matches: &ArgMatches<'_>,
@@ -278,7 +280,7 @@ fn write_record<W: World>(
 }
 
 /// Builds what the words ask for. On a terminal it tells how far the build is, until that ends.
-fn build_asked<W: World, P: Workplace + Drop, T: Write + Drop>(
+fn build_asked<W: Inputs + Outputs, P: Workplace + Drop, T: Write + Drop>(
     alloc: Global,
     world: &W,
     workplace: P,
@@ -308,6 +310,7 @@ fn build_asked<W: World, P: Workplace + Drop, T: Write + Drop>(
         &mut progress,
     );
     progress.clear();
+    progress.end();
     told
 }
 
@@ -336,8 +339,8 @@ fn ended_of(told: Told<Global>) -> Ended
 }
 
 /// Builds the plan that the words name, and prints the line of what it came to. Where it came to
-/// its root, the record is written first.
-pub(crate) fn run_build<W: World, P: Workplace + Drop, O: Write, T: Write + Drop>(
+/// its root, the record is written first. By its bound it doesn't listen.
+pub(crate) fn run_build<W: Inputs + Outputs, P: Workplace + Drop, O: Write, T: Write + Drop>(
     alloc: Global,
     world: &W,
     workplace: P,

@@ -11,7 +11,8 @@ use crate::showing::show;
 use crate::workplace::Workplace;
 use command_lines::parse;
 use commands::{
-    CommandError, Ended, World, run_get, run_put, run_serve, run_verify, tell, tell_note,
+    CommandError, Ended, Hosting, Inputs, Outputs, run_get, run_put, run_serve, run_verify, tell,
+    tell_note,
 };
 use std::alloc::Global;
 use std::io::Write;
@@ -21,7 +22,7 @@ use std::time::Clock;
 /// and 3 it begins `error: `, and for 1, where there is one, `note: `. The status: 0 done or yes, 1
 /// no, 2 where the words or the texts that they name are at fault, 3 where a file, the output or
 /// memory is. On a terminal, where there is one, `put` and `build` tell how far they are.
-pub fn run_words<R, W: World, P: Workplace + Drop, O: Write, E: Write, T: Write + Drop>(
+pub fn run_words<R, W, P: Workplace + Drop, O: Write, E: Write, T: Write + Drop>(
     rt: &R,
     world: &W,
     workplace: P,
@@ -32,6 +33,7 @@ pub fn run_words<R, W: World, P: Workplace + Drop, O: Write, E: Write, T: Write 
 ) -> u8
 where
     R: AllocGlobal + Clock + Clone + Drop,
+    W: Inputs + Outputs + Hosting,
     ensures status { result < 4 }
     // With status 0 what the words ask for is done, and nothing else went to standard output.
     ensures done { result ≡ 0 → IsDone W.sees
@@ -83,7 +85,7 @@ fn tell_ended<E: Write>(alloc: Global, ended: &Ended, err: &mut E) -> u8
     }
 }
 
-fn run<R, W: World, P: Workplace + Drop, O: Write, T: Write + Drop>(
+fn run<R, W, P: Workplace + Drop, O: Write, T: Write + Drop>(
     rt: &R,
     world: &W,
     workplace: P,
@@ -93,6 +95,7 @@ fn run<R, W: World, P: Workplace + Drop, O: Write, T: Write + Drop>(
 ) -> Result<Ended, CommandError>
 where
     R: AllocGlobal + Clock + Clone + Drop,
+    W: Inputs + Outputs + Hosting,
     ensures ended { IfOk result (Ends W.sees
         (P.below (errors_asked (is_some terminal) (options_of (map string_bytes words.now))))
         (map string_bytes words.now) (O.contents out.old) (O.contents out.new)) }

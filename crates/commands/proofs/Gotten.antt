@@ -3,11 +3,10 @@ use Rattle.std.proofs.Common.{◌≡◌, ℕ, List, inr, subst, sym, Ok, Err, If
 use Rattle.std.specs.Prelude.{Option, Result, codes}
 use Rattle.std.specs.declared.alloc.Global.{Global}
 use Rattle.blob_digest.specs.Digest.{DigestValue}
-use Rattle.blob_source.specs.Source.{Blobs, Telling}
-use Rattle.checkout.specs.Folder.{FolderValue, Tried}
-use Rattle.checkout.specs.Refused.{FailsCheckout, Refuses}
-use Rattle.checkout.specs.Written.{Reach, asked_somehow}
-use Rattle.checkout.proofs.Entries.{checkout_had}
+use Rattle.blob_source.specs.Memory.{TellsNothing}
+use Rattle.blob_source.specs.Source.{Telling}
+use Rattle.checkout.specs.Refused.{FailsCheckout}
+use Rattle.checkout.specs.Written.{AsksUpTo}
 use Rattle.checkout.specs.declared.error.CheckoutError.{CheckoutError}
 use Rattle.clap.specs.Words.{Row, first_of}
 use Rattle.command_lines.specs.CommandLine.{option_text}
@@ -31,16 +30,12 @@ pub on_err : {T E : Type 0} {P Q : Type 0} (r : Result T E) → OnErr r P → (P
 on_err (Ok x) h by = h
 on_err (Err e) h by = by h
 
--- whatever was asked for
-pub somehow : {has : FolderValue → Type 0} {refuses : Refuses} {tries : Tried} {asks : Reach → Type 0} {B : Blobs} {d : DigestValue} {folder : List ℕ} {e : CheckoutError Global}
-    → FailsCheckout has refuses tries asks B d folder e → FailsCheckout has refuses tries asked_somehow B d folder e
-somehow = checkout_had (λ v h. h) (λ paths h. h) (λ reach h. tt)
-
-pub tree_fails : (sees : Sight) (start : ConnectionValue) (address : List ℕ) (digest : DigestValue) (folder : List ℕ) (told : Telling)
-    (error : CheckoutError Global) (e : CommandError) → ∥ IsToldOver gets_alone start told ∥₁ → FailsCheckout sees.holds sees.unwritten sees.tries asked_somehow told.blobs digest folder error
+pub tree_fails : (sees : Sight) (start : ConnectionValue) (address : List ℕ) (digest : DigestValue) (folder : List ℕ) (before told : Telling)
+    (error : CheckoutError Global) (e : CommandError) → TellsNothing before → ∥ IsToldOver gets_alone start told ∥₁
+    → FailsCheckout sees.holds sees.unwritten sees.tries (AsksUpTo digest before told) told.blobs digest folder error
     → OrMemory (TellsCheckout start address error) e → OrMemory (FailsGetTree sees start address digest folder) e
-tree_fails sees start address digest folder told error e over fails = or_weaker (TellsCheckout start address error) (FailsGetTree sees start address digest folder) e
-    (λ tells. record { told = told; over = over; error = error; fails = fails; tells = tells })
+tree_fails sees start address digest folder before told error e nothing over fails = or_weaker (TellsCheckout start address error) (FailsGetTree sees start address digest folder) e
+    (λ tells. record { before = before; nothing = nothing; told = told; over = over; error = error; fails = fails; tells = tells })
 
 -- ---- by the options
 

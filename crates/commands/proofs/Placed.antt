@@ -1,5 +1,5 @@
 -- Where the recorded build is, by the options.
-use Rattle.std.proofs.Common.{◌≡◌, List, Result, IfErr, IfOk, inl, inr, subst, string_bytes}
+use Rattle.std.proofs.Common.{◌≡◌, ◌+◌, ◌≤◌, ℕ, arith, List, Result, IfErr, IfOk, inl, inr, subst, string_bytes}
 use Rattle.std.proofs.Math.Logic.{∥∥₁_map}
 use Rattle.std.proofs.lemmas.Result.{IfErr-weaker, IfOk-weaker}
 use Rattle.std.specs.declared.alloc.Global.{Global}
@@ -31,6 +31,10 @@ pub if_some_weaker : {X : Type 0} (o : Option X) (P Q : X → Type 0) → ((x : 
 if_some_weaker None P Q by h = tt
 if_some_weaker (Some x) P Q by h = by x h
 
+-- calls that are counted from none on
+pub asked_first : (before after most : ℕ) → before ≡ 0 → after ≤ before + most → after ≤ most
+asked_first before after most none few = omega (arith, none, few)
+
 -- the answer by what a place told
 pub place_weaker : (question : Question) (result : Result (Answer Global) CommandError) (told other : Telling → Type 0) (lacks less : Lack → Type 0)
     → ((t : Telling) → told t → other t) → ((l : Lack) → lacks l → less l)
@@ -42,6 +46,7 @@ place_weaker question result told other lacks less by by_lack h =
       ∥∥₁_map is.1 (by is.0),
       is.2,
       if_some_weaker answer.lack (λ l. ∥ lacks l ∥₁) (λ l. ∥ less l ∥₁) (λ l h. ∥∥₁_map h (by_lack l)) is.3,
+      is.4,
     )) h
 
 -- ---- what the answer lacks

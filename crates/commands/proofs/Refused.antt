@@ -19,7 +19,7 @@ use Rattle.commands.specs.PutRefused.FailsBelow.{below, here, too_deep}
 use Rattle.commands.specs.PutRefused.FailsHere.{file_refused, folder_refused, name_twice, no_name, no_text}
 use Rattle.commands.specs.Refusal.{IsPrintFault}
 use Rattle.commands.specs.Printed.{IsServeRequest, StartsServe}
-use Rattle.commands.specs.ServeRefused.{FailsToListen, IsAcceptFault}
+use Rattle.commands.specs.ServeRefused.{FailsForRandom, FailsToListen, IsAcceptFault}
 use Rattle.commands.specs.Words.{AllValid, FailsFirst, serve_words}
 use Rattle.commands.specs.World.{Sight, a_link}
 use Rattle.commands.specs.declared.connecting.ServerOptions.{ServerOptions}
@@ -138,6 +138,10 @@ module _ (options : List Row) where
       first (inr (a, inr (b, inr (c, inr (d, inr (x, inr (y, inr (z, inl h)))))))) = h.1
       first (inr (a, inr (b, inr (c, inr (d, inr (x, inr (y, inr (z, inr h)))))))) = h.1
   words_not_accept _ (inr fails) accept = accept
+
+pub random_not_accept : (sees : Sight) (e : CommandError) → FailsForRandom sees e → IsAcceptFault e → ⊥
+random_not_accept sees (Accept f) fails accept = fails
+random_not_accept sees _ fails accept = accept
 
 pub listen_not_accept : (sees : Sight) (place : List ℕ) (e : CommandError) → OrMemory (FailsToListen sees place) e → IsAcceptFault e → ⊥
 listen_not_accept sees place e (inl memory) accept = subst IsAcceptFault memory accept

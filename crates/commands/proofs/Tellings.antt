@@ -1,6 +1,7 @@
 -- What a client and a store keep is what their calls brought.
-use Rattle.std.proofs.Common.{◌≡◌, ◌≢◌, ◌⊎◌, ◌∙◌, ℕ, List, [], ◌∷◌, ◌++◌, Option, Some, None, Result, Ok, Err, IfOk, OnErr, inl, inr, map, refl, sym, ap, subst, Ordering}
+use Rattle.std.proofs.Common.{◌≡◌, ◌≢◌, ◌⊎◌, ◌∙◌, ◌+◌, ◌<◌, ◌≤◌, arith, min, ℕ, List, [], ◌∷◌, ◌++◌, Option, Some, None, Result, Ok, Err, IfOk, OnErr, inl, inr, map, refl, sym, ap, subst, Ordering}
 use Rattle.std.specs.Prelude.{IfErr, IfNone, IsSomeAnd, OnOk}
+use Rattle.std.proofs.lemmas.Int.{clamps}
 use Rattle.std.proofs.lemmas.List.{map-append}
 use Rattle.std.proofs.Math.Logic.{∥∥₁_map₂}
 use Rattle.std.specs.Ordering.{nat_cmp, ordering_reverse, ordering_then}
@@ -11,7 +12,7 @@ use Rattle.std.specs.declared.vec.Vec.{Vec}
 use Rattle.std.proofs.lemmas.Cmp.{nat_cmp_total, nat_list_cmp_total}
 use Rattle.std.proofs.lemmas.Map.Lookups.{exact_bytes, exact_pairs, exact_unsigned}
 use Rattle.blob_digest.specs.Digest.{DigestValue, digest_cmp, digest_of}
-use Rattle.blob_source.specs.Source.{Blobs, GrowsAt, bytes_of}
+use Rattle.blob_source.specs.Source.{Blobs, GrowsAt, bytes_of, greatest_count}
 use Rattle.blob_source.specs.Sink.{IsPut, PutsAt}
 use Rattle.blob_source.specs.declared.source.FetchError.{FetchError}
 use Rattle.http_core.specs.declared.event.Area.{Area}
@@ -19,14 +20,16 @@ use Rattle.http_core.specs.declared.event.Area.TheVariants.{Ac, Cas}
 use Rattle.remote.specs.Folder.{IsNothingAt, IsReadAt, LooksInFolder}
 use Rattle.blob_source.specs.declared.source.FetchError.TheVariants.{Failed, Memory}
 use Rattle.remote.specs.Line.{ConnectionValue, Gets, Puts, RefusesRequest, get, put}
-use Rattle.remote.specs.Remote.{LooksUp, Stores}
+use Rattle.remote.specs.Remote.{LooksUp, Stores, blobs_of, results_of, telling_of}
+use Rattle.remote.specs.declared.remote.Remote.{Remote}
+use Rattle.blob_source.specs.Memory.{TellsNothing}
 use Rattle.remote.specs.Table.{HasAnswer, IsSameBut, KeepsNone, answers, bytes_kept, told_by}
 use Rattle.remote.specs.declared.files.FileError.{FileError}
 use Rattle.remote.specs.declared.table.Table.{Table}
 use Rattle.text_verifier.specs.declared.lack.Lack.{Lack}
 use Rattle.commands.specs.Got.{GetsFirst}
-use Rattle.commands.specs.Places.{Access, CameAllOver, CameOver, Comes, FailsInStore, LacksAll, LacksOver, MaySend, file_of, gets_alone, puts_blobs, puts_too, results_put}
-use Rattle.commands.specs.Places.Comes.{got, taken, refused}
+use Rattle.commands.specs.Places.{Access, CameAllOver, CameOver, Comes, FailsInStore, IsFresh, LacksAll, LacksOver, MaySend, file_of, gets_alone, puts_blobs, puts_too, requests_made, results_put}
+use Rattle.commands.specs.Places.Comes.{fresh, got, taken, refused}
 use Rattle.commands.specs.World.{Sight}
 
 -- ---- digests
@@ -92,24 +95,46 @@ may_get gets_alone area hash = refl
 may_get puts_blobs area hash = tt
 may_get puts_too area hash = tt
 
--- the connection came to stand so, and the results of these actions were put
-abbrev pub ComesPutting : Access → ConnectionValue → List DigestValue → ConnectionValue → Type 0
-ComesPutting access start puts now = (came : Comes access start now) × (map (λ (d : DigestValue). d.hash) puts ≡ results_put came)
+-- no more requests were made than calls, while these can be counted
+none_made : (calls : ℕ) → 0 ≤ calls
+none_made calls = omega arith
+
+one_made : (most calls more made : ℕ) → more ≡ min (calls + 1) most → (calls < most → made ≤ calls) → more < most → made + 1 ≤ more
+one_made most calls more made counted few less =
+    let below : calls < most = omega (arith, clamps, counted, less) in
+    let made_few = few below in
+    omega (arith, clamps, counted, less, made_few)
+
+same_made : (most calls more made : ℕ) → more ≡ min (calls + 1) most → (calls < most → made ≤ calls) → more < most → made ≤ more
+same_made most calls more made counted few less =
+    let below : calls < most = omega (arith, clamps, counted, less) in
+    let made_few = few below in
+    omega (arith, clamps, counted, less, made_few)
+
+-- the connection came to stand so, the results of these actions were put, and so many calls made
+abbrev pub ComesPutting : Access → ConnectionValue → List DigestValue → ℕ → ConnectionValue → Type 0
+ComesPutting access start puts calls now = (came : Comes access start now) × (map (λ (d : DigestValue). d.hash) puts ≡ results_put came)
+    × (calls < greatest_count → requests_made came ≤ calls)
+
+-- nothing came over it
+pub comes_first : (access : Access) (start : ConnectionValue) (calls : ℕ) → ComesPutting access start [] calls start
+comes_first access start calls = (fresh, refl, λ less. none_made calls)
 
 -- the same were
-pub same_put : {access : Access} {start : ConnectionValue} (puts more : List DigestValue) (now : ConnectionValue) → more ≡ puts
-    → ComesPutting access start puts now → ComesPutting access start more now
-same_put puts more now same came = (came.0, ap (map (λ (d : DigestValue). d.hash)) same ∙ came.1)
+pub same_put : {access : Access} {start : ConnectionValue} (puts more : List DigestValue) (calls : ℕ) (now : ConnectionValue) → more ≡ puts
+    → ComesPutting access start puts calls now → ComesPutting access start more calls now
+same_put puts more calls now same came = (came.0, ap (map (λ (d : DigestValue). d.hash)) same ∙ came.1, came.2)
 
 module _ {A : Type 0} (access : Access) (start : ConnectionValue) (area : Area) (d : DigestValue) (old new : ConnectionValue) (before after : Table A) where
   -- the connection came to stand so
-  pub comes_on : (puts : List DigestValue) (result : Result (Option (Vec ℕ A)) FetchError) → LooksUp area d old new before after result
-      → ComesPutting access start puts old → ComesPutting access start puts new
-  comes_on puts (Ok answer) looks came = elim (there_or_not (answers before d)) [
-    | inl not ↦ (got old new area d.hash (bytes_of answer) came.0 (looks.answered not), came.1)
-    | inr has ↦ subst (ComesPutting access start puts) (sym (looks.kept has)) came
+  pub comes_on : (puts : List DigestValue) (calls more : ℕ) → more ≡ min (calls + 1) greatest_count → (result : Result (Option (Vec ℕ A)) FetchError)
+      → LooksUp area d old new before after result → ComesPutting access start puts calls old → ComesPutting access start puts more new
+  comes_on puts calls more counted (Ok answer) looks came = elim (there_or_not (answers before d)) [
+    | inl not ↦ (got old new area d.hash (bytes_of answer) came.0 (looks.answered not), came.1, one_made greatest_count calls more (requests_made came.0) counted came.2)
+    | inr has ↦ subst (ComesPutting access start puts more) (sym (looks.kept has)) (came.0, came.1, same_made greatest_count calls more (requests_made came.0) counted came.2)
   ]
-  comes_on puts (Err e) looks came = (refused old new (get area d.hash) e came.0 (may_get access area d.hash) looks.refused, came.1)
+  comes_on puts calls more counted (Err e) looks came =
+      (refused old new (get area d.hash) e came.0 (may_get access area d.hash) looks.refused, came.1, one_made greatest_count calls more (requests_made came.0) counted came.2)
 
   -- what is kept came over it
   pub came_on : (result : Result (Option (Vec ℕ A)) FetchError) → LooksUp area d old new before after result → Comes access start old
@@ -128,23 +153,28 @@ module _ {A : Type 0} (access : Access) (start : ConnectionValue) (area : Area) 
       anew b none is = absurd (some_not_none (sym is ∙ ap bytes_kept (looks.unheld.same d) ∙ none))
 
 -- a blob is put
-pub comes_by_blob : {T : Type 0} (access : Access) (start : ConnectionValue) (hash bytes : List ℕ) (old new : ConnectionValue) (puts : List DigestValue)
-    (result : Result T FetchError) → OnOk result (Puts old new Cas hash bytes) → IfErr result (RefusesRequest old new (put Cas hash bytes)) → MaySend access (put Cas hash bytes)
-    → ComesPutting access start puts old → ComesPutting access start puts new
-comes_by_blob access start hash bytes old new puts (Ok x) takes refuses sent came = (taken old new Cas hash bytes came.0 sent takes, came.1)
-comes_by_blob access start hash bytes old new puts (Err e) takes refuses sent came = (refused old new (put Cas hash bytes) e came.0 sent refuses, came.1)
+pub comes_by_blob : {T : Type 0} (access : Access) (start : ConnectionValue) (hash bytes : List ℕ) (old new : ConnectionValue) (puts : List DigestValue) (calls more : ℕ)
+    → more ≡ min (calls + 1) greatest_count
+    → (result : Result T FetchError) → OnOk result (Puts old new Cas hash bytes) → IfErr result (RefusesRequest old new (put Cas hash bytes)) → MaySend access (put Cas hash bytes)
+    → ComesPutting access start puts calls old → ComesPutting access start puts more new
+comes_by_blob access start hash bytes old new puts calls more counted (Ok x) takes refuses sent came =
+    (taken old new Cas hash bytes came.0 sent takes, came.1, one_made greatest_count calls more (requests_made came.0) counted came.2)
+comes_by_blob access start hash bytes old new puts calls more counted (Err e) takes refuses sent came =
+    (refused old new (put Cas hash bytes) e came.0 sent refuses, came.1, one_made greatest_count calls more (requests_made came.0) counted came.2)
 
 -- a result is put, and listed
 pub comes_by_result : {T : Type 0} (access : Access) (start : ConnectionValue) (d : DigestValue) (bytes : List ℕ) (old new : ConnectionValue) (puts more : List DigestValue)
-    (result : Result T FetchError) → OnOk result (Puts old new Ac d.hash bytes) → IfErr result (RefusesRequest old new (put Ac d.hash bytes)) → MaySend access (put Ac d.hash bytes)
+    (before after : ℕ) → after ≡ min (before + 1) greatest_count → (result : Result T FetchError) → OnOk result (Puts old new Ac d.hash bytes) → IfErr result (RefusesRequest old new (put Ac d.hash bytes)) → MaySend access (put Ac d.hash bytes)
     → OnOk result (more ≡ puts ++ d ∷ []) → OnErr result (more ≡ puts)
-    → ComesPutting access start puts old → ComesPutting access start more new
-comes_by_result access start d bytes old new puts more (Ok x) takes refuses sent listed unlisted came = (
+    → ComesPutting access start puts before old → ComesPutting access start more after new
+comes_by_result access start d bytes old new puts more before after counted (Ok x) takes refuses sent listed unlisted came = (
   taken old new Ac d.hash bytes came.0 sent takes,
   ap (map (λ (e : DigestValue). e.hash)) listed ∙ map-append (λ (e : DigestValue). e.hash) puts (d ∷ []) ∙ ap (λ l. l ++ d.hash ∷ []) came.1,
+  one_made greatest_count before after (requests_made came.0) counted came.2,
 )
-comes_by_result access start d bytes old new puts more (Err e) takes refuses sent listed unlisted came =
-    same_put puts more new unlisted (refused old new (put Ac d.hash bytes) e came.0 sent refuses, came.1)
+comes_by_result access start d bytes old new puts more before after counted (Err e) takes refuses sent listed unlisted came =
+    same_put puts more after new unlisted
+    (refused old new (put Ac d.hash bytes) e came.0 sent refuses, came.1, one_made greatest_count before after (requests_made came.0) counted came.2)
 
 module _ {A T : Type 0} (start : ConnectionValue) (area : Area) (d : DigestValue) (bytes : List ℕ) (old new : ConnectionValue) (before after : Table A) where
   -- what is kept came over it, or it took it
@@ -174,6 +204,16 @@ none_unasked t d not = by (answers t d) not
     by : {X : Type 0} (o : Option (Option (Vec ℕ X))) → (o ≢ None → ⊥) → bytes_kept o ≡ None
     by None none = refl
     by (Some answer) none = absurd (none some_not_none)
+
+-- a remote that was asked nothing tells nothing
+pub nothing_by : {S : Type 0} (r : Remote S Global) → IsFresh r → TellsNothing (telling_of r)
+nothing_by r none = record {
+  blobs = λ d. none_unasked (blobs_of r) d (none.blobs d);
+  results = λ d. none_unasked (results_of r) d (none.results d);
+  failures = none.failures;
+  calls = none.calls;
+  puts = none.puts;
+}
 
 pub none_lacked : {A : Type 0} (P : DigestValue → Type 0) (t : Table A) → ((d : DigestValue) → HasAnswer t d → ⊥) → LacksAll P t
 none_lacked P t unasked d none = absurd (unasked d (λ e. some_not_none (sym none ∙ e)))

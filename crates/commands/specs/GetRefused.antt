@@ -3,9 +3,10 @@
 use Rattle.std.specs.Prelude.{◌≡◌, ◌≢◌, ◌⊎◌, ℕ, List, [], Option, None, Some, codes}
 use Rattle.std.specs.declared.alloc.Global.{Global}
 use Rattle.blob_digest.specs.Digest.{DigestValue, digest_of, empty_digest}
+use Rattle.blob_source.specs.Memory.{TellsNothing}
 use Rattle.blob_source.specs.Source.{Telling}
 use Rattle.checkout.specs.Refused.{FailsCheckout}
-use Rattle.checkout.specs.Written.{asked_somehow}
+use Rattle.checkout.specs.Written.{AsksUpTo}
 use Rattle.checkout.specs.declared.error.CheckoutError.{CheckoutError}
 use Rattle.checkout.specs.declared.error.CheckoutError.TheVariants as trees
 use Rattle.clap.specs.Words.{Row, first_of}
@@ -63,14 +64,17 @@ TellsCheckout start address trees.Fetch e = ∥ FailsOver gets_alone start addre
 TellsCheckout start address (trees.Place path fault) e = e ≡ File path fault
 TellsCheckout start address trees.Memory e = e ≡ Memory
 
--- why the tree that was told over the connection wasn't written into the folder
+-- Why the tree that was told over the connection, which was asked nothing before, wasn't written
+-- into the folder. Nothing was asked for behind what is at fault.
 pub record FailsGetTree (sees : Sight) (start : ConnectionValue) (address : List ℕ)
     (digest : DigestValue) (folder : List ℕ) (e : CommandError) : Type 0 where
+  pub before : Telling
+  pub nothing : TellsNothing before
   pub told : Telling
   pub over : ∥ IsToldOver gets_alone start told ∥₁
   pub error : CheckoutError Global
-  pub fails : FailsCheckout sees.holds sees.unwritten sees.tries asked_somehow told.blobs digest
-      folder error
+  pub fails : FailsCheckout sees.holds sees.unwritten sees.tries (AsksUpTo digest before told)
+      told.blobs digest folder error
   pub tells : TellsCheckout start address error e
 
 -- ---- the command

@@ -1,11 +1,11 @@
 -- What a source over a place outside tells: a store folder, or a server.
-use Rattle.std.specs.Prelude.{◌≡◌, ◌≢◌, ◌⊎◌, ℕ, false, List, [], ◌∷◌, ◌++◌, Option, Some, None}
-use Rattle.std.specs.Prelude.{IfSome, codes, map, string_bytes}
+use Rattle.std.specs.Prelude.{◌≡◌, ◌≢◌, ◌⊎◌, ◌≤◌, ◌<◌, ◌+◌, ℕ, false, List, [], ◌∷◌, ◌++◌, Option}
+use Rattle.std.specs.Prelude.{IfSome, None, Some, codes, length, map, string_bytes}
 use Rattle.std.specs.IoError.{error_kind}
 use Rattle.std.specs.declared.alloc.Global.{Global}
 use Rattle.std.specs.declared.io.ErrorKind.TheVariants.{OutOfMemory}
 use Rattle.blob_digest.specs.Digest.{DigestValue, digest_of}
-use Rattle.blob_source.specs.Source.{Blobs, Telling}
+use Rattle.blob_source.specs.Source.{Blobs, Telling, greatest_count}
 use Rattle.blob_source.specs.declared.source.FetchError.{FetchError}
 use Rattle.blob_source.specs.declared.source.FetchError.TheVariants.{Failed}
 use Rattle.http_core.specs.declared.event.Area.{Area}
@@ -21,11 +21,12 @@ use Rattle.remote.specs.declared.files.FileError.{FileError}
 use Rattle.remote.specs.declared.folder.FolderSource.{FolderSource}
 use Rattle.remote.specs.declared.remote.Remote.{Remote}
 use Rattle.remote.specs.declared.table.Table.{Table}
-use Rattle.text_verifier.specs.Answered.{IsAnswer}
+use Rattle.text_verifier.specs.Answered.{AnswerLooksAt, IsAnswer}
 use Rattle.text_verifier.specs.Texts.{Question}
 use Rattle.text_verifier.specs.declared.answering.Answer.{Answer}
 use Rattle.text_verifier.specs.declared.lack.Lack.{Lack}
 use Rattle.text_verifier.specs.declared.lack.Lack.TheVariants.{Blob, ActionResult}
+use Rattle.tree.specs.Memo.{Asked, Covers}
 use Rattle.commands.specs.Faults.{IsServerFault, error_of_file}
 use Rattle.commands.specs.World.{Sight}
 use Rattle.commands.specs.declared.connecting.ServerOptions.{ServerOptions}
@@ -44,11 +45,16 @@ pub record IsFresh {S A : Type 0} (r : Remote S A) : Type 0 where
   pub calls : (telling_of r).calls ≡ 0
   pub puts : (telling_of r).puts ≡ []
 
+-- a source that told this was called at most once for each thing at which the verifier looks
+abbrev pub IsAskedOnce : Telling → Question → Type 0
+IsAskedOnce told question = (list : List Asked)
+    → Covers (AnswerLooksAt Global told question) list → told.calls ≤ length list
+
 -- The answer to the question by what such a source told. What it says is missing is so lacked.
 abbrev pub IsAnsweredBy : (Telling → Type 0) → (Lack → Type 0) → Question → Answer Global → Type 0
 IsAnsweredBy source lacks question answer =
     (told : Telling) × (∥ source told ∥₁) × IsAnswer told question answer
-    × IfSome answer.lack (λ lack. ∥ lacks lack ∥₁)
+    × IfSome answer.lack (λ lack. ∥ lacks lack ∥₁) × IsAskedOnce told question
 
 -- what is kept as nothing is lacked so
 abbrev pub LacksAll : {A : Type 0} → (DigestValue → Type 0) → Table A → Type 0
@@ -159,6 +165,14 @@ results_put (taken old new Ac hash body before sent is) = results_put before ++ 
 results_put (taken old new area hash body before sent is) = results_put before
 results_put (refused old new request e before sent is) = results_put before
 
+-- how many requests were made; nothing goes out for one that is refused over a broken connection
+abbrev pub requests_made : {access : Access} {start now : ConnectionValue}
+    → Comes access start now → ℕ
+requests_made fresh = 0
+requests_made (got old new area hash answer before is) = requests_made before + 1
+requests_made (taken old new area hash body before sent is) = requests_made before + 1
+requests_made (refused old new request e before sent is) = requests_made before + 1
+
 -- These bytes came over the connection as a reply for the hash; or it took them, where PUTs go over
 -- it.
 pub record CameOver (access : Access) (start : ConnectionValue) (area : Area)
@@ -187,13 +201,16 @@ LacksIt access start (Blob d) = LacksOver access start Cas d.hash
 LacksIt access start (ActionResult d) = LacksOver access start Ac d.hash
 
 -- A client over the connection told this, which now stands so. It lists the results that were put,
--- in this order; where memory runs out after the reply, the PUT counts as refused.
+-- in this order; where memory runs out after the reply, the PUT counts as refused. No more requests
+-- were made than calls, while these can be counted, and the calls that failed are counted there.
 pub record IsClientOver (access : Access) (start now : ConnectionValue) (told : Telling)
     : Type 0 where
   pub came : Comes access start now
   pub blobs : CameAllOver access start Cas told.blobs
   pub results : CameAllOver access start Ac told.results
   pub puts : map (λ d. d.hash) told.puts ≡ results_put came
+  pub few : told.calls < greatest_count → requests_made came ≤ told.calls
+  pub failures : told.failures ≡ now.failures
 
 -- what is asked for under a hash, or put there with this body
 abbrev pub request_of : Method → List ℕ → List ℕ → Request

@@ -22,8 +22,8 @@ use Rattle.text_verifier.specs.declared.lack.Lack.{Lack}
 use Rattle.commands.specs.Got.{BeginsBlob, Writes}
 use Rattle.commands.specs.Options.{IsServerOf, OnNamedServer, decimal_number, greatest_number}
 use Rattle.commands.specs.Options.{number_or}
-use Rattle.commands.specs.Places.{IsOfFolder, IsOfServer, IsConnected, LacksAtServer}
-use Rattle.commands.specs.Places.{LacksInFolder, gets_alone}
+use Rattle.commands.specs.Places.{IsAskedOnce, IsConnected, IsOfFolder, IsOfServer}
+use Rattle.commands.specs.Places.{LacksAtServer, LacksInFolder, gets_alone}
 use Rattle.commands.specs.Put.{PutsPath}
 use Rattle.commands.specs.Told.{AppendsBeginning}
 use Rattle.commands.specs.Trees.{BeginsLack, IsTreeGot}
@@ -82,7 +82,8 @@ pub record AsksQuestion (sees : Sight) (options : List Row) (question : Question
       plan_bytes noted_bytes question
 
 -- The verdict is the one on that question, by what a source over the place that they name told.
--- What is missing by the verdict is lacked there.
+-- It was called at most once for each thing at which the verifier looks. What is missing by the
+-- verdict is lacked there.
 pub record JudgesAsked (sees : Sight) (options : List Row) (verdict : Verdict Global)
     : Type 0 where
   pub question : Question
@@ -90,6 +91,7 @@ pub record JudgesAsked (sees : Sight) (options : List Row) (verdict : Verdict Gl
   pub told : Telling
   pub source : ∥ IsOfPlace sees options told ∥₁
   pub judged : IsJudged told question verdict
+  pub few : IsAskedOnce told question
   pub lacks : IfSome (lack_of question verdict) (λ lack. ∥ LacksAtPlace sees options lack ∥₁)
 
 -- the line of that verdict was printed

@@ -36,7 +36,7 @@ pub data FailsServe (sees : Sight) (options : List Row) (e : CommandError) : Typ
   in_memory : e ≡ Memory → FailsServe sees options e
   in_words : FailsFirst (serve_words options) e → FailsServe sees options e
   in_random : AllValid (serve_words options) → FailsForRandom sees e → FailsServe sees options e
-  in_address : AllValid (serve_words options)
+  in_address : AllValid (serve_words options) → sees.random
       → FailsToListen sees (option_text options (codes "listen")) e → FailsServe sees options e
   in_output : (address : SocketAddr) → StartsServe sees options address → IsPrintFault e
       → FailsServe sees options e

@@ -4,13 +4,15 @@ use Rattle.std.specs.Io.KnownBytes.{Appends}
 use Rattle.std.specs.declared.alloc.Global.{Global}
 use Rattle.blob_digest.specs.Digest.{DigestValue}
 use Rattle.blob_digest.specs.Text.{digest_text}
+use Rattle.blob_source.specs.Memory.{TellsNothing}
 use Rattle.blob_source.specs.Source.{Telling}
 use Rattle.checkout.specs.Refused.{FailsCheckout}
-use Rattle.checkout.specs.Written.{HoldsTree, TriesTree, asked_somehow}
+use Rattle.checkout.specs.Written.{AsksEachOnce, AsksUpTo, CheckoutLooksAt, HoldsTree, TriesTree}
 use Rattle.checkout.specs.declared.error.CheckoutError.{CheckoutError}
 use Rattle.checkout.specs.declared.error.CheckoutError.TheVariants.{Missing}
 use Rattle.http_core.specs.declared.event.Area.TheVariants.{Cas}
 use Rattle.remote.specs.Line.{ConnectionValue}
+use Rattle.tree.specs.Memo.{AsksNoOther}
 use Rattle.commands.specs.Places.{IsToldOver, LacksOver, gets_alone}
 use Rattle.commands.specs.Told.{AppendsBeginning}
 use Rattle.commands.specs.World.{Sight}
@@ -21,12 +23,17 @@ use Rattle.commands.specs.declared.ended.Ended.TheVariants.{Done, No}
 abbrev pub missing_line : DigestValue → List ℕ
 missing_line digest = codes "missing " ++ digest_text digest ++ codes "\n"
 
--- The tree that was told over the connection was written into the folder, each entry tried once,
--- and nothing was printed.
+-- The tree that was told over the connection, which was asked nothing before, was written into the
+-- folder, each entry tried once, and nothing was printed. No call asked for anything but the tree's
+-- Directories and its files' contents, each at most once.
 pub record WritesTree (sees : Sight) (start : ConnectionValue) (digest : DigestValue)
     (folder : List ℕ) (old new : Option (List ℕ)) : Type 0 where
+  pub before : Telling
+  pub nothing : TellsNothing before
   pub told : Telling
   pub over : ∥ IsToldOver gets_alone start told ∥₁
+  pub few : AsksEachOnce digest before told
+  pub only : AsksNoOther (CheckoutLooksAt told.blobs digest) before told
   pub tried : TriesTree sees.tries told.blobs digest folder
   pub holds : HoldsTree sees.holds told.blobs digest folder
   pub unprinted : new ≡ old
@@ -40,14 +47,16 @@ pub record PrintsLack (start : ConnectionValue) (error : CheckoutError Global)
   pub replied : ∥ LacksOver gets_alone start Cas lacked.hash ∥₁
   pub printed : appends (missing_line lacked)
 
--- so it is with the tree that was told so
+-- so it is with the tree that was told so, of which nothing was asked behind what is at fault
 pub record LacksTree (sees : Sight) (start : ConnectionValue) (digest : DigestValue)
     (folder : List ℕ) (appends : List ℕ → Type 0) : Type 0 where
+  pub before : Telling
+  pub nothing : TellsNothing before
   pub told : Telling
   pub over : ∥ IsToldOver gets_alone start told ∥₁
   pub error : CheckoutError Global
-  pub fails : FailsCheckout sees.holds sees.unwritten sees.tries asked_somehow told.blobs digest
-      folder error
+  pub fails : FailsCheckout sees.holds sees.unwritten sees.tries (AsksUpTo digest before told)
+      told.blobs digest folder error
   pub lacks : PrintsLack start error appends
 
 -- one of both, and the line of a blob stands without a note

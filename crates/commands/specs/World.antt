@@ -56,7 +56,9 @@ pub record Sight : Type 1 where
   pub unwritten : List ℕ → Error → Type 0
   -- a tree was written, or tried to be: at these paths, in this order, and nowhere else
   pub tries : List (List ℕ) → Type 0
-  -- there were no random bytes, for this
+  -- there were random bytes
+  pub random : Type 0
+  -- there were none, for this
   pub unrandom : Error → Type 0
   -- a socket listens at this place, at this address
   pub listens : List ℕ → SocketAddr → Type 0
@@ -82,6 +84,7 @@ sees_nothing = record {
   holds = λ _. Unit {0};
   unwritten = λ _ _. Unit {0};
   tries = λ _. Unit {0};
+  random = Unit {0};
   unrandom = λ _. Unit {0};
   listens = λ _ _. Unit {0};
   unbound = λ _ _. Unit {0};

@@ -16,7 +16,7 @@ ghost use Rattle.remote.specs.Remote.{LooksUp, blobs_of, connection_of, results_
 use crate::connecting::ServerOptions;
 use crate::error::CommandError;
 use crate::failure::{Failure, Method, keep_failure};
-use crate::world::World;
+use crate::world::Inputs;
 use blob_digest::Digest;
 use blob_source::{BlobSink, BlobSource, FetchError};
 use remote::{Remote, Stream};
@@ -269,7 +269,7 @@ fn digest_put(put: &Result<Digest, FetchError>, bytes: &[u8]) -> Digest
 }
 
 /// A remote over a connection to the server, that was asked nothing.
-pub fn open<W: World>(
+pub fn open<W: Inputs>(
     alloc: Global,
     world: &W,
     server: &ServerOptions,

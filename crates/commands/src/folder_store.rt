@@ -4,7 +4,7 @@ ghost use Rattle.commands.specs.Places.{FailsInFolder, IsInFolder, LacksInFolder
 ghost use Rattle.remote.specs.Folder.{IsFreshFolder, error_of, place_of};
 
 use crate::error::CommandError;
-use crate::world::{FilesOf, World};
+use crate::world::{FilesOf, Inputs};
 use blob_digest::Digest;
 use blob_source::{BlobSource, FetchError};
 use remote::FolderSource;
@@ -27,14 +27,14 @@ impl FolderMark for Brand {
 
 /// The store in the marked folder of a world.
 #[derive(Drop)]
-pub(crate) struct FolderStore<'w, W: World, K: FolderMark> {
+pub(crate) struct FolderStore<'w, W: Inputs, K: FolderMark> {
     store: FolderSource<'w, FilesOf<'w, W>, Global>,
     of: PhantomData<K>,
     ghost place: { place_of store ≡ K.folder },
     ghost told: { ∥ IsInFolder W.sees K.folder store ∥₁ },
 }
 
-impl<'w, W: World, K: FolderMark> FolderStore<'w, W, K> {
+impl<'w, W: Inputs, K: FolderMark> FolderStore<'w, W, K> {
     pub(crate) fn new(
         alloc: Global,
         files: &'w FilesOf<'w, W>,
@@ -83,7 +83,7 @@ impl<'w, W: World, K: FolderMark> FolderStore<'w, W, K> {
     }
 }
 
-impl<W: World, K: FolderMark> BlobSource<Global> for FolderStore<'_, W, K> {
+impl<W: Inputs, K: FolderMark> BlobSource<Global> for FolderStore<'_, W, K> {
     ghost use Rattle.remote.specs.Folder.{telling_of};
 
     ghost tells = { λ s. telling_of s.store };

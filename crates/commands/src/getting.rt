@@ -18,7 +18,7 @@ use crate::error::{CommandError, OTHER_BYTES, blob_error};
 use crate::options::read_digest;
 use crate::printing::print_all;
 use crate::trees::get_tree;
-use crate::world::World;
+use crate::world::{Inputs, Outputs};
 use blob_digest::Digest;
 use blob_source::BlobSource;
 use clap::ArgMatches;
@@ -109,7 +109,7 @@ fn print_blob<S: Stream + Drop, K: Opened, O: Write>(
 
 /// Writes the blob, or its tree into the folder, that comes over the marked connection. Nothing but
 /// GETs goes over it.
-fn get_over<W: World, K: Opened, O: Write>(
+fn get_over<W: Inputs + Outputs, K: Opened, O: Write>(
     alloc: Global,
     world: &W,
     server: &ServerOptions,
@@ -137,8 +137,8 @@ fn get_over<W: World, K: Opened, O: Write>(
 }
 
 /// Writes the bytes of the blob whose digest the words spell, or its tree into the folder that they
-/// name, where the server has all of it.
-pub fn run_get<W: World, O: Write>(
+/// name, where the server has all of it. By its bound it doesn't listen.
+pub fn run_get<W: Inputs + Outputs, O: Write>(
     alloc: Global,
     world: &W,
     matches: &ArgMatches<'_>,

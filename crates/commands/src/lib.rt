@@ -43,4 +43,4 @@ pub use serving::run_serve;
 pub use telling::{tell, tell_note};
 pub use terminal_line::TerminalLine;
 pub use verifying::{plan_in_file, run_verify};
-pub use world::{Found, Listening, Service, System, World};
+pub use world::{Found, Hosting, Inputs, Listening, Outputs, Service, System, World};

@@ -24,8 +24,7 @@ pub(crate) trait Counter {
 }
 
 /// How far a `put` is, told on a terminal in one line that is written over. Without a terminal
-/// nothing is told.
-#[derive(Drop)]
+/// nothing is told. It is no `Drop`, so that it has to be ended.
 pub(crate) struct PutProgress<R: Drop, T: Write + Drop> {
     rt: R,
     line: TerminalLine<T>,
@@ -81,6 +80,19 @@ impl<R: AllocGlobal + Clock + Clone + Drop, T: Write + Drop> PutProgress<R, T> {
         ensures silent { self.old.line.terminal ≡ None → self.new.line.terminal ≡ None }
     {
         self.line.clear();
+    }
+
+    /// Ends it, once its line was taken away.
+    pub(crate) fn end(self)
+        requires { self.line.is_written ≡ false }
+    {
+        let PutProgress {
+            rt: _rt,
+            line: _line,
+            last: _last,
+            files: _files,
+            bytes: _bytes,
+        } = self;
     }
 }
 

@@ -22,7 +22,7 @@ use crate::connecting::{ServerOptions, read_server};
 use crate::error::{CommandError, entry_error};
 use crate::printing::print_all;
 use crate::progress::{Counter, PutProgress};
-use crate::world::{Found, World};
+use crate::world::{Found, Inputs};
 use blob_digest::Digest;
 use clap::ArgMatches;
 use command_lines::text_of;
@@ -67,13 +67,13 @@ fn target_at(alloc: Global, place: &str, target: &str) -> Result<Target<Global>,
 
 /// Uploads what stands at the places of a world to a server.
 #[derive(Drop)]
-struct Uploader<'a, W: World> {
+struct Uploader<'a, W: Inputs> {
     alloc: Global,
     world: &'a W,
     server: &'a ServerOptions,
 }
 
-impl<W: World> Uploader<'_, W> {
+impl<W: Inputs> Uploader<'_, W> {
     /// Uploads the file at a place; gives its digest.
     fn upload_file<K: Opened, P: Counter>(
         &self,
@@ -162,7 +162,7 @@ impl<W: World> Uploader<'_, W> {
 }
 
 /// Puts what stands at the path, over the marked connection; gives its digest.
-fn put_over<W: World, K: Opened, P: Counter>(
+fn put_over<W: Inputs, K: Opened, P: Counter>(
     alloc: Global,
     world: &W,
     server: &ServerOptions,
@@ -207,8 +207,8 @@ fn print_digest<O: Write>(alloc: Global, digest: &Digest, out: &mut O) -> Result
 }
 
 /// Puts the file or the folder that the words name, and prints its digest. On a terminal it tells
-/// how far it is, until it ends.
-pub fn run_put<R, W: World, O: Write, T: Write + Drop>(
+/// how far it is, until it ends. By its bound it writes no file, and doesn't listen.
+pub fn run_put<R, W: Inputs, O: Write, T: Write + Drop>(
     rt: &R,
     world: &W,
     matches: &ArgMatches<'_>,
@@ -243,6 +243,7 @@ where
         place,
     );
     progress.clear();
+    progress.end();
     let digest = put?;
     print_digest(alloc, &digest, out)?;
     Ok(())

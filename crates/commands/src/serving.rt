@@ -8,7 +8,8 @@ ghost use Rattle.commands.specs.Printed.{BeginsListening, IsServeRequest, Prints
 ghost use Rattle.commands.specs.Printed.{ServesAsked, listening_line};
 ghost use Rattle.commands.specs.Faults.{OrMemory};
 ghost use Rattle.commands.specs.Refusal.{IsPrintFault};
-ghost use Rattle.commands.specs.ServeRefused.{FailsServe, FailsToListen, IsAcceptFault};
+ghost use Rattle.commands.specs.ServeRefused.{FailsForRandom, FailsServe, FailsToListen};
+ghost use Rattle.commands.specs.ServeRefused.{IsAcceptFault};
 ghost use Rattle.commands.specs.Told.{AppendsBeginning};
 ghost use Rattle.commands.specs.Words.{IsCheckedBy, has_number_up_to, is_at_once, listens_at};
 ghost use Rattle.commands.specs.Words.{may_have_number_up_to, serve_words};
@@ -17,12 +18,13 @@ use crate::connecting::read_prefix;
 use crate::error::CommandError;
 use crate::options::{invalid_value, is_address, number_in};
 use crate::printing::print_all;
-use crate::world::{Listening, Service, World};
+use crate::world::{Hosting, Listening, Service};
 use cache_server::Cache;
 use clap::ArgMatches;
 use command_lines::{option_of, text_of};
 use http_core::Prefix;
 use std::alloc::Global;
+use std::hash::RandomState;
 use std::io::Write;
 use std::net::SocketAddr;
 
@@ -153,8 +155,19 @@ fn read_request<'a>(
     })
 }
 
+/// Random keys for the tables of the cache.
+fn draw_keys<W: Hosting>(world: &W) -> Result<RandomState, CommandError>
+    ensures given { OnOk result W.sees.random }
+    ensures fault { IfErr result (FailsForRandom W.sees) }
+{
+    match world.random_keys() {
+        Ok(keys) => Ok(keys),
+        Err(fault) => Err(CommandError::Random(fault)),
+    }
+}
+
 /// Listens at the address.
-fn listen<W: World>(alloc: Global, world: &W, address: &str) -> Result<Listening, CommandError>
+fn listen<W: Hosting>(alloc: Global, world: &W, address: &str) -> Result<Listening, CommandError>
     ensures listens { IfOk result (λ l. W.sees.listens address.now l.address) }
     ensures fault { IfErr result (OrMemory (FailsToListen W.sees address.now)) }
 {
@@ -190,8 +203,8 @@ fn print_address<O: Write>(
 }
 
 /// Prints the address where it listens, and serves as many connections as the words say, or without
-/// end.
-pub fn run_serve<W: World, O: Write>(
+/// end. By its bound it reads and writes no file, and connects to no server.
+pub fn run_serve<W: Hosting, O: Write>(
     alloc: Global,
     world: &W,
     matches: &ArgMatches<'_>,
@@ -212,7 +225,7 @@ pub fn run_serve<W: World, O: Write>(
     ensures refused { IfErr result (FailsServe W.sees (rows_of (found_of matches.now))) }
 {
     let request = read_request(alloc, matches)?;
-    let keys = world.random_keys().map_err(CommandError::Random)?;
+    let keys = draw_keys(world)?;
     let cache: Cache<Global> = Cache::new(alloc, keys, request.limit, request.result_limit)?;
     let listening = listen(alloc, world, request.address)?;
     print_address(alloc, &listening.address, out)?;

@@ -1,7 +1,9 @@
 ghost use Rattle.std.specs.Prelude.{◌≡◌, ◌⊎◌, IfErr, IfOk, OnErr, OnOk, string_bytes};
 ghost use Rattle.std.specs.Io.KnownBytes.{Appends};
+ghost use Rattle.commands.specs.Client.{remote_of};
 ghost use Rattle.commands.specs.Faults.{OrMemory};
 ghost use Rattle.commands.specs.GetRefused.{FailsGetTree, TellsCheckout};
+ghost use Rattle.commands.specs.Places.{IsFresh};
 ghost use Rattle.commands.specs.Refusal.{IsPrintFault};
 ghost use Rattle.commands.specs.Told.{AppendsBeginning};
 ghost use Rattle.commands.specs.Trees.{BeginsLack, IsTreeGot, PrintsLack, missing_line};
@@ -11,7 +13,7 @@ use crate::connecting::ServerOptions;
 use crate::ended::Ended;
 use crate::error::{CommandError, OTHER_BYTES, blob_error};
 use crate::printing::print_all;
-use crate::world::World;
+use crate::world::{Inputs, Outputs};
 use blob_digest::Digest;
 use checkout::CheckoutError;
 use remote::Stream;
@@ -82,7 +84,7 @@ fn print_lack<S: Stream + Drop, K: Opened, O: Write>(
 
 /// Writes the tree with the digest into a folder that isn't there or is empty, where the server has
 /// all of it. The line of a blob that it lacks is printed, and what was written before stays.
-pub(crate) fn get_tree<W: World, K: Opened, O: Write>(
+pub(crate) fn get_tree<W: Inputs + Outputs, K: Opened, O: Write>(
     alloc: Global,
     world: &W,
     server: &ServerOptions,
@@ -91,6 +93,7 @@ pub(crate) fn get_tree<W: World, K: Opened, O: Write>(
     folder: &str,
     out: &mut O,
 ) -> Result<Ended, CommandError>
+    requires fresh { IsFresh (remote_of client.old) }
     ensures got { IfOk result (IsTreeGot W.sees K.start digest.now folder.now
         (O.contents out.old) (O.contents out.new)) }
     ensures begun { OnErr result (BeginsLack W.sees K.start digest.now folder.now

@@ -30,7 +30,7 @@ use crate::folder_store::{FolderMark, FolderStore};
 use crate::hint::Hint;
 use crate::options::read_digest;
 use crate::telling::write_bytes;
-use crate::world::{FilesOf, World};
+use crate::world::{FilesOf, Inputs};
 use clap::ArgMatches;
 use command_lines::{option_of, text_of};
 use plan::{Plan, PlanError};
@@ -77,7 +77,7 @@ fn text_error(alloc: Global, path: &str, text: &[u8], fault: PlanError) -> Comma
 }
 
 /// The plan in the file that the words name.
-pub fn plan_in_file<W: World>(
+pub fn plan_in_file<W: Inputs>(
     alloc: Global,
     world: &W,
     matches: &ArgMatches<'_>,
@@ -96,7 +96,7 @@ pub fn plan_in_file<W: World>(
 }
 
 /// What is asked: the digests, the plan, and the record of it in the file that the words name.
-fn read_case<W: World>(
+fn read_case<W: Inputs>(
     alloc: Global,
     world: &W,
     matches: &ArgMatches<'_>,
@@ -163,7 +163,7 @@ fn read_place(alloc: Global, matches: &ArgMatches<'_>) -> Result<RecordedBuild, 
 }
 
 /// The answer over the store in the marked folder.
-fn judge_folder<W: World, K: FolderMark>(
+fn judge_folder<W: Inputs, K: FolderMark>(
     alloc: Global,
     world: &W,
     folder: String,
@@ -232,7 +232,7 @@ fn judge_over<S: Stream + Drop, K: Opened>(
 }
 
 /// The answer over the server.
-fn judge_server<W: World>(
+fn judge_server<W: Inputs>(
     alloc: Global,
     world: &W,
     server: &ServerOptions,
@@ -249,7 +249,7 @@ fn judge_server<W: World>(
 }
 
 /// The answer over the place where the recorded build is.
-fn judge<W: World>(
+fn judge<W: Inputs>(
     alloc: Global,
     world: &W,
     matches: &ArgMatches<'_>,
@@ -299,7 +299,7 @@ fn named_store(alloc: Global, matches: &ArgMatches<'_>) -> Result<Option<String>
 }
 
 /// Whether the world tells that no folder is at a path.
-fn lacks_folder<W: World>(alloc: Global, world: &W, path: &str) -> bool
+fn lacks_folder<W: Inputs>(alloc: Global, world: &W, path: &str) -> bool
     ensures lacks { IsTrue result → LacksFolder W.sees path.now }
     ensures may { IsFalse result → MayHaveFolder W.sees path.now }
 {
@@ -312,7 +312,7 @@ fn lacks_folder<W: World>(alloc: Global, world: &W, path: &str) -> bool
 
 /// What a verdict comes to. After a no the folder of the store is looked for, and a note says that
 /// it isn't there.
-fn ended_of<W: World>(alloc: Global, world: &W, store: Option<String>, is_yes: bool) -> Ended
+fn ended_of<W: Inputs>(alloc: Global, world: &W, store: Option<String>, is_yes: bool) -> Ended
     ensures done { is_done result ≡ is_yes }
     ensures noted { NotesFolder W.sees (option_map string_bytes store) result }
 {
@@ -328,8 +328,9 @@ fn ended_of<W: World>(alloc: Global, world: &W, store: Option<String>, is_yes: b
 }
 
 /// Prints the verdict's line, and answers done where it is yes. The words are read first, then the
-/// plan's file and its text, then the record's; then the store or the server is asked.
-pub fn run_verify<W: World, O: Write>(
+/// plan's file and its text, then the record's; then the store or the server is asked. By its bound
+/// it writes no file, and doesn't listen.
+pub fn run_verify<W: Inputs, O: Write>(
     alloc: Global,
     world: &W,
     matches: &ArgMatches<'_>,

@@ -74,61 +74,72 @@ pub struct Service {
     pub idle: u64,
 }
 
-/// What a command reaches outside: files, servers, and its own clients.
+/// What is outside of a command. What a command may do there is what its bound names: `Inputs`,
+/// `Outputs` or `Hosting`.
 pub trait World {
-    /// A connection to a server.
-    type Link: Stream + Drop;
-
-    ghost use Rattle.commands.specs.World.{Sight, serving, what_stands};
+    ghost use Rattle.commands.specs.World.{Sight};
 
     /// What may be said of what it told.
     ghost sees: { Sight };
+}
+
+/// What a command reads: files and folders, and servers. Nothing changes outside but by what is sent
+/// over a connection.
+pub trait Inputs: World {
+    /// A connection to a server.
+    type Link: Stream + Drop;
+
+    ghost use Rattle.commands.specs.World.{what_stands};
 
     /// The bytes of a file.
     fn read(&self, alloc: Global, path: &str) -> Result<Vec<u8>, FileError<Global>>
-        ensures read { IfOk result (λ bytes. sees.reads path.now bytes.items) }
+        ensures read { IfOk result (λ bytes. Self.sees.reads path.now bytes.items) }
         ensures error { IfErr result (IsErrorOf path.now) }
-        ensures fault { IfErr result (sees.fails path.now) };
+        ensures fault { IfErr result (Self.sees.fails path.now) };
 
     /// The names in a folder, in the order of their bytes.
     fn list(&self, alloc: Global, path: &str) -> Result<Vec<String>, FileError<Global>>
-        ensures listed { IfOk result (λ names. sees.lists path.now (map string_bytes names.items)) }
+        ensures listed { IfOk result
+            (λ names. Self.sees.lists path.now (map string_bytes names.items)) }
         ensures ordered { IfOk result
             (λ names. IsSorted bytes_cmp (map string_bytes names.items)) }
         ensures error { IfErr result (IsErrorOf path.now) }
-        ensures fault { IfErr result (sees.fails path.now) };
+        ensures fault { IfErr result (Self.sees.fails path.now) };
 
     /// What stands at a path. A link isn't followed.
     fn look(&self, alloc: Global, path: &str) -> Result<Found, FileError<Global>>
-        ensures stands { IfOk result (λ found. sees.stands path.now (what_stands found)) }
+        ensures stands { IfOk result (λ found. Self.sees.stands path.now (what_stands found)) }
         ensures error { IfErr result (IsErrorOf path.now) }
-        ensures fault { IfErr result (sees.fails path.now) };
+        ensures fault { IfErr result (Self.sees.fails path.now) };
 
     /// Whether a folder stands at a path. Links are followed.
     fn is_folder(&self, alloc: Global, path: &str) -> Result<bool, FileError<Global>>
-        ensures leads { IfOk result (sees.leads path.now) }
+        ensures leads { IfOk result (Self.sees.leads path.now) }
         ensures error { IfErr result (IsErrorOf path.now) }
-        ensures fault { IfErr result (sees.fails path.now) };
+        ensures fault { IfErr result (Self.sees.fails path.now) };
 
     /// A connection to a server.
     fn connect(&self, alloc: Global, server: &ServerOptions) -> io::Result<Self::Link>
         ensures connected { IfOk result (λ link.
-            sees.connects (string_bytes server.now.address) server.now.timeout
+            Self.sees.connects (string_bytes server.now.address) server.now.timeout
             (Self.Link.flow link)) }
-        ensures fault { IfErr result (sees.refuses (string_bytes server.now.address)) };
+        ensures fault { IfErr result (Self.sees.refuses (string_bytes server.now.address)) };
+}
 
+/// What a command writes: files, and trees into folders.
+pub trait Outputs: World {
     /// A file or nothing stands at a path, where links are followed, and its folder takes a new
     /// file. Nothing is changed.
     fn check_writable(&self, alloc: Global, path: &str) -> Result<(), FileError<Global>>
-        ensures takes { OnOk result (sees.takes path.now) }
+        ensures takes { OnOk result (Self.sees.takes path.now) }
         ensures error { IfErr result (IsErrorOf path.now) }
-        ensures fault { IfErr result (sees.fails path.now) };
+        ensures fault { IfErr result (Self.sees.fails path.now) };
 
     /// Writes a file: a new one beside it, which then takes its place. A link is followed, and what
     /// is no file stays.
     fn write(&self, alloc: Global, path: &str, bytes: &[u8]) -> io::Result<()>
-        ensures wrote { OnOk result (sees.wrote path.now bytes.now) }
-        ensures fault { IfErr result (sees.unwritten path.now) };
+        ensures wrote { OnOk result (Self.sees.wrote path.now bytes.now) }
+        ensures fault { IfErr result (Self.sees.unwritten path.now) };
 
     /// Writes the tree with a digest, as a source tells it, into a folder that isn't there or is
     /// empty.
@@ -140,12 +151,13 @@ pub trait World {
         source: &mut S,
     ) -> Result<(), CheckoutError<Global>>
         ensures written { OnOk result
-            (HoldsTree sees.holds (S.tells source.new).blobs root.now path.now) }
+            (HoldsTree Self.sees.holds (S.tells source.new).blobs root.now path.now) }
         ensures tried { OnOk result
-            (TriesTree sees.tries (S.tells source.new).blobs root.now path.now) }
+            (TriesTree Self.sees.tries (S.tells source.new).blobs root.now path.now) }
         // Once something isn't told, taken or written, nothing more is tried, and nothing behind
         // it is asked for.
-        ensures refused { IfErr result (FailsCheckout sees.holds sees.unwritten sees.tries
+        ensures refused { IfErr result
+            (FailsCheckout Self.sees.holds Self.sees.unwritten Self.sees.tries
             (AsksUpTo root.now (S.tells source.old) (S.tells source.new))
             (S.tells source.new).blobs root.now path.now) }
         ensures few { AsksEachOnce root.now (S.tells source.old) (S.tells source.new) }
@@ -154,36 +166,40 @@ pub trait World {
             (S.tells source.old) (S.tells source.new) }
         ensures called { Called (S.tells source.old) (S.tells source.new)
             (IsErrOf result CheckoutError.Fetch) };
+}
+
+/// By what a command serves: it listens, and takes connections.
+pub trait Hosting: World {
+    ghost use Rattle.commands.specs.World.{serving};
 
     /// Random keys for the tables of a cache.
     fn random_keys(&self) -> io::Result<RandomState>
-        ensures { IfErr result sees.unrandom };
+        ensures given { OnOk result Self.sees.random }
+        ensures fault { IfErr result Self.sees.unrandom };
 
     /// Listens at an address.
     fn listen(&self, address: &str) -> io::Result<Listening>
-        ensures listens { IfOk result (λ l. sees.listens address.now l.address) }
-        ensures fault { IfErr result (sees.unbound address.now) };
+        ensures listens { IfOk result (λ l. Self.sees.listens address.now l.address) }
+        ensures fault { IfErr result (Self.sees.unbound address.now) };
 
     /// Serves connections.
     fn serve(&self, listening: Listening, service: Service) -> Result<(), NotAccepted>
-        ensures served { OnOk result (sees.serves (serving listening service)) }
-        ensures fault { IfErr result (sees.unserved (serving listening service)) };
+        ensures served { OnOk result (Self.sees.serves (serving listening service)) }
+        ensures fault { IfErr result (Self.sees.unserved (serving listening service)) };
 }
 
 /// The files and sockets of the system, as the program's handle reaches them.
 #[derive(Drop)]
 pub struct System<'r, R>(pub &'r R);
 
-impl<'r, R> World for System<'r, R>
-where
-    R: AllocGlobal + Clock + ErrorTerminal + Files + Log + RandomSource,
-    R: Net<Listener = TcpListener, Stream = TcpStream>,
-{
-    type Link = Connection<'r, R>;
-
+impl<R> World for System<'_, R> {
     ghost use Rattle.commands.specs.World.{sees_nothing};
 
     ghost sees = { sees_nothing };
+}
+
+impl<'r, R: AllocGlobal + Files + Net<Stream = TcpStream>> Inputs for System<'r, R> {
+    type Link = Connection<'r, R>;
 
     fn read(&self, _alloc: Global, path: &str) -> Result<Vec<u8>, FileError<Global>> {
         read_file(self.0, path)
@@ -232,7 +248,9 @@ where
     fn connect(&self, alloc: Global, server: &ServerOptions) -> io::Result<Connection<'r, R>> {
         Connection::open(alloc, self.0, server)
     }
+}
 
+impl<R: AllocGlobal + Files> Outputs for System<'_, R> {
     fn check_writable(&self, alloc: Global, path: &str) -> Result<(), FileError<Global>> {
         match check_replaceable(self.0, alloc, path) {
             Ok(()) => Ok(()),
@@ -254,7 +272,13 @@ where
         check_out(alloc, &mut SystemWriter(self.0), path, root, source)?;
         Ok(())
     }
+}
 
+impl<R> Hosting for System<'_, R>
+where
+    R: AllocGlobal + Clock + ErrorTerminal + Log + RandomSource,
+    R: Net<Listener = TcpListener, Stream = TcpStream>,
+{
     fn random_keys(&self) -> io::Result<RandomState> {
         RandomState::new(self.0)
     }
@@ -300,7 +324,7 @@ where
 #[derive(Drop)]
 pub(crate) struct FilesOf<'w, W>(pub &'w W);
 
-impl<W: World> FileReader<Global> for FilesOf<'_, W> {
+impl<W: Inputs> FileReader<Global> for FilesOf<'_, W> {
     ghost reads = { W.sees.reads };
 
     ghost fails = { W.sees.fails };

@@ -1,8 +1,10 @@
 use Rattle.std.proofs.Common.{◌≡◌, ◌∙◌, inl, inr, refl, rules, string_bytes, subst, sym}
 use Rattle.std.proofs.Math.Logic.{∥∥₁_map}
+use Rattle.builder.specs.Faults.{IsStoreFailure, fault_of}
 use Rattle.remote.specs.Remote.{connection_of, telling_of}
-use Rattle.cli.proofs.Builds.{over_fails, stops_of, told_as, nothing_by}
+use Rattle.cli.proofs.Builds.{server_stops, stops_of, told_as}
 use Rattle.commands.proofs.Exits.{exit_by}
+use Rattle.commands.proofs.Tellings.{nothing_by}
 use Rattle.worker.specs.Outcomes.{YieldsNoMore}
 use Rattle.blob_source.specs.Memory.{TellsNothing}
 use Rattle.cli.specs.Refused.{FailsTelling}
@@ -23,7 +25,7 @@ returns-in-Ok-clause-told g c =
             within = subst (λ w. YieldsNoMore (g.P.Steps.Runner.yields c.steps-runner.result) (g.P.Workplace.below c.args.errors w).yields) work c.steps-runner.ensures.yields;
             none = c.steps-runner.ensures.unstarted;
             all = λ started h. subst (λ w. (g.P.Workplace.below c.args.errors w).ran started) c.as_str-2.ensures.value (c.end_steps.ensures.ran c.args.errors started h);
-          }) c.tell_build-told.result _ c.tell_build-told.ensures.told.came c.in-Ok.is;
+          }) c.tell_build-told.result c.tell_build-told.ensures.told.came c.tell_build-told.ensures.told.order.fetched _ c.in-Ok.is;
       holds = c.in_ok-put_root-in-Ok.ensures.held;
     }
 
@@ -34,19 +36,44 @@ returns-in_err-work-clause-fault g c =
     exit_by (FailsTelling g.K.Opened.start (string_bytes asked.server.address) (g.P.Workplace.below c.args.errors (string_bytes asked.work)) asked.jobs asked.plan asked.sources) _
     c.from_residual.ensures.1 (inl refl)
 
+-- a request failed
 pub returns-in_err-put_root-in-Ok-clause-fault : goal.returns-in_err-put_root-in-Ok-clause-fault
 returns-in_err-put_root-in-Ok-clause-fault g c =
     let asked = c.args.asked.now in
     let address = string_bytes asked.server.address in
-    let yields = g.P.Workplace.below c.args.errors (string_bytes asked.work) in
-    exit_by (FailsTelling g.K.Opened.start address yields asked.jobs asked.plan asked.sources) _ c.from_residual-in_err-put_root-in-Ok.ensures.1
-    (over_fails g.K.Opened.start address yields asked.jobs asked.plan asked.sources _ c.in_err-put_root-in-Ok.ensures.fault)
+    let processes = g.P.Workplace.below c.args.errors (string_bytes asked.work) in
+    let work : string_bytes c.in_ok-work.work ≡ string_bytes asked.work = search rules in
+    let remote = c.tell_build-told.new.sink.remote in
+    exit_by (FailsTelling g.K.Opened.start address processes asked.jobs asked.plan asked.sources) _ c.from_residual-in_err-put_root-in-Ok.ensures.1
+    (server_stops g.K.Opened.start asked.plan asked.sources asked.jobs _ _
+    (subst (λ r. TellsNothing (telling_of r)) (sym c.new-client.ensures.remote) (nothing_by c.args.remote c.requires.fresh))
+    (∥∥₁_map c.tell_build-told.new.sink.over (λ over. (connection_of g.S.Stream.flow remote, over))) _ _
+    (record {
+      within = subst (λ w. YieldsNoMore (g.P.Steps.Runner.yields c.steps-runner.result) (g.P.Workplace.below c.args.errors w).yields) work c.steps-runner.ensures.yields;
+      none = c.steps-runner.ensures.unstarted;
+      all = λ started h. subst (λ w. (g.P.Workplace.below c.args.errors w).ran started) c.as_str-2.ensures.value (c.end_steps.ensures.ran c.args.errors started h);
+    })
+    c.tell_build-told.result c.tell_build-told.ensures.told.came c.tell_build-told.ensures.told.order.fetched
+    address _ _ c.in-Ok.is c.in_err-put_root-in-Ok.ensures.whole c.in_err-put_root-in-Ok.ensures.fault)
 
 pub returns-in-Fetch-clause-fault : goal.returns-in-Fetch-clause-fault
 returns-in-Fetch-clause-fault g c =
     let asked = c.args.asked.now in
-    over_fails g.K.Opened.start (string_bytes asked.server.address) (g.P.Workplace.below c.args.errors (string_bytes asked.work)) asked.jobs asked.plan asked.sources _ c.in_ok-error-in-Fetch.ensures.over
+    let work : string_bytes c.in_ok-work.work ≡ string_bytes asked.work = search rules in
+    let remote = c.tell_build-told.new.sink.remote in
+    let fails : IsStoreFailure (fault_of c.in-Err.error) = subst IsStoreFailure (sym c.in-Fetch.is ∙ c.fault_of.ensures) tt in
+    server_stops g.K.Opened.start asked.plan asked.sources asked.jobs _ _
+    (subst (λ r. TellsNothing (telling_of r)) (sym c.new-client.ensures.remote) (nothing_by c.args.remote c.requires.fresh))
+    (∥∥₁_map c.tell_build-told.new.sink.over (λ over. (connection_of g.S.Stream.flow remote, over))) _ _
+    (record {
+      within = subst (λ w. YieldsNoMore (g.P.Steps.Runner.yields c.steps-runner.result) (g.P.Workplace.below c.args.errors w).yields) work c.steps-runner.ensures.yields;
+      none = c.steps-runner.ensures.unstarted;
+      all = λ started h. subst (λ w. (g.P.Workplace.below c.args.errors w).ran started) c.as_str-2.ensures.value (c.end_steps.ensures.ran c.args.errors started h);
+    })
+    c.tell_build-told.result c.tell_build-told.ensures.told.came c.tell_build-told.ensures.told.order.fetched
+    (string_bytes asked.server.address) _ _ c.in-Err.is fails c.in_ok-error-in-Fetch.ensures.over
 
+-- a process came to nothing
 pub returns-in-Some-clause-fault : goal.returns-in-Some-clause-fault
 returns-in-Some-clause-fault g c =
     let asked = c.args.asked.now in
@@ -60,4 +87,5 @@ returns-in-Some-clause-fault g c =
       none = c.steps-runner.ensures.unstarted;
       all = λ started h. subst (λ w. (g.P.Workplace.below c.args.errors w).ran started) c.as_str-2.ensures.value (c.end_steps.ensures.ran c.args.errors started h);
     })
-    c.in-Err.error c.in-Some.stopped _ c.tell_build-told.result c.tell_build-told.ensures.told.came c.in-Err.is c.in-Some.ensures.some c.in_ok-process_error-in-Some.ensures))
+    c.tell_build-told.result c.tell_build-told.ensures.told.came c.tell_build-told.ensures.told.order.fetched
+    c.in-Err.error c.in-Some.stopped _ c.in-Err.is c.in-Some.ensures.some c.in_ok-process_error-in-Some.ensures))

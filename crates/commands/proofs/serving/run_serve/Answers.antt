@@ -3,11 +3,11 @@ use Rattle.clap.specs.Words.{found_of, rows_of}
 use Rattle.command_lines.specs.CommandLine.{option_text}
 use Rattle.commands.specs.Refusal.{IsPrintFault}
 use Rattle.commands.specs.ServeRefused.{FailsServe, FailsToListen, IsAcceptFault}
-use Rattle.commands.specs.ServeRefused.FailsServe.{in_address, in_connections, in_memory, in_output, in_words}
+use Rattle.commands.specs.ServeRefused.FailsServe.{in_address, in_connections, in_memory, in_output, in_random, in_words}
 use Rattle.commands.specs.Words.{FailsFirst, serve_words}
 use Rattle.commands.specs.Printed.{PrintsListening, listening_line}
 use Rattle.commands.proofs.Exits.{exit_by, or_else}
-use Rattle.commands.proofs.Refused.{listen_not_accept, or_memory, print_not_accept, starts_serve, words_not_accept}
+use Rattle.commands.proofs.Refused.{listen_not_accept, or_memory, print_not_accept, random_not_accept, starts_serve, words_not_accept}
 use Rattle.commands.proofs.Writing.{beginning_of_all, where_err}
 use Rattle.commands.proofs.serving.run_serve.Goals as goal
 
@@ -17,6 +17,15 @@ returns-in_err-request-clause-refused g c =
     let options = rows_of (found_of c.args.matches.now) in
     exit_by (FailsServe sees options) _ c.from_residual.ensures.1
     (or_memory (FailsFirst (serve_words options)) (FailsServe sees options) _ in_memory in_words c.in_err-request.ensures.checked)
+
+pub returns-in_err-keys-clause-refused : goal.returns-in_err-keys-clause-refused
+returns-in_err-keys-clause-refused g c =
+    exit_by (FailsServe g.W.World.sees (rows_of (found_of c.args.matches.now))) _ c.from_residual-in_err-keys.ensures.1 (in_random c.in_ok-request.ensures.checked c.in_err-keys.ensures.fault)
+
+pub returns-in_err-keys-clause-told : goal.returns-in_err-keys-clause-told
+returns-in_err-keys-clause-told g c =
+    exit_by (λ e. IsAcceptFault e → PrintsListening g.W.World.sees (rows_of (found_of c.args.matches.now)) (g.O.Write.contents c.args.out.now) (g.O.Write.contents c.args.out.now)) _ c.from_residual-in_err-keys.ensures.1
+    (λ accept. absurd (random_not_accept g.W.World.sees _ c.in_err-keys.ensures.fault accept))
 
 pub returns-in_err-cache-clause-refused : goal.returns-in_err-cache-clause-refused
 returns-in_err-cache-clause-refused g c =
@@ -28,7 +37,7 @@ returns-in_err-listening-clause-refused g c =
     let options = rows_of (found_of c.args.matches.now) in
     exit_by (FailsServe sees options) _ c.from_residual-in_err-listening.ensures.1
     (or_memory (FailsToListen sees (option_text options (codes "listen"))) (FailsServe sees options) _ in_memory
-    (in_address c.in_ok-request.ensures.checked)
+    (in_address c.in_ok-request.ensures.checked c.in_ok-keys.ensures.given)
     (rw (← c.in_ok-request.ensures.request.address) c.in_err-listening.ensures.fault))
 
 pub returns-in_err-print_address-clause-refused : goal.returns-in_err-print_address-clause-refused

@@ -1,18 +1,21 @@
-use Rattle.std.proofs.Common.{inl, refl, string_bytes}
+use Rattle.std.proofs.Common.{◌≡◌, inl, length, refl, string_bytes, subst, sym}
 use Rattle.std.proofs.Math.Logic.{∥∥₁_map}
 use Rattle.remote.specs.Remote.{connection_of, telling_of}
 use Rattle.commands.specs.Faults.{OrMemory}
 use Rattle.commands.specs.Places.{FailsOver, gets_alone}
 use Rattle.commands.proofs.Exits.{exit_by}
+use Rattle.commands.proofs.Placed.{asked_first}
 use Rattle.commands.proofs.verifying.judge_over.Goals as goal
 
 pub returns-in-Ok-clause-answered : goal.returns-in-Ok-clause-answered
 returns-in-Ok-clause-answered g c =
-    let remote = c.answer_question.new.source.remote in (
+    let remote = c.answer_question.new.source.remote in
+    let first : (telling_of c.new-client.result.remote).calls ≡ 0 = subst (λ r. (telling_of r).calls ≡ 0) (sym c.new-client.ensures.remote) c.requires.fresh.calls in (
       telling_of remote,
       ∥∥₁_map c.answer_question.new.source.over (λ over. (connection_of g.S.Stream.flow remote, over)),
       c.in-Ok.ensures.answered,
       c.in_ok-confirm_lack-in-Ok.ensures.lacked,
+      λ list covers. asked_first (telling_of c.new-client.result.remote).calls (telling_of remote).calls (length list) first (c.answer_question.ensures.few list covers),
     )
 
 -- memory ran out

@@ -21,16 +21,19 @@ invariant_of-self g c =
     let flow = g.S.Stream.flow in
     let old = connection_of flow c.args.self.now.remote in
     let new = connection_of flow c.send_blob-put.new.self in
-    let puts = (telling_of c.args.self.now.remote).puts in
+    let told = telling_of c.args.self.now.remote in
+    let telling = telling_of c.send_blob-put.new.self in
     let bytes = c.args.bytes.now in
     let sent = c.send_blob-put.ensures.sent in
     let kept = subst (λ x. c.keep_failure.new.kept ≡ kept_failure c.args.self.now.failure PutBlob x c.send_blob-put.result c.last_fault-fault.result)
     c.digest_put-digest.ensures c.keep_failure.ensures in
     record {
-      over = ∥∥₁_map c.args.self.now.over (λ over. let on = same_put puts (telling_of c.send_blob-put.new.self).puts new sent.puts
-          (comes_by_blob puts_blobs start (digest_of bytes).hash bytes old new puts c.send_blob-put.result sent.taken sent.refused refl (over.came, over.puts)) in record {
+      over = ∥∥₁_map c.args.self.now.over (λ over. let on = same_put told.puts telling.puts telling.calls new sent.puts
+          (comes_by_blob puts_blobs start (digest_of bytes).hash bytes old new told.puts told.calls telling.calls sent.called.asked.calls c.send_blob-put.result sent.taken sent.refused refl (over.came, over.puts, over.few)) in record {
             came = on.0;
             puts = on.1;
+            few = on.2;
+            failures = refl;
             blobs = subst (λ t. CameAllOver puts_blobs start Cas (told_by t)) (sym sent.blobs) over.blobs;
             results = subst (λ t. CameAllOver puts_blobs start Ac (told_by t)) (sym sent.results) over.results;
           });

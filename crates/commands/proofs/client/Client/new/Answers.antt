@@ -3,18 +3,20 @@ use Rattle.http_core.specs.declared.event.Area.TheVariants.{Ac, Cas}
 use Rattle.remote.specs.Line.{ConnectionValue}
 use Rattle.remote.specs.Remote.{blobs_of, connection_of, results_of, telling_of}
 use Rattle.commands.specs.Places.{AreLacked, IsClientOver, KeepsRefused, LacksIt, LacksOver}
-use Rattle.commands.specs.Places.Comes.{fresh}
-use Rattle.commands.proofs.Tellings.{ComesPutting, none_lacked, none_unasked, same_put, some_not_none}
+use Rattle.commands.proofs.Tellings.{ComesPutting, comes_first, none_lacked, none_unasked, same_put, some_not_none}
 use Rattle.commands.proofs.client.Client.new.Goals as goal
 
 pub invariant_of-result : goal.invariant_of-result
 invariant_of-result g c =
     let remote = c.args.remote in
     let access = g.U.Permit.access in
-    let first = same_put [] (telling_of remote).puts _ c.requires.fresh.puts (subst (ComesPutting access g.K.Opened.start []) c.requires.start (fresh, refl)) in
+    let calls = (telling_of remote).calls in
+    let first = same_put [] (telling_of remote).puts calls _ c.requires.fresh.puts (subst (ComesPutting access g.K.Opened.start [] calls) c.requires.start (comes_first access g.K.Opened.start calls)) in
     let over : IsClientOver access g.K.Opened.start (connection_of g.S.Stream.flow remote) (telling_of remote) = record {
       came = first.0;
       puts = first.1;
+      few = first.2;
+      failures = refl;
       blobs = λ d b is. absurd (some_not_none (sym is ∙ none_unasked (blobs_of remote) d (c.requires.fresh.blobs d)));
       results = λ d b is. absurd (some_not_none (sym is ∙ none_unasked (results_of remote) d (c.requires.fresh.results d)));
     } in

@@ -19,10 +19,12 @@ invariant_of-self g c =
     let d = c.args.digest.now in
     let is = c.result-found.ensures in
     record {
-      over = ∥∥₁_map c.args.self.now.over (λ over. let on = same_put (telling_of old).puts (telling_of new).puts _ is.called.asked.puts
-          (comes_on access start Ac d (connection_of flow old) (connection_of flow new) (results_of old) (results_of new) (telling_of old).puts c.result-found.result is.asked (over.came, over.puts)) in record {
+      over = ∥∥₁_map c.args.self.now.over (λ over. let on = same_put (telling_of old).puts (telling_of new).puts (telling_of new).calls _ is.called.asked.puts
+          (comes_on access start Ac d (connection_of flow old) (connection_of flow new) (results_of old) (results_of new) (telling_of old).puts (telling_of old).calls (telling_of new).calls is.called.asked.counts.calls c.result-found.result is.asked (over.came, over.puts, over.few)) in record {
             came = on.0;
             puts = on.1;
+            few = on.2;
+            failures = refl;
             results = came_on access start Ac d (connection_of flow old) (connection_of flow new) (results_of old) (results_of new) c.result-found.result is.asked over.came
                 is.told is.called.asked.results over.results;
             blobs = subst (λ t. CameAllOver access start Cas (told_by t)) (sym is.untouched) over.blobs;

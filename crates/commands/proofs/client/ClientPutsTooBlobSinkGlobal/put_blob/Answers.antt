@@ -24,10 +24,12 @@ invariant_of-self g c =
     let kept = subst (λ x. c.keep_failure.new.kept ≡ kept_failure c.args.self.now.failure PutBlob x c.put_blob-put.result c.last_fault-fault.result)
     c.digest_put-digest.ensures c.keep_failure.ensures in
     record {
-      over = ∥∥₁_map c.args.self.now.over (λ over. let on = same_put (telling_of old).puts (telling_of new).puts _ put.called.asked.puts
-          (comes_by_blob puts_too start d.hash bytes (connection_of flow old) (connection_of flow new) (telling_of old).puts c.put_blob-put.result put.stored.taken put.stored.refused (inl refl) (over.came, over.puts)) in record {
+      over = ∥∥₁_map c.args.self.now.over (λ over. let on = same_put (telling_of old).puts (telling_of new).puts (telling_of new).calls _ put.called.asked.puts
+          (comes_by_blob puts_too start d.hash bytes (connection_of flow old) (connection_of flow new) (telling_of old).puts (telling_of old).calls (telling_of new).calls put.called.asked.counts.calls c.put_blob-put.result put.stored.taken put.stored.refused (inl refl) (over.came, over.puts, over.few)) in record {
             came = on.0;
             puts = on.1;
+            few = on.2;
+            failures = refl;
             blobs = came_by_put start Cas d bytes (connection_of flow old) (connection_of flow new) (blobs_of old) (blobs_of new) c.put_blob-put.result put.stored (inl refl) over.came
                 put.called.asked.blobs over.blobs;
             results = subst (λ t. CameAllOver puts_too start Ac (told_by t)) (sym put.untouched) over.results;

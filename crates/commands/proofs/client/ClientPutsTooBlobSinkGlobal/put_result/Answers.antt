@@ -21,9 +21,11 @@ invariant_of-self g c =
     let kept = c.keep_failure.ensures in
     record {
       over = ∥∥₁_map c.args.self.now.over (λ over. let on = comes_by_result puts_too start d bytes (connection_of flow old) (connection_of flow new) (telling_of old).puts (telling_of new).puts
-          c.put_result-put.result put.stored.taken put.stored.refused (inr (d.hash, refl)) put.listed put.unlisted (over.came, over.puts) in record {
+          (telling_of old).calls (telling_of new).calls put.called.asked.counts.calls c.put_result-put.result put.stored.taken put.stored.refused (inr (d.hash, refl)) put.listed put.unlisted (over.came, over.puts, over.few) in record {
             came = on.0;
             puts = on.1;
+            few = on.2;
+            failures = refl;
             results = came_by_put start Ac d bytes (connection_of flow old) (connection_of flow new) (results_of old) (results_of new) c.put_result-put.result put.stored (inr (d.hash, refl)) over.came
                 put.called.asked.results over.results;
             blobs = subst (λ t. CameAllOver puts_too start Cas (told_by t)) (sym put.untouched) over.blobs;

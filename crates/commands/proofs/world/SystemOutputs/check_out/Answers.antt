@@ -1,7 +1,7 @@
 use Rattle.std.proofs.lemmas.Result.{err_from_is_err_and}
 use Rattle.checkout.specs.Folder.{IsHad, nothing_known}
 use Rattle.checkout.proofs.Entries.{checkout_had}
-use Rattle.commands.proofs.world.SystemWorld.check_out.Goals as goal
+use Rattle.commands.proofs.world.SystemOutputs.check_out.Goals as goal
 
 pub returns-in_err-check_out-clause-refused : goal.returns-in_err-check_out-clause-refused
 returns-in_err-check_out-clause-refused g c =
