@@ -82,8 +82,8 @@ pub record AsksQuestion (sees : Sight) (options : List Row) (question : Question
       plan_bytes noted_bytes question
 
 -- The verdict is the one on that question, by what a source over the place that they name told.
--- It was called at most once for each thing at which the verifier looks. What is missing by the
--- verdict is lacked there.
+-- A server was called at most once for each thing at which the verifier looks (how often a file of
+-- a store is read isn't stated). What is missing by the verdict is lacked there.
 pub record JudgesAsked (sees : Sight) (options : List Row) (verdict : Verdict Global)
     : Type 0 where
   pub question : Question
@@ -91,7 +91,7 @@ pub record JudgesAsked (sees : Sight) (options : List Row) (verdict : Verdict Gl
   pub told : Telling
   pub source : ∥ IsOfPlace sees options told ∥₁
   pub judged : IsJudged told question verdict
-  pub few : IsAskedOnce told question
+  pub few : NamesServer options → IsAskedOnce told question
   pub lacks : IfSome (lack_of question verdict) (λ lack. ∥ LacksAtPlace sees options lack ∥₁)
 
 -- the line of that verdict was printed

@@ -74,7 +74,7 @@ returns-in_err-print_line-clause-refused g c =
     let sees = g.W.World.sees in
     let rows = rows_of (found_of c.args.matches.now) in
     let judged : JudgesAsked g.W.World.sees (rows_of (found_of c.args.matches.now)) is.2.verdict =
-    record { question = c.in_ok-case.case; asks = c.in_ok-case.ensures.asks; told = is.0; source = is.1; judged = is.2.judged; lacks = lacked_by sees rows c.in_ok-case.case is.2.verdict c.in_ok-answer.answer.lack is.2.lack is.3; few = is.4 } in
+    record { question = c.in_ok-case.case; asks = c.in_ok-case.ensures.asks; told = is.0; source = is.1; judged = is.2.judged; lacks = lacked_by sees rows c.in_ok-case.case is.2.verdict c.in_ok-answer.answer.lack is.2.lack is.3; few = λ over. is.4 } in
     exit_by (FailsVerify g.W.World.sees (rows_of (found_of c.args.matches.now))) _ c.from_residual-in_err-print_line.ensures.1
     (in_output is.2.verdict judged c.in_err-print_line.ensures.fault)
 
@@ -84,7 +84,7 @@ returns-in_err-print_line-clause-begun g c =
     let sees = g.W.World.sees in
     let rows = rows_of (found_of c.args.matches.now) in
     let judged : JudgesAsked sees rows is.2.verdict =
-    record { question = c.in_ok-case.case; asks = c.in_ok-case.ensures.asks; told = is.0; source = is.1; judged = is.2.judged; lacks = lacked_by sees rows c.in_ok-case.case is.2.verdict c.in_ok-answer.answer.lack is.2.lack is.3; few = is.4 } in
+    record { question = c.in_ok-case.case; asks = c.in_ok-case.ensures.asks; told = is.0; source = is.1; judged = is.2.judged; lacks = lacked_by sees rows c.in_ok-case.case is.2.verdict c.in_ok-answer.answer.lack is.2.lack is.3; few = λ over. is.4 } in
     where_err c.from_residual-in_err-print_line.result
     (inr (is.2.verdict, judged, subst (AppendsBeginning (g.O.Write.contents c.args.out.now) (g.O.Write.contents c.print_line.new.out)) is.2.tells.line c.in_err-print_line.ensures.begun))
 
@@ -100,7 +100,7 @@ returns-clause-printed g c =
     let rows = rows_of (found_of c.args.matches.now) in (
       record {
         verdict = is.2.verdict;
-        judged = record { question = c.in_ok-case.case; asks = c.in_ok-case.ensures.asks; told = is.0; source = is.1; judged = is.2.judged; lacks = lacked_by sees rows c.in_ok-case.case is.2.verdict c.in_ok-answer.answer.lack is.2.lack is.3; few = is.4 };
+        judged = record { question = c.in_ok-case.case; asks = c.in_ok-case.ensures.asks; told = is.0; source = is.1; judged = is.2.judged; lacks = lacked_by sees rows c.in_ok-case.case is.2.verdict c.in_ok-answer.answer.lack is.2.lack is.3; few = λ over. is.4 };
         printed = search rules;
       },
       subst (λ b. IsTrue b ↔ IsYes is.2.verdict) (sym c.ended_of.ensures.done) is.2.tells.positive,
