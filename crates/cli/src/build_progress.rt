@@ -40,15 +40,17 @@ impl<'a, T: Write + Drop> BuildProgress<'a, T> {
         self.line.clear();
     }
 
-    /// Ends it, once its line was taken away.
-    pub(crate) fn end(self)
+    /// Ends it, once its line was taken away, and gives its terminal back.
+    pub(crate) fn end(self) -> Option<T>
         requires { self.line.is_written ≡ false }
+        ensures { result ≡ self.entry.line.terminal }
     {
         let BuildProgress {
             alloc: _alloc,
             plan: _plan,
-            line: _line,
+            line,
         } = self;
+        line.terminal
     }
 }
 

@@ -310,7 +310,7 @@ fn build_asked<W: Inputs + Outputs, P: Workplace + Drop, T: Write + Drop>(
         &mut progress,
     );
     progress.clear();
-    progress.end();
+    let _terminal = progress.end();
     told
 }
 
