@@ -83,8 +83,8 @@ pub trait World {
     ghost sees: { Sight };
 }
 
-/// What a command reads: files and folders, and servers. Nothing changes outside but by what is sent
-/// over a connection.
+/// What a command reads: files and folders, and servers. Nothing changes outside but by what is
+/// sent over a connection.
 pub trait Inputs: World {
     /// A connection to a server.
     type Link: Stream + Drop;
