@@ -84,8 +84,7 @@ pub record StopsAtProcess (start : ConnectionValue) (processes : Processes) (mos
       (Err (errors.Step (record { step = step; refusal = Run (Device program cause) })))
   pub told : TellsProcess plan step (string_bytes program) cause e
 
--- a request of a build failed: one of its calls, or a PUT of a Directory of the root that it came
--- to
+-- a call of a build failed, or it came to its root, whose Directories were to be put
 abbrev pub EndsAtServer : Result (Told Global) (BuildPlanError Global) → Type 0
 EndsAtServer (Ok told) = ended_of told ≡ Done
 EndsAtServer (Err error) = IsStoreFailure (fault_of error)
