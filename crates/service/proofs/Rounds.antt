@@ -2,8 +2,8 @@
 use Rattle.std.proofs.Common.{◌≡◌, ℕ, ◌+◌, ◌≤◌, ◌⊎◌, inl, inr, Bool, true, false, Option, Some, None, List, [], ◌∷◌, ◌++◌, refl, sym, ◌∙◌, ap, subst, arith}
 use Rattle.std.specs.Prelude.{IfSome, IsSome, if◌then◌else◌, option_map}
 use Rattle.service.specs.Member.{GoesAhead, IsDeadline, MemberValue, in_queue, load_after, no_load}
-use Rattle.service.specs.Rounds.{ArePressed, EndLate, EndsLate, GoesAheadAt, HasTurn, NoneEnds, OneEnds}
-use Rattle.service.specs.Together.{OthersAreSame, joining, member_at}
+use Rattle.service.specs.Rounds.{ArePressed, EndLate, EndsLate, GoesAheadAt, HasTurn, NoneEnds, OneEnds, TakeTurns, TakesTurns}
+use Rattle.service.specs.Together.{AreSameButHeld, OthersAreSame, joining, member_at}
 use Rattle.service.specs.declared.load.Load.{Load}
 use Rattle.service.specs.declared.together.Together.{Together}
 
@@ -89,6 +89,16 @@ ends_one {S} idle limit pressed now number deadline old mid new before between a
       others = others;
       less = less;
     }
+
+-- so many turns were taken, whatever was let go behind them
+pub took_turns : {S : Type 0} {count all : ℕ} (spoke : ℕ → S → List ℕ → List ℕ → Type 0) (tried : S → ℕ → Type 0) (now : ℕ) (old last new : Together S) → count ≡ all → TakeTurns tried count old last
+    → AreSameButHeld spoke now last.members.entries new.members.entries → TakesTurns spoke tried all old new
+took_turns spoke tried now old last new are turns same = record {
+  last = last;
+  turns = subst (λ n. TakeTurns tried n old last) are turns;
+  now = now;
+  same = same;
+}
 
 -- one more was accepted, or none waits
 pub counts_on : (was is : Bool) (first count mid new : ℕ) → was ≡ true → (was ≡ false) ⊎ (first + count ≡ mid) → (new ≡ mid + 1) ⊎ ((is ≡ false) × (new ≡ mid)) → (is ≡ false) ⊎ (first + (count + 1) ≡ new)

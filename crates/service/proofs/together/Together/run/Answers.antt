@@ -1,9 +1,10 @@
 use Rattle.std.specs.Prelude.{false}
 use Rattle.service.proofs.Keeping.{keeps_but_held, keeps_further}
-use Rattle.std.proofs.Common.{◌≡◌, inl, length, refl, subst, arith}
+use Rattle.std.proofs.Common.{inl, refl, arith}
 use Rattle.service.proofs.Places.{placed_further, placed_but_held}
+use Rattle.service.proofs.Rounds.{took_turns}
 use Rattle.service.proofs.Seeing.{seen_same}
-use Rattle.service.specs.Rounds.{NoTurn, OneTurn, TakeTurns}
+use Rattle.service.specs.Rounds.{NoTurn, OneTurn}
 use Rattle.service.proofs.together.Together.run.Goals as goal
 
 pub loop-preserved : goal.loop-preserved
@@ -39,21 +40,7 @@ loop-init g c = record {
 }
 
 pub returns-then-self-clause-turns : goal.returns-then-self-clause-turns
-returns-then-self-clause-turns g c =
-    let all : c.loop.counter ≡ length c.args.self.now.ready.items = omega arith in
-    record {
-      last = c.loop.self;
-      turns = subst (λ n. TakeTurns g.S.Peer.tried n c.args.self.now c.loop.self) all c.loop.invariant.turns;
-      now = _;
-      same = c.release.ensures.same;
-    }
+returns-then-self-clause-turns g c = took_turns g.S.Peer.spoke g.S.Peer.tried _ c.args.self.now c.loop.self c.release.new.self (omega arith) c.loop.invariant.turns c.release.ensures.same
 
 pub returns-else-self-clause-turns : goal.returns-else-self-clause-turns
-returns-else-self-clause-turns g c =
-    let all : c.loop.counter ≡ length c.args.self.now.ready.items = omega arith in
-    record {
-      last = c.loop.self;
-      turns = subst (λ n. TakeTurns g.S.Peer.tried n c.args.self.now c.loop.self) all c.loop.invariant.turns;
-      now = 0;
-      same = (λ j. inl refl, refl);
-    }
+returns-else-self-clause-turns g c = took_turns g.S.Peer.spoke g.S.Peer.tried 0 c.args.self.now c.loop.self c.loop.self (omega arith) c.loop.invariant.turns (λ j. inl refl, refl)
