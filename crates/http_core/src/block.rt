@@ -3,8 +3,8 @@ ghost use Rattle.std.specs.Prelude.{◌-◌, Some, length, slice_get, take, IsTr
 ghost use Rattle.std.specs.List.{AllByRecursion};
 ghost use Rattle.http_core.specs.Block.{EndsBlock, IsBlock};
 
-/// The greatest length of a block.
-pub(crate) const MAX_BLOCK: usize = 16384;
+/// The greatest length of a block: of the lines of a head, with the empty one at their end.
+pub const MAX_BLOCK: usize = 16384;
 
 /// The bytes up to and including the first line feed: at most `most` of them, but at least one.
 pub(crate) fn first_line(bytes: &[u8], most: usize) -> &[u8]

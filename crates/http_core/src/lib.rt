@@ -19,6 +19,7 @@ mod rules;
 mod session;
 mod status;
 
+pub use block::MAX_BLOCK;
 pub use event::{Area, Ask, Event};
 pub use fail_stream::FailStream;
 pub use head_text::HeadText;

@@ -8,11 +8,8 @@ ghost use Rattle.remote.specs.Steps.{SendsNoMore};
 use crate::block::wanting;
 use crate::fault::Refusal;
 use crate::stream::Stream;
-use http_core::read_reply_head;
+use http_core::{MAX_BLOCK, read_reply_head};
 use std::alloc::Allocator;
-
-/// The greatest length of a block.
-const MAX_BLOCK: usize = 16384;
 
 /// As many bytes as a block's end has.
 const END: usize = 4;
