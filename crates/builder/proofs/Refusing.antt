@@ -27,7 +27,7 @@ use Rattle.builder.specs.declared.telling.Told.{Told}
 use Rattle.builder.proofs.Serving.{none_finished}
 
 abbrev pub ran_by : (A : Type 0) (y : Yields) (most : ℕ) (plan : PlanValue) (sources : DigestValue) (old new : Seen) (opening ending : Telling) (first last : EngineValue) → Asks (2 * length plan.steps) old.store opening → IsOpened opening.blobs plan sources first
-    → (led : IsBuiltWith A y old.started new.started opening ending most first last) → FinishInOrder [] led.built.led.calls → (whole : List Call) → AreTurns whole → (more : List DigestValue) × (ending.puts ≡ (opening.puts ++ came_of whole) ++ more) → KeepsAllBut (IsOfBuild A y ending.blobs last) opening.blobs ending.blobs → IsWatched (IsProgress A y ending most first led.built.led.calls) (turns_in whole) old.heard new.heard → AsksSome ending new.store → AsksRootOnce last ending new.store → Ran A y most plan sources old new first last
+    → (led : IsBuiltWith A y old.started new.started opening ending most first last) → FinishInOrder [] led.built.led.calls → (whole : List Call) → AreTurns whole → (more : List DigestValue) × (ending.puts ≡ (opening.puts ++ came_of whole) ++ more) → KeepsAllBut (IsOfBuild A y ending last) opening.blobs ending.blobs → IsWatched (IsProgress A y ending most first led.built.led.calls) (turns_in whole) old.heard new.heard → AsksSome ending new.store → AsksRootOnce last ending new.store → Ran A y most plan sources old new first last
 ran_by A y most plan sources old new opening ending first last asked opened led in_order whole turns put blobs watched later once =
     let same = led_same A y ending most led.built.led in
     record {

@@ -115,7 +115,7 @@ module _ (A : Type 0) (yields : Yields) (most : ℕ) (plan : PlanValue) (sources
     pub of_plan : last.plan ≡ plan
     pub of_sources : last.sources ≡ sources
     -- what stands under the digest of no blob that the build has to put stays
-    pub blobs : KeepsAllBut (IsOfBuild A yields ending.blobs last) opening.blobs ending.blobs
+    pub blobs : KeepsAllBut (IsOfBuild A yields ending last) opening.blobs ending.blobs
     -- each result was put under the action of a step of the plan
     pub own : AllByRecursion (λ d. (i : ℕ) × IsActionOf A ending.blobs last i d) led.built.puts.put
     pub watched : IsWatched (IsProgress A yields ending most first led.built.led.calls)

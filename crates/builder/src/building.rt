@@ -81,6 +81,7 @@ pub fn build_plan<A: Allocator + Copy, S: BlobSink<A>, N: Runner<A>, W: Watcher>
         (N.failures runner.old) (W.told watcher.old))
         (seen (S.tells sink.new) (N.starts runner.new) (N.alive runner.new)
         (N.failures runner.new) (W.told watcher.new)) result }
+    ensures below { N.work runner.new ≡ N.work runner.old }
 {
     let mut engine = Engine::new(alloc, plan, sources, sink)?;
     build(alloc, &mut engine, sink, runner, watcher, jobs)?;

@@ -73,6 +73,7 @@ pub fn tell_build<A: Allocator + Copy, S: BlobSink<A>, N: Runner<A>, W: Watcher>
         (N.failures runner.old) (W.told watcher.old))
         (seen (S.tells sink.new) (N.starts runner.new) (N.alive runner.new)
         (N.failures runner.new) (W.told watcher.new)) result }
+    ensures below { N.work runner.new ≡ N.work runner.old }
 {
     let error = match build_plan(alloc, *sources, plan, sink, runner, watcher, jobs) {
         Ok(built) => return Ok(tell_root(alloc, plan, built)?),

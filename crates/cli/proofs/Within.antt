@@ -1,5 +1,5 @@
 -- What is said of a build by its runner and its watcher is said of it by what is known below a folder.
-use Rattle.std.proofs.Common.{◌++◌, List, [], Result, Ok, Err, ℕ, refl, subst, sym}
+use Rattle.std.proofs.Common.{◌≡◌, ◌∙◌, ◌++◌, List, [], Result, Ok, Err, ℕ, refl, subst, sym}
 use Rattle.std.specs.declared.alloc.Global.{Global}
 use Rattle.blob_digest.specs.Digest.{DigestValue}
 use Rattle.plan.specs.Values.{PlanValue}
@@ -8,7 +8,7 @@ use Rattle.worker.specs.Calls.{children_of}
 use Rattle.worker.specs.Outcomes.{Yields, YieldsNoMore}
 use Rattle.worker.specs.Values.{StartValue}
 use Rattle.worker.proofs.Acts.{same_build}
-use Rattle.worker.proofs.Blobs.{of_build_moved, others_more}
+use Rattle.worker.proofs.Blobs.{of_build_within, others_more}
 use Rattle.worker.proofs.Heard.{all_so}
 use Rattle.worker.proofs.Stopping.{leads_within, progress_within, refused_within}
 use Rattle.builder.specs.Built.{BuiltValue, Builds, Ran, Seen}
@@ -16,13 +16,21 @@ use Rattle.builder.specs.Telling.{IsBuildTold}
 use Rattle.builder.specs.declared.error.BuildPlanError.{BuildPlanError}
 use Rattle.builder.specs.declared.error.BuildPlanError.TheVariants.{Opening, Step, Root}
 use Rattle.builder.specs.declared.telling.Told.{Told}
-use Rattle.cli.specs.Built.{Processes, at_first, at_last}
+use Rattle.cli.specs.Built.{Below, Processes, at_first, at_last}
 
 -- The runner yields no more, had started none at first, and what it had started at last is what ran.
 pub record IsRunBelow (z : Yields) (old new : Seen) (processes : Processes) : Type 0 where
   pub within : YieldsNoMore z processes.yields
   pub none : old.started []
   pub all : (started : List StartValue) → new.started started → processes.ran started
+
+-- it ran below the folder that was asked for
+pub run_below : (below : Below) {z : Yields} {old new : Seen} {asked given at : List ℕ} → given ≡ asked → at ≡ given → YieldsNoMore z (below given).yields → old.started [] → ((started : List StartValue) → new.started started → (below at).ran started) → IsRunBelow z old new (below asked)
+run_below below {z} is still within none all = record {
+  within = subst (λ w. YieldsNoMore z (below w).yields) is within;
+  none = none;
+  all = λ started h. subst (λ w. (below w).ran started) (still ∙ is) (all started h);
+}
 
 module _ (z : Yields) (most : ℕ) (plan : PlanValue) (sources : DigestValue) (old new : Seen) (processes : Processes) (below : IsRunBelow z old new processes) where
   abbrev ran_below : (first last : EngineValue) → Ran Global z most plan sources old new first last
@@ -45,7 +53,7 @@ module _ (z : Yields) (most : ℕ) (plan : PlanValue) (sources : DigestValue) (o
         turns = r.turns;
         in_order = r.in_order;
         put = r.put;
-        blobs = others_more (of_build_moved below.within (λ e b at right. at) (same_build last)) r.blobs;
+        blobs = others_more (of_build_within below.within (same_build last)) r.blobs;
         of_plan = r.of_plan;
         of_sources = r.of_sources;
         own = r.own;

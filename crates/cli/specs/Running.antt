@@ -28,9 +28,9 @@ abbrev pub TellsEnd : Ended → ℕ → Option (List ℕ) → Option (List ℕ) 
 TellsEnd Done status old new = (status ≡ 0) × (new ≡ old)
 TellsEnd (No note) status old new = (status ≡ 1) × TellsNoteOf note old new
 
--- these were started, each in a folder with a number below one folder
-abbrev pub HaveRun : {R C E : Type 0} → Works R C E → List StartValue → Type 0
-HaveRun works started = (work : List ℕ) × (next : ℕ) × HaveStarted works work next started
+-- these were started, each in a folder with a number below this one
+abbrev pub HaveRun : {R C E : Type 0} → Works R C E → List ℕ → List StartValue → Type 0
+HaveRun works work started = (next : ℕ) × HaveStarted works work next started
 
 -- a build ended with this error: that process came to nothing
 abbrev pub EndsFor : BuildPlanError Global → Stopped → Type 0

@@ -218,7 +218,7 @@ fn build_in_folder<S: Stream + Drop, K: Opened, P: Workplace + Drop, T: Write + 
         progress,
         asked.jobs,
     );
-    P::end_steps(asked.work.as_str(), runner);
+    P::end_steps(runner);
     match told {
         Ok(told) => {
             put_root(alloc, &asked.server, &mut client, &told)?;

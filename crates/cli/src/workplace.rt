@@ -28,13 +28,15 @@ pub trait Workplace {
         ensures yields { YieldsNoMore (Self.Steps.yields result)
             (below errors (string_bytes work)).yields }
         ensures unstarted { Self.Steps.starts result [] }
-        ensures idle { Self.Steps.alive result ≡ 0 };
+        ensures idle { Self.Steps.alive result ≡ 0 }
+        ensures work { Self.Steps.work result ≡ string_bytes work };
 
-    /// Ends what ran steps below a folder. Each process that it has started was waited for.
-    fn end_steps(work: &str, steps: Self::Steps)
+    /// Ends what ran steps below its folder. Each process that it has started was waited for.
+    fn end_steps(steps: Self::Steps)
         requires idle { Self.Steps.alive steps ≡ 0 }
         ensures ran { (errors : ChildErrors) (started : List StartValue)
-            → Self.Steps.starts steps started → (below errors work.now).ran started };
+            → Self.Steps.starts steps started
+            → (below errors (Self.Steps.work steps)).ran started };
 }
 
 impl<'r, R: AllocGlobal + Clone + Drop + Files + Processes> Workplace for System<'r, R> {
@@ -42,7 +44,7 @@ impl<'r, R: AllocGlobal + Clone + Drop + Files + Processes> Workplace for System
 
     ghost below = { λ _ work. record {
       yields = may_yield (⟦<Disk<'r, R> as Workshop>⟧.works) work;
-      ran = HaveRun (⟦<Disk<'r, R> as Workshop>⟧.works);
+      ran = HaveRun (⟦<Disk<'r, R> as Workshop>⟧.works) work;
     } };
 
     fn steps(self, work: String, errors: ChildErrors) -> ProcessRunner<Disk<'r, R>, Global>
@@ -58,5 +60,5 @@ impl<'r, R: AllocGlobal + Clone + Drop + Files + Processes> Workplace for System
         ProcessRunner::new(Disk::new(self.0, errors), work)
     }
 
-    fn end_steps(_work: &str, _steps: ProcessRunner<Disk<'r, R>, Global>) {}
+    fn end_steps(_steps: ProcessRunner<Disk<'r, R>, Global>) {}
 }

@@ -215,6 +215,8 @@ impl<W: Workshop + Drop, A: Allocator + Copy> Runner<A> for ProcessRunner<W, A> 
 
     ghost failures = { failures_of };
 
+    ghost work = { work_of };
+
     fn start(
         &mut self,
         alloc: A,
@@ -234,6 +236,7 @@ impl<W: Workshop + Drop, A: Allocator + Copy> Runner<A> for ProcessRunner<W, A> 
             (HaveStarted W.works (work_of self.new) (next_of self.new))) }
         ensures opened { OnOk result (alive_of self.new ≡ alive_of self.old + 1) }
         ensures unopened { OnErr result (alive_of self.new ≡ alive_of self.old) }
+        ensures below { work_of self.new ≡ work_of self.old }
         ensures refused { IsErrOf result RunError.NotAbsolute → IsAbsolute command.now → ⊥ }
         ensures bad { (path : List (List ℕ)) → IsErrOf result (RunError.BadOutput path) → ⊥ }
         ensures device { IfErr result (TellsRunFailure
@@ -277,6 +280,7 @@ impl<W: Workshop + Drop, A: Allocator + Copy> Runner<A> for ProcessRunner<W, A> 
             (HaveStarted W.works (work_of self.old) (next_of self.old))
             (HaveStarted W.works (work_of self.new) (next_of self.new)) }
         ensures closed { alive_of self.new ≡ alive_of self.old - 1 }
+        ensures below { work_of self.new ≡ work_of self.old }
         ensures absolute { IsErrOf result RunError.NotAbsolute → ⊥ }
         ensures device { IfErr result (TellsRunFailure (may_come W.works job)) }
         ensures counted { Counts (failures_of self.old) (failures_of self.new)

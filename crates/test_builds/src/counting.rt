@@ -143,7 +143,7 @@ fn made_file<A: Allocator + Copy>(
 impl<A: Allocator + Copy> Runner<A> for Counting {
     type Job = Counted<A>;
 
-    ghost use Rattle.std.specs.Prelude.{string_bytes};
+    ghost use Rattle.std.specs.Prelude.{[], string_bytes};
     ghost use Rattle.worker.specs.Values.{IsOf};
 
     ghost yields = { λ _ _ _ _. Unit {0} };
@@ -155,6 +155,8 @@ impl<A: Allocator + Copy> Runner<A> for Counting {
     ghost alive = { λ r. r.alive };
 
     ghost failures = { λ r. r.failures };
+
+    ghost work = { λ _. [] };
 
     fn start(
         &mut self,

@@ -1,33 +1,29 @@
 -- Which blobs a build puts, and that others stay.
-use Rattle.std.proofs.Common.{◌≡◌, ◌≢◌, ℕ, List, [], ◌∷◌, set, None, refl, sym, subst, ◌∙◌, arith, inl, inr}
+use Rattle.std.proofs.Common.{◌≡◌, ◌≢◌, ◌<◌, ℕ, List, [], ◌∷◌, length, set, Option, Some, None, refl, ap, sym, subst, ◌∙◌, arith, inl, inr}
 use Rattle.std.specs.Prelude.{Contains, Result, Ok, Err, OnOk, OnErr}
 use Rattle.std.specs.List.{AllByRecursion}
 use Rattle.blob_digest.specs.Digest.{DigestValue, digest_of}
-use Rattle.messages.specs.Tree.{TreeValue, IsTree, tree_bytes}
-use Rattle.action_messages.specs.ActionResult.{ActionResultValue}
-use Rattle.action_messages.specs.Outputs.{RecordedValue, file, directory, link}
 use Rattle.blob_source.specs.Sink.{KeepsRight}
 use Rattle.blob_source.specs.Source.{Blobs, Grows, Telling}
-use Rattle.blob_source.specs.Told.{IsTold}
-use Rattle.actions.specs.declared.outcome.Output.TheVariants as outputs
-use Rattle.actions.specs.Outcome.{OutputValue, OutcomeValue}
-use Rattle.actions.specs.Recorded.{IsRecorded, StandsFor, StandForAll}
+use Rattle.actions.specs.Outcome.{OutcomeValue}
 use Rattle.actions.proofs.TreeLookups.{behind}
-use Rattle.runs.specs.Calls.{IsStarted, placed}
-use Rattle.runs.specs.Engine.{JobValue, EngineValue}
+use Rattle.runs.specs.Calls.{IsFinished, IsStarted, first_kept, placed}
+use Rattle.runs.specs.Engine.{FinishedValue, JobValue, EngineValue, at_number, finished_in, job_in}
 use Rattle.runs.specs.declared.starting.Job.{Job}
-use Rattle.tree.proofs.Listings.{all_join}
+use Rattle.runs.proofs.Places.{set_same}
+use Rattle.verifier.proofs.FreshRuns.{one_answer}
 use Rattle.worker.specs.declared.child.Child.{Child}
-use Rattle.worker.specs.Going.{AreJobsOf, IsForJob, IsGoing, IsLaunched, IsOwnJob, EndedWell, HasEndedFirst}
-use Rattle.worker.specs.Outcomes.{Yields, YieldsNoMore, blobs_made, directories_of, tree_blobs}
-use Rattle.worker.specs.Steps.{IsOfBuild, IsOfToldTree, IsSameBuild, blobs_of_job}
+use Rattle.worker.specs.Going.{AreJobsOf, IsForGone, IsGoing, IsLaunched, IsOfTurns, IsOwnJob, EndedWell, HasEndedFirst, kept_job}
+use Rattle.worker.specs.Outcomes.{Yields, YieldsNoMore, CanBeTaken, IsHeld, blobs_made, tree_blobs}
+use Rattle.worker.specs.Steps.{IsActionOf, IsForJob, IsOfBuild, IsOfChild, IsOfFinished, IsSameBuild, blobs_of_job}
 use Rattle.worker.specs.Stored.{KeepsAllBut, PutsNoOther}
 use Rattle.worker.specs.Storing.{PutsMade}
 use Rattle.worker.specs.Values.{EndValue, made, Starts}
 use Rattle.worker.proofs.Acts.{finishing, only_jobs, same_build, same_then}
 use Rattle.worker.proofs.Goes.{Ends}
 use Rattle.worker.proofs.Keeping.{grown_same, right_trans}
-use Rattle.worker.proofs.Telling.{end_still, owed_ends, told_still}
+use Rattle.worker.proofs.Started.{started_value}
+use Rattle.worker.proofs.Telling.{end_still, owed_ends}
 
 -- ---- what stays
 
@@ -49,26 +45,18 @@ others_more so f = record { stays = λ d b at none. f.stays d b at (λ c is. non
 
 -- ---- as a job goes on
 
-pub others_input : {A : Type 0} (job : Job A) {T B C : Blobs} → PutsNoOther (blobs_of_job job) B C → KeepsAllBut (IsForJob job T) B C
+pub others_input : {A : Type 0} (job : Job A) {t : Telling} {B C : Blobs} → PutsNoOther (blobs_of_job job) B C → KeepsAllBut (IsForJob job t) B C
 others_input job only = others_put (blobs_of_job job) (λ c among. inl among) only
 
-told_of : (B : Blobs) (x : RecordedValue) (t : TreeValue) → StandsFor B x (outputs.Tree t) → (d : DigestValue) × IsTold IsTree tree_bytes B d t
-told_of B (file f) t is = absurd cc
-told_of B (directory d) t (s, told, is) = (d.tree, let same : s ≡ t = cc in subst (IsTold IsTree tree_bytes B d.tree) same told)
-told_of B (link l) t is = absurd cc
+pub others_gone : {A : Type 0} (job : Job A) {B C : Blobs} {old new : EngineValue} → PutsNoOther (blobs_of_job job) B C → KeepsAllBut (IsForGone job old new) B C
+others_gone job only = others_put (blobs_of_job job) (λ c among. inl among) only
 
-recorded_trees : (B : Blobs) (P : List ℕ → Type 0) → ((c : List ℕ) → IsOfToldTree B c → P c) → (xs : List RecordedValue) (es : List (List (List ℕ) × OutputValue)) → StandForAll B xs es → AllByRecursion P (tree_blobs es)
-recorded_trees B P so [] es h = subst (λ os. AllByRecursion P (tree_blobs os)) (sym h) tt
-recorded_trees B P so (x ∷ xs) [] h = absurd h
-recorded_trees B P so (x ∷ xs) ((p, outputs.File d e) ∷ es) h = recorded_trees B P so xs es h.2
-recorded_trees B P so (x ∷ xs) ((p, outputs.Link t) ∷ es) h = recorded_trees B P so xs es h.2
-recorded_trees B P so (x ∷ xs) ((p, outputs.Tree t) ∷ es) h =
-    let tree = told_of B x t h.1 in
-    let blobs = tree_bytes t ∷ directories_of t in
-    all_join P blobs (tree_blobs es) (all_of P blobs (λ c among. so c (tree.0, t, tree.1, among))) (recorded_trees B P so xs es h.2)
+-- a Tree of what the store has recorded was put
+pub others_recorded : {A : Type 0} (job : Job A) {t : Telling} {B C : Blobs} (v : OutcomeValue) → IsHeld t job.digest v → CanBeTaken job.command v → PutsNoOther (tree_blobs v.outputs) B C → KeepsAllBut (IsForJob job t) B C
+others_recorded job v held fits only = others_put (tree_blobs v.outputs) (λ c among. inr (v, held, fits, among)) only
 
-pub others_recorded : {A : Type 0} (job : Job A) {B C D : Blobs} (r : ActionResultValue) (v : OutcomeValue) → IsRecorded D r v → PutsNoOther (tree_blobs v.outputs) B C → KeepsAllBut (IsForJob job D) B C
-others_recorded {A} job {B} {C} {D} r v h only = record { stays = λ d b at none. only.same d (recorded_trees D (λ c. digest_of c ≢ d) (λ c told. none c (inr told)) h.recorded v.outputs h.outputs) ∙ at }
+pub others_finished : {A : Type 0} (job : Job A) {B C : Blobs} {old new : EngineValue} (v : OutcomeValue) → IsFinished job.id v old new → PutsNoOther (tree_blobs v.outputs) B C → KeepsAllBut (IsForGone job old new) B C
+others_finished job v f only = others_put (tree_blobs v.outputs) (λ c among. inr (v, f, among)) only
 
 -- ---- the same build
 
@@ -93,28 +81,64 @@ finish_same may t u now new cs ds (Err x) well ended = ends_same may t u ended.c
 -- ---- blobs of a build
 
 -- for a runner that yields more, and later
-pub of_build_moved : {A : Type 0} {y z : Yields} {B C : Blobs} {e f : EngineValue} → YieldsNoMore y z → KeepsRight B C → IsSameBuild e f → (b : List ℕ) → IsOfBuild A y B e b → IsOfBuild A z C f b
-of_build_moved {A} {y} {z} {B} {C} {e} {f} within keeps same b h = by h
-  where
-    by : IsOfBuild A y B e b → IsOfBuild A z C f b
-    by (inl (i, d, o, among)) = inl (i, d, record { told = o.told; still = right_trans o.still keeps; at = o.at; same = same_then o.same same; job = o.job; prepared = o.prepared; digest = o.digest }, among)
-    by (inr (inl (j, p, may, among))) = inr (inl (j, p, end_still e f within keeps (same.commands, same.frames) j (made p) may, among))
-    by (inr (inr (d, t, told, among))) = inr (inr (d, t, told_still keeps told, among))
+module _ {A : Type 0} {y z : Yields} {B C : Blobs} {e f : EngineValue} (within : YieldsNoMore y z) (keeps : KeepsRight B C) (same : IsSameBuild e f) where
+  action_moved : {i : ℕ} {d : DigestValue} (o : IsActionOf A B e i d) → IsActionOf A C f i d
+  action_moved o = record { told = o.told; still = right_trans o.still keeps; at = o.at; same = same_then o.same same; job = o.job; prepared = o.prepared; digest = o.digest }
 
-pub of_job_started : {A : Type 0} {y : Yields} {B C : Blobs} {i : ℕ} {old mid new : EngineValue} {job : Job A} → IsStarted B i old mid job → KeepsRight B C → IsSameBuild old new → (b : List ℕ) → IsForJob job C b → IsOfBuild A y C new b
-of_job_started {A} {y} {B} {C} {i} {old} {mid} {new} {job} s keeps same b h = by h
+  child_moved : {b : List ℕ} → IsOfChild y B e b → IsOfChild z C f b
+  child_moved (j, p, may, among) = (j, p, end_still e f within keeps (same.commands, same.frames) j (made p) may, among)
+
+  finished_moved : {b : List ℕ} → IsOfFinished e b → IsOfFinished f b
+  finished_moved (i, g, at, among) = (i, g, same.finished i g at, among)
+
+  pub of_turns_moved : (b : List ℕ) → IsOfTurns A y B e b → IsOfTurns A z C f b
+  of_turns_moved b (inl (i, d, o, among)) = inl (i, d, action_moved o, among)
+  of_turns_moved b (inr (inl child)) = inr (inl (child_moved child))
+  of_turns_moved b (inr (inr finished)) = inr (inr (finished_moved finished))
+
+pub of_turns_all : {A : Type 0} {y : Yields} {t : Telling} {e : EngineValue} (b : List ℕ) → IsOfTurns A y t.blobs e b → IsOfBuild A y t e b
+of_turns_all b (inl (i, d, o, among)) = inl (i, d, o, inl among)
+of_turns_all b (inr other) = inr other
+
+pub of_build_within : {A : Type 0} {y z : Yields} {t : Telling} {e f : EngineValue} → YieldsNoMore y z → IsSameBuild e f → (b : List ℕ) → IsOfBuild A y t e b → IsOfBuild A z t f b
+of_build_within {A} {y} {z} {t} {e} {f} within same b h = by h
   where
-    by : IsForJob job C b → IsOfBuild A y C new b
-    by (inl among) = inl (i, job.digest, record { told = B; still = keeps; at = old; same = same; job = job; prepared = s.prepared; digest = refl }, among)
-    by (inr told) = inr (inr told)
+    keeps : KeepsRight t.blobs t.blobs
+    keeps = λ d c at right. at
+
+    by : IsOfBuild A y t e b → IsOfBuild A z t f b
+    by (inl (i, d, o, for_job)) = inl (i, d, action_moved {A} within keeps same o, for_job)
+    by (inr (inl child)) = inr (inl (child_moved {A} within keeps same child))
+    by (inr (inr finished)) = inr (inr (finished_moved {A} within keeps same finished))
+
+-- a step was started, and its job goes on
+module _ {A : Type 0} {y : Yields} {B C : Blobs} {i : ℕ} {old mid new : EngineValue} {job : Job A} (s : IsStarted B i old mid job) (keeps : KeepsRight B C) (same : IsSameBuild old new) where
+  action_started : IsActionOf A C new i job.digest
+  action_started = record { told = B; still = keeps; at = old; same = same; job = job; prepared = s.prepared; digest = refl }
+
+  finished_now : {v : OutcomeValue} (f : IsFinished job.id v mid new) → i < length old.finished → finished_in i old ≡ None → finished_in f.job.step new ≡ Some (record { action = f.job.action; outcome = v })
+  finished_now {v} f lt none =
+      let F : FinishedValue = record { action = f.job.action; outcome = v } in
+      let kept : mid.finished ≡ old.finished = ap (λ (e : EngineValue). e.finished) s.after in
+      let step : f.job.step ≡ i = ap (λ (j : JobValue). j.step) (one_answer (job_in job.id mid) f.job (kept_job job) f.is (started_value s)) ∙ s.prepared.of_step in
+      let unfinished : finished_in f.job.step mid ≡ None = ap (λ k. finished_in k mid) step ∙ ap (λ fs. at_number fs i) kept ∙ none in
+      let within : f.job.step < length mid.finished = subst (λ k. k < length mid.finished) (sym step) (subst (λ (fs : List (Option FinishedValue)). i < length fs) (sym kept) lt) in
+      ap (finished_in f.job.step) f.after ∙ ap (λ o. at_number (first_kept mid.finished o f.job.step F) f.job.step) unfinished ∙ set_same mid.finished f.job.step (Some F) within
+
+  pub of_gone_started : i < length old.finished → finished_in i old ≡ None → (b : List ℕ) → IsForGone job mid new b → IsOfTurns A y C new b
+  of_gone_started lt none b (inl among) = inl (i, job.digest, action_started, among)
+  of_gone_started lt none b (inr (v, f, among)) = inr (inr (f.job.step, record { action = f.job.action; outcome = v }, finished_now f lt none, among))
+
+pub of_job_started : {A : Type 0} {y : Yields} {B : Blobs} (t : Telling) {i : ℕ} {old mid new : EngineValue} {job : Job A} → IsStarted B i old mid job → KeepsRight B t.blobs → IsSameBuild old new → (b : List ℕ) → IsForJob job t b → IsOfBuild A y t new b
+of_job_started t {i} {job = job} s keeps same b h = inl (i, job.digest, action_started s keeps same, h)
 
 pub finish_others : {A J : Type 0} {y : Yields} {may : J → EndValue → Type 0} {from a : Starts} {s t : Telling} (u : Telling) {most : ℕ} {first now new : EngineValue} {cs ds : List (Child J)} → IsGoing A y may from a s t most first now cs → KeepsRight t.blobs u.blobs → IsSameBuild now new
-    → HasEndedFirst (λ c old new. PutsMade (may c.job) t.blobs u.blobs) now new cs ds → KeepsAllBut (IsOfBuild A y u.blobs new) t.blobs u.blobs
+    → HasEndedFirst (λ c old new. PutsMade (may c.job) t.blobs u.blobs) now new cs ds → KeepsAllBut (IsOfTurns A y u.blobs new) t.blobs u.blobs
 finish_others {A} {J} {y} {may} {from} {a} {s} {t} u {most} {first} {now} {new} {cs} {ds} going keeps same only = by only.end
   where
     jobs : AreJobsOf (IsOwnJob y may t.blobs now) now.jobs (only.child ∷ ds)
     jobs = subst (AreJobsOf (IsOwnJob y may t.blobs now) now.jobs) only.is going.jobs
 
-    by : PutsMade (may only.child.job) t.blobs u.blobs → KeepsAllBut (IsOfBuild A y u.blobs new) t.blobs u.blobs
+    by : PutsMade (may only.child.job) t.blobs u.blobs → KeepsAllBut (IsOfTurns A y u.blobs new) t.blobs u.blobs
     by (inl none) = others_grown (grown_same t.blobs u.blobs none)
     by (inr (p, came, puts)) = others_put (blobs_made p) (λ c among. inr (inl (jobs.0, p, end_still now new (λ l d x h. h) keeps (same.commands, same.frames) jobs.0 (made p) (owed_ends jobs.2.owed (made p) came), among))) puts

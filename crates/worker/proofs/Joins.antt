@@ -6,7 +6,7 @@ use Rattle.std.proofs.lemmas.List.Sums.{sum_by-append}
 use Rattle.blob_digest.specs.Digest.{DigestValue}
 use Rattle.actions.specs.Outcome.{OutcomeValue}
 use Rattle.worker.specs.Values.{StartValue}
-use Rattle.worker.specs.Calls.{Call, started, launched, ran, taken, lost, CameTo, came_in, came_of, HasChild, child_in, children_of, ArePutFor}
+use Rattle.worker.specs.Calls.{Call, started, launched, ran, taken, lost, CameTo, came_in, came_of, HasChild, child_in, children_of, IsPartOf}
 use Rattle.worker.specs.Watching.{FinishInOrder, IsFirstJob, taken_count, turns_in, without_number, jobs_after}
 
 heads : {c b : Call} {cs bs : List Call} → ◌≡◌ {A = List Call} (c ∷ cs) (b ∷ bs) → (c ≡ b) × (cs ≡ bs)
@@ -14,22 +14,14 @@ heads is = (cc, cc)
 
 -- ---- what children came to, and results that are put
 
-pub put_for_none : (cs : List Call) → ArePutFor cs []
-put_for_none [] = refl
-put_for_none (started i id ∷ cs) = put_for_none cs
-put_for_none (launched id d x ∷ cs) = put_for_none cs
-put_for_none (ran id d v ∷ cs) = inl (put_for_none cs)
-put_for_none (taken id d v ∷ cs) = put_for_none cs
-put_for_none (lost id ∷ cs) = put_for_none cs
+none_of : {X : Type 0} (ys : List X) → IsPartOf [] ys
+none_of [] = refl
+none_of (y ∷ ys) = inl (none_of ys)
 
-pub put_for_both : (cs more : List Call) (ds es : List DigestValue) → ArePutFor cs ds → ArePutFor more es → ArePutFor (cs ++ more) (ds ++ es)
-put_for_both [] more ds es h k = rw h k
-put_for_both (started i id ∷ cs) more ds es h k = put_for_both cs more ds es h k
-put_for_both (launched id d x ∷ cs) more ds es h k = put_for_both cs more ds es h k
-put_for_both (ran id d v ∷ cs) more ds es (inl h) k = inl (put_for_both cs more ds es h k)
-put_for_both (ran id d v ∷ cs) more ds es (inr (rest, is, h)) k = inr (rest ++ es, ap (λ xs. xs ++ es) is, put_for_both cs more rest es h k)
-put_for_both (taken id d v ∷ cs) more ds es h k = put_for_both cs more ds es h k
-put_for_both (lost id ∷ cs) more ds es h k = put_for_both cs more ds es h k
+parts_join : {X : Type 0} (ys more : List X) (xs zs : List X) → IsPartOf xs ys → IsPartOf zs more → IsPartOf (xs ++ zs) (ys ++ more)
+parts_join [] more xs zs h k = rw h k
+parts_join (y ∷ ys) more xs zs (inl h) k = inl (parts_join ys more xs zs h k)
+parts_join (y ∷ ys) more xs zs (inr (rest, is, h)) k = inr (rest ++ zs, ap (λ l. l ++ zs) is, parts_join ys more rest zs h k)
 
 pub came_more : (d : DigestValue) (v : OutcomeValue) (cs more : List Call) → CameTo cs d v → CameTo (cs ++ more) d v
 came_more d v cs more (id, at) = (id, Contains-append_left cs more (ran id d v) at)
@@ -42,6 +34,12 @@ came_none d v (id, (k, lt, is)) = omega (arith, lt)
 
 pub came_join : (cs more : List Call) → came_of (cs ++ more) ≡ came_of cs ++ came_of more
 came_join cs more = filter_map-append came_in cs more
+
+pub put_for_none : (cs : List Call) → IsPartOf [] (came_of cs)
+put_for_none cs = none_of (came_of cs)
+
+pub put_for_both : (cs more : List Call) (ds es : List DigestValue) → IsPartOf ds (came_of cs) → IsPartOf es (came_of more) → IsPartOf (ds ++ es) (came_of (cs ++ more))
+put_for_both cs more ds es h k = subst (IsPartOf (ds ++ es)) (sym (came_join cs more)) (parts_join (came_of cs) (came_of more) ds es h k)
 
 -- ---- children that are started
 

@@ -94,6 +94,10 @@ pub on_ok : {T E : Type 0} {X : Type 0} (r : Result T E) → X → OnOk r X
 on_ok (Ok y) x = x
 on_ok (Err y) x = tt
 
+pub then_on_ok : {T E : Type 0} {X Y : Type 0} (r : Result T E) → (X → Y) → OnOk r X → OnOk r Y
+then_on_ok (Ok y) by x = by x
+then_on_ok (Err y) by x = tt
+
 -- ---- what the store has
 
 module _ (A J : Type 0) (y : Yields) (may : J → EndValue → Type 0) (a b : Starts) (t u : Telling) (now new : EngineValue) (cs ds : List (Child J)) where

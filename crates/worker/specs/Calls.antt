@@ -1,6 +1,6 @@
 -- The calls of an engine that lead from one to another.
-use Rattle.std.specs.Prelude.{suc, ◌≡◌, ◌⊎◌, ◌<◌, ◌≤◌, ℕ, List, [], ◌∷◌, ◌++◌, length, Option}
-use Rattle.std.specs.Prelude.{Some, None, slice_get, filter_map, Contains}
+use Rattle.std.specs.Prelude.{◌≡◌, ◌⊎◌, ◌<◌, ◌≤◌, ℕ, List, [], ◌∷◌, ◌++◌, length, Option}
+use Rattle.std.specs.Prelude.{Some, None, is_some, slice_get, filter, filter_map, Contains}
 use Rattle.std.specs.List.{AllByRecursion}
 use Rattle.blob_digest.specs.Digest.{DigestValue}
 use Rattle.action_messages.specs.ActionResult.{ActionResultValue}
@@ -20,9 +20,7 @@ use Rattle.worker.specs.Values.{StartValue, Starts, StartsAll}
 
 -- how many jobs run
 abbrev pub running : List (Option JobValue) → ℕ
-running [] = 0
-running (None ∷ js) = running js
-running (Some j ∷ js) = suc (running js)
+running jobs = length (filter is_some jobs)
 
 -- A step is started as a job; a child is started for a job; a job finishes with what its child came
 -- to, or with what the store has for its action; a job is lost. What a child came to may be put as
@@ -181,21 +179,18 @@ came_in c = None
 abbrev pub came_of : List Call → List DigestValue
 came_of calls = filter_map came_in calls
 
--- the digests are of actions whose children came to something, at most one for each of these, in
--- this order
-abbrev pub ArePutFor : List Call → List DigestValue → Type 0
-ArePutFor [] ds = ds ≡ []
-ArePutFor (ran id d v ∷ cs) ds =
-    ArePutFor cs ds ⊎ ((rest : List DigestValue) × (ds ≡ d ∷ rest) × ArePutFor cs rest)
-ArePutFor (c ∷ cs) ds = ArePutFor cs ds
+-- the first list is the other one, but that some of it may be left out
+abbrev pub IsPartOf : {X : Type 0} → List X → List X → Type 0
+IsPartOf xs [] = xs ≡ []
+IsPartOf xs (y ∷ ys) = IsPartOf xs ys ⊎ ((rest : List _) × (xs ≡ y ∷ rest) × IsPartOf rest ys)
 
--- What was put, and what stays: under each digest that was put stands the result of what a child of
--- that action came to among the calls, and what stood under a digest gives way to such a result
--- alone.
+-- What was put, and what stays: at most one result for each child that came to something, in this
+-- order; under each digest that was put stands the result of what a child of that action came to
+-- among the calls, and what stood under a digest gives way to such a result alone.
 pub record PutsOf (calls : List Call) (old new : Telling) : Type 0 where
   pub put : List DigestValue
   pub are : new.puts ≡ old.puts ++ put
-  pub once : ArePutFor calls put
+  pub once : IsPartOf put (came_of calls)
   pub each : AllByRecursion (HasChildsResult calls new.results) put
   pub others : (d : DigestValue) (b : List ℕ) → old.results d ≡ Some b
       → (new.results d ≡ Some b) ⊎ HasChildsResult calls new.results d

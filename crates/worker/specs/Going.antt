@@ -25,7 +25,7 @@ use Rattle.worker.specs.Storing.{IsKeptBut, HasFewTrees, HasResultOf, IsHeldWhol
 use Rattle.worker.specs.declared.remembering.Remembered.{Remembered}
 use Rattle.worker.specs.Outcomes.{Yields, YieldsFor, HasAllRight, HasOwnAction, HasTrees, IsHeld}
 use Rattle.worker.specs.Outcomes.{CanBeTaken, tree_blobs}
-use Rattle.worker.specs.Steps.{IsOfToldTree, blobs_of_job}
+use Rattle.worker.specs.Steps.{IsActionOf, IsOfChild, IsOfFinished, blobs_of_job}
 use Rattle.worker.specs.Calls.{running, Call, WasStarted, IsBuiltWith, IsResultFor}
 use Rattle.worker.specs.Calls.{IsLeastStartable, HasNoneStartable, AreTurns}
 use Rattle.worker.specs.Watching.{FinishInOrder, taken_count, turns_in, jobs_after}
@@ -121,9 +121,16 @@ pub record IsBegun (A : Type 0) {J : Type 0} (yields : Yields) (may : J → EndV
   pub is : job_in id mid ≡ Some job
   pub goes : IsLaunched yields may from to s t id job mid new before after
 
--- a blob that is put as a job goes on: for the job, or of a Tree that is told
-abbrev pub IsForJob : {A : Type 0} → Job A → Blobs → List ℕ → Type 0
-IsForJob job B b = Contains (blobs_of_job job) b ⊎ IsOfToldTree B b
+-- a blob that was put as a job went on: for the job, or of what it finished with
+abbrev pub IsForGone : {A : Type 0} → Job A → EngineValue → EngineValue → List ℕ → Type 0
+IsForGone job old new b = Contains (blobs_of_job job) b
+    ⊎ ((v : OutcomeValue) × IsFinished job.id v old new × Contains (tree_blobs v.outputs) b)
+
+-- a blob that whole turns put: none of what is recorded but what a step finished with
+abbrev pub IsOfTurns : (A : Type 0) → Yields → Blobs → EngineValue → List ℕ → Type 0
+IsOfTurns A yields B e b =
+    ((i : ℕ) × (d : DigestValue) × (o : IsActionOf A B e i d) × Contains (blobs_of_job o.job) b)
+    ⊎ (IsOfChild yields B e b ⊎ IsOfFinished e b)
 
 -- ---- how often the store is called
 

@@ -1,7 +1,6 @@
 -- Where what each step of a build came to is from, and the blobs that a build puts.
 use Rattle.std.specs.Prelude.{◌≡◌, ◌⊎◌, ℕ, List, ◌∷◌, Some, Contains}
 use Rattle.blob_digest.specs.Digest.{DigestValue}
-use Rattle.messages.specs.Tree.{IsTree, TreeValue, tree_bytes}
 use Rattle.action_messages.specs.Action.{action_bytes}
 use Rattle.action_messages.specs.ActionResult.{ActionResultValue}
 use Rattle.action_messages.specs.Reads.{Reads}
@@ -9,13 +8,13 @@ use Rattle.actions.specs.Outcome.{OutcomeValue}
 use Rattle.actions.specs.Recorded.{IsRecorded}
 use Rattle.blob_source.specs.Source.{Blobs, Telling}
 use Rattle.blob_source.specs.Sink.{KeepsRight}
-use Rattle.blob_source.specs.Told.{IsTold}
 use Rattle.tree.specs.Folded.{items_of}
 use Rattle.runs.specs.Calls.{IsPrepared}
 use Rattle.runs.specs.Engine.{FinishedValue, JobValue, EngineValue, finished_in}
 use Rattle.runs.specs.declared.starting.Job.{Job}
 use Rattle.worker.specs.Calls.{Call, CameTo}
-use Rattle.worker.specs.Outcomes.{Yields, MayComeTo, IsYielded, blobs_made, directories_of}
+use Rattle.worker.specs.Outcomes.{Yields, MayComeTo, IsYielded, IsHeld, CanBeTaken, blobs_made}
+use Rattle.worker.specs.Outcomes.{tree_blobs}
 use Rattle.worker.specs.Values.{ProducedValue, made}
 
 -- a child of the step's action yielded what the step came to
@@ -60,16 +59,29 @@ pub record IsActionOf (A : Type 0) (B : Blobs) (e : EngineValue) (i : ℕ) (d : 
 abbrev pub blobs_of_job : {A : Type 0} → Job A → List (List ℕ)
 blobs_of_job job = action_bytes job.action ∷ items_of job.input.directories.items
 
--- a Tree that is told, or a Directory of it
-abbrev pub IsOfToldTree : Blobs → List ℕ → Type 0
-IsOfToldTree B b = (d : DigestValue) × (t : TreeValue) × IsTold IsTree tree_bytes B d t
-    × Contains (tree_bytes t ∷ directories_of t) b
+-- a Tree of an outcome that the store has recorded for a job's action, and that a build takes, or
+-- a Directory of it
+abbrev pub IsOfRecorded : {A : Type 0} → Job A → Telling → List ℕ → Type 0
+IsOfRecorded job t b = (v : OutcomeValue) × IsHeld t job.digest v × CanBeTaken job.command v
+    × Contains (tree_blobs v.outputs) b
+
+-- a blob that is put as a job goes on
+abbrev pub IsForJob : {A : Type 0} → Job A → Telling → List ℕ → Type 0
+IsForJob job t b = Contains (blobs_of_job job) b ⊎ IsOfRecorded job t b
+
+-- a blob of what a job's child may come to
+abbrev pub IsOfChild : Yields → Blobs → EngineValue → List ℕ → Type 0
+IsOfChild yields B e b = (j : JobValue) × (p : ProducedValue) × MayComeTo yields B e j (made p)
+    × Contains (blobs_made p) b
+
+-- a Tree of what a step finished with, or a Directory of it
+abbrev pub IsOfFinished : EngineValue → List ℕ → Type 0
+IsOfFinished e b = (i : ℕ) × (f : FinishedValue) × (finished_in i e ≡ Some f)
+    × Contains (tree_blobs f.outcome.outputs) b
 
 -- A blob that a build puts: for the job of a step, as it was prepared; or of what a job's child may
--- come to; or of a Tree that the store tells, as those of a result that is taken are.
-abbrev pub IsOfBuild : (A : Type 0) → Yields → Blobs → EngineValue → List ℕ → Type 0
-IsOfBuild A yields B e b =
-    ((i : ℕ) × (d : DigestValue) × (o : IsActionOf A B e i d) × Contains (blobs_of_job o.job) b)
-    ⊎ (((j : JobValue) × (p : ProducedValue) × MayComeTo yields B e j (made p)
-    × Contains (blobs_made p) b)
-    ⊎ IsOfToldTree B b)
+-- come to; or of what a step finished with.
+abbrev pub IsOfBuild : (A : Type 0) → Yields → Telling → EngineValue → List ℕ → Type 0
+IsOfBuild A yields t e b =
+    ((i : ℕ) × (d : DigestValue) × (o : IsActionOf A t.blobs e i d) × IsForJob o.job t b)
+    ⊎ (IsOfChild yields t.blobs e b ⊎ IsOfFinished e b)

@@ -1,6 +1,6 @@
 -- How far a build is, what its watcher is told, and in which order children's jobs finish.
 use Rattle.std.specs.Prelude.{suc, ◌≡◌, ◌++◌, ◌≤◌, ◌==◌, not, ℕ, List, [], ◌∷◌, length, filter}
-use Rattle.std.specs.Prelude.{Bool, true, false, Option, Some, None, count_by}
+use Rattle.std.specs.Prelude.{Bool, true, false, Option, Some, None, count_by, is_some}
 use Rattle.actions.specs.Outcome.{OutcomeValue}
 use Rattle.blob_digest.specs.Digest.{DigestValue}
 use Rattle.blob_source.specs.Sink.{KeepsRight}
@@ -36,9 +36,7 @@ pub record IsWatched (Is : ℕ → Progress → Type 0) (turns : ℕ)
 
 -- how many steps have finished
 abbrev pub finished_count : List (Option FinishedValue) → ℕ
-finished_count [] = 0
-finished_count (None ∷ fs) = finished_count fs
-finished_count (Some f ∷ fs) = suc (finished_count fs)
+finished_count finished = length (filter is_some finished)
 
 -- how many steps were taken from the store
 abbrev pub is_taken : Call → Bool

@@ -4,7 +4,7 @@ ghost use Rattle.worker.specs.Layout.{IsLayoutOf};
 ghost use Rattle.std.specs.Result.{IsErrAnd};
 ghost use Rattle.worker.specs.Counted.{Counts, IsDevice, IsFetch};
 ghost use Rattle.blob_source.specs.Source.{Grows};
-ghost use Rattle.worker.specs.Steps.{IsOfBuild, IsSameBuild};
+ghost use Rattle.worker.specs.Steps.{IsForJob, IsOfBuild, IsSameBuild};
 ghost use Rattle.worker.specs.Stored.{IsKept, KeepsAllBut};
 ghost use Rattle.worker.specs.Storing.{HasPutAll, Remembers, StaysPut, StaysRemembered, WerePut};
 ghost use Rattle.worker.specs.Calls.{IsStartable};
@@ -12,7 +12,7 @@ ghost use Rattle.worker.specs.Outcomes.{YieldsFor, YieldsNoMore};
 ghost use Rattle.worker.specs.Values.{LayoutValue, EndValue, StartsNone, StartsOne};
 ghost use Rattle.tree.specs.Folded.{items_of};
 ghost use Rattle.worker.specs.Going.{CallsForJob, CallsForStart, IsJobIn, kept_job, IsBegun};
-ghost use Rattle.worker.specs.Going.{HasNoneToTake, IsForJob, IsLaunched};
+ghost use Rattle.worker.specs.Going.{HasNoneToTake, IsForGone, IsLaunched, IsOfTurns};
 ghost use Rattle.worker.specs.Stopping.{StopsChild, StopsBeginning};
 ghost use Rattle.worker.specs.Stopped.{IsOfChild, StopsStep};
 
@@ -54,6 +54,7 @@ fn start_child<A: Allocator + Copy, S: BlobSink<A>, N: Runner<A>>(
     ensures same { YieldsNoMore (N.yields runner.new) (N.yields runner.old) }
     ensures opened { OnOk result (N.alive runner.new ≡ N.alive runner.old + 1) }
     ensures unopened { OnErr result (N.alive runner.new ≡ N.alive runner.old) }
+    ensures below { N.work runner.new ≡ N.work runner.old }
     ensures fetched { Counts (S.tells sink.old).failures (S.tells sink.new).failures
         (IsErrAnd result IsFetch) }
     ensures device { Counts (N.failures runner.old) (N.failures runner.new)
@@ -82,8 +83,10 @@ fn launch<A: Allocator + Copy, S: BlobSink<A>, N: Runner<A>>(
     ensures once { OnOk result (CallsForJob job.now put.old (S.tells sink.new) engine.old
         engine.new (S.tells sink.old).calls (S.tells sink.new).calls) }
     ensures kept { IsKept (S.tells sink.old) (S.tells sink.new) }
-    ensures only { KeepsAllBut (IsForJob job.now (S.tells sink.new).blobs)
+    ensures only { KeepsAllBut (IsForJob job.now (S.tells sink.new))
         (S.tells sink.old).blobs (S.tells sink.new).blobs }
+    ensures gone { OnOk result (KeepsAllBut (IsForGone job.now engine.old engine.new)
+        (S.tells sink.old).blobs (S.tells sink.new).blobs) }
     ensures launched { OnOk result (IsLaunched (N.yields runner.old) N.may_give
         (N.starts runner.old) (N.starts runner.new) (S.tells sink.old) (S.tells sink.new)
         job.now.id (kept_job job.now) engine.old engine.new children.old.items
@@ -98,6 +101,7 @@ fn launch<A: Allocator + Copy, S: BlobSink<A>, N: Runner<A>>(
     ensures within { YieldsNoMore (N.yields runner.new) (N.yields runner.old) }
     ensures alive { N.alive runner.new + length children.old.items
         ≡ N.alive runner.old + length children.new.items }
+    ensures below { N.work runner.new ≡ N.work runner.old }
     ensures fetched { Counts (S.tells sink.old).failures (S.tells sink.new).failures
         (IsErrAnd result IsFetch) }
     ensures device { Counts (N.failures runner.old) (N.failures runner.new)
@@ -136,8 +140,10 @@ pub(crate) fn begin<A: Allocator + Copy, S: BlobSink<A>, N: Runner<A>>(
     ensures knows { Remembers remembered.new (S.tells sink.new).blobs }
     ensures stays { StaysRemembered remembered.old remembered.new }
     ensures kept { IsKept (S.tells sink.old) (S.tells sink.new) }
-    ensures only { KeepsAllBut (IsOfBuild A (N.yields runner.old) (S.tells sink.new).blobs
-        engine.new) (S.tells sink.old).blobs (S.tells sink.new).blobs }
+    ensures only { KeepsAllBut (IsOfBuild A (N.yields runner.old) (S.tells sink.new) engine.new)
+        (S.tells sink.old).blobs (S.tells sink.new).blobs }
+    ensures whole { OnOk result (KeepsAllBut (IsOfTurns A (N.yields runner.old)
+        (S.tells sink.new).blobs engine.new) (S.tells sink.old).blobs (S.tells sink.new).blobs) }
     ensures build { IsSameBuild engine.old engine.new }
     ensures begun { OnOk result (IsBegun A (N.yields runner.old) N.may_give
         (N.starts runner.old) (N.starts runner.new) (S.tells sink.old) (S.tells sink.new) step
@@ -159,11 +165,13 @@ pub(crate) fn begin<A: Allocator + Copy, S: BlobSink<A>, N: Runner<A>>(
     ensures within { YieldsNoMore (N.yields runner.new) (N.yields runner.old) }
     ensures alive { N.alive runner.new + length children.old.items
         ≡ N.alive runner.old + length children.new.items }
+    ensures below { N.work runner.new ≡ N.work runner.old }
     ensures fetched { Counts (S.tells sink.old).failures (S.tells sink.new).failures
         (IsErrAnd result (λ e. IsFetch e.refusal)) }
     ensures device { Counts (N.failures runner.old) (N.failures runner.new)
         (IsErrAnd result (λ e. IsDevice e.refusal)) }
 {
+    let _ = engine.plan();
     let job = match engine.start(alloc, step, &mut remembered.memo, sink) {
         Ok(job) => job,
         Err(error) => {

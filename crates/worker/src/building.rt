@@ -43,6 +43,7 @@ fn end_all<A: Allocator + Copy, N: Runner<A>>(
     ensures idle { running engine.new.jobs ≡ 0 }
     ensures alive { (count : ℕ) → N.alive runner.old ≡ count + length children.items
         → N.alive runner.new ≡ count }
+    ensures below { N.work runner.new ≡ N.work runner.old }
     ensures device { N.failures runner.old ≤ N.failures runner.new }
     ensures none { children.items ≡ [] → N.failures runner.new ≡ N.failures runner.old }
 {
@@ -87,10 +88,11 @@ fn take_turns<A: Allocator + Copy, S: BlobSink<A>, N: Runner<A>, W: Watcher>(
     ensures stored { OnOk result (StoresSteps (S.tells sink.old) engine.old
         → StoresSteps (S.tells sink.new) engine.new) }
     ensures right { KeepsRight (S.tells sink.old).blobs (S.tells sink.new).blobs }
-    ensures blobs { KeepsAllBut (IsOfBuild A (N.yields runner.old) (S.tells sink.new).blobs
-        engine.new) (S.tells sink.old).blobs (S.tells sink.new).blobs }
+    ensures blobs { KeepsAllBut (IsOfBuild A (N.yields runner.old) (S.tells sink.new) engine.new)
+        (S.tells sink.old).blobs (S.tells sink.new).blobs }
     ensures stays { StaysRemembered underway.old.remembered underway.new.remembered }
     ensures alive { N.alive runner.new ≡ N.alive runner.old + length underway.new.children.items }
+    ensures below { N.work runner.new ≡ N.work runner.old }
     ensures fetched { Counts (S.tells sink.old).failures (S.tells sink.new).failures
         (IsErrAnd result (λ e. IsFetch e.refusal)) }
     ensures device { Counts (N.failures runner.old) (N.failures runner.new)
@@ -142,10 +144,11 @@ pub fn build<A: Allocator + Copy, S: BlobSink<A>, N: Runner<A>, W: Watcher>(
     ensures idle { running engine.new.jobs ≡ 0 }
     // Each child that was started was waited for.
     ensures alive { N.alive runner.new ≡ N.alive runner.old }
+    ensures below { N.work runner.new ≡ N.work runner.old }
     ensures right { KeepsRight (S.tells sink.old).blobs (S.tells sink.new).blobs }
     // What stands under the digest of no blob that the build has to put stays.
-    ensures blobs { KeepsAllBut (IsOfBuild A (N.yields runner.old) (S.tells sink.new).blobs
-        engine.new) (S.tells sink.old).blobs (S.tells sink.new).blobs }
+    ensures blobs { KeepsAllBut (IsOfBuild A (N.yields runner.old) (S.tells sink.new) engine.new)
+        (S.tells sink.old).blobs (S.tells sink.new).blobs }
     // The store failed exactly where that is told, and the runner at least there. Other children
     // that are waited for after a refusal may fail too: there is none where `jobs` is 1.
     ensures fetched { Counts (S.tells sink.old).failures (S.tells sink.new).failures

@@ -49,6 +49,7 @@ fn collect<A: Allocator + Copy, S: BlobSink<A>, N: Runner<A>>(
     ensures within { YieldsNoMore (N.yields runner.new) (N.yields runner.old) }
     ensures unlisted { StartsNone (N.starts runner.old) (N.starts runner.new) }
     ensures closed { N.alive runner.new ≡ N.alive runner.old - 1 }
+    ensures below { N.work runner.new ≡ N.work runner.old }
     ensures fetched { Counts (S.tells sink.old).failures (S.tells sink.new).failures
         (IsErrAnd result IsFetch) }
     ensures device { Counts (N.failures runner.old) (N.failures runner.new)
@@ -79,6 +80,7 @@ fn take<A: Allocator + Copy, S: BlobSink<A>, N: Runner<A>>(
     ensures within { YieldsNoMore (N.yields runner.new) (N.yields runner.old) }
     ensures unlisted { StartsNone (N.starts runner.old) (N.starts runner.new) }
     ensures closed { N.alive runner.new ≡ N.alive runner.old - 1 }
+    ensures below { N.work runner.new ≡ N.work runner.old }
     ensures fetched { Counts (S.tells sink.old).failures (S.tells sink.new).failures
         (IsErrAnd result IsFetch) }
     ensures device { Counts (N.failures runner.old) (N.failures runner.new)
@@ -112,6 +114,7 @@ fn settle<A: Allocator + Copy, S: BlobSink<A>, N: Runner<A>>(
     ensures within { YieldsNoMore (N.yields runner.new) (N.yields runner.old) }
     ensures unlisted { StartsNone (N.starts runner.old) (N.starts runner.new) }
     ensures closed { N.alive runner.new ≡ N.alive runner.old - 1 }
+    ensures below { N.work runner.new ≡ N.work runner.old }
     ensures fetched { Counts (S.tells sink.old).failures (S.tells sink.new).failures
         (IsErrAnd result IsFetch) }
     ensures device { Counts (N.failures runner.old) (N.failures runner.new)
@@ -158,6 +161,7 @@ pub(crate) fn finish_first<A: Allocator + Copy, S: BlobSink<A>, N: Runner<A>>(
     ensures within { YieldsNoMore (N.yields runner.new) (N.yields runner.old) }
     ensures unlisted { StartsNone (N.starts runner.old) (N.starts runner.new) }
     ensures closed { N.alive runner.new ≡ N.alive runner.old - 1 }
+    ensures below { N.work runner.new ≡ N.work runner.old }
     ensures fetched { Counts (S.tells sink.old).failures (S.tells sink.new).failures
         (IsErrAnd result (λ e. IsFetch e.refusal)) }
     ensures device { Counts (N.failures runner.old) (N.failures runner.new)

@@ -143,6 +143,8 @@ impl<A: Allocator + Copy, N: Runner<A>> Runner<A> for FailRunner<N> {
 
     ghost failures = { failures_of };
 
+    ghost work = { λ r. N.work (inner_of r) };
+
     fn start(
         &mut self,
         alloc: A,
@@ -161,6 +163,7 @@ impl<A: Allocator + Copy, N: Runner<A>> Runner<A> for FailRunner<N> {
             (N.alive (inner_of self.new) ≡ N.alive (inner_of self.old) + 1) }
         ensures unopened { OnErr result
             (N.alive (inner_of self.new) ≡ N.alive (inner_of self.old)) }
+        ensures below { N.work (inner_of self.new) ≡ N.work (inner_of self.old) }
         ensures refused { IsErrOf result RunError.NotAbsolute → IsAbsolute command.now → ⊥ }
         ensures bad { (path : List (List ℕ)) → IsErrOf result (RunError.BadOutput path) → ⊥ }
         ensures device { IfErr result
@@ -189,6 +192,7 @@ impl<A: Allocator + Copy, N: Runner<A>> Runner<A> for FailRunner<N> {
         ensures unlisted { StartsNone (N.starts (inner_of self.old))
             (N.starts (inner_of self.new)) }
         ensures closed { N.alive (inner_of self.new) ≡ N.alive (inner_of self.old) - 1 }
+        ensures below { N.work (inner_of self.new) ≡ N.work (inner_of self.old) }
         ensures absolute { IsErrOf result RunError.NotAbsolute → ⊥ }
         ensures device { IfErr result (TellsRunFailure (may_give_of N.may_give job)) }
         ensures counted { Counts (failures_of self.old) (failures_of self.new)

@@ -91,6 +91,9 @@ pub trait Runner<A: Allocator> {
     /// How often it failed.
     ghost failures: { Self → ℕ };
 
+    /// The folder below which its children run, as the bytes of its path. It stays the same.
+    ghost work: { Self → List ℕ };
+
     /// Starts a child for a command in a layout. After an error none was started.
     fn start(
         &mut self,
@@ -106,6 +109,7 @@ pub trait Runner<A: Allocator> {
         ensures unlisted { OnErr result (StartsNone (starts self.old) (starts self.new)) }
         ensures opened { OnOk result (alive self.new ≡ alive self.old + 1) }
         ensures unopened { OnErr result (alive self.new ≡ alive self.old) }
+        ensures below { work self.new ≡ work self.old }
         ensures refused { IsErrOf result RunError.NotAbsolute → IsAbsolute command.now → ⊥ }
         ensures bad { (path : List (List ℕ)) → IsErrOf result (RunError.BadOutput path) → ⊥ }
         ensures device { IfErr result
@@ -121,6 +125,7 @@ pub trait Runner<A: Allocator> {
         ensures same { YieldsNoMore (yields self.new) (yields self.old) }
         ensures unlisted { StartsNone (starts self.old) (starts self.new) }
         ensures closed { alive self.new ≡ alive self.old - 1 }
+        ensures below { work self.new ≡ work self.old }
         ensures absolute { IsErrOf result RunError.NotAbsolute → ⊥ }
         ensures device { IfErr result (TellsRunFailure (may_give job)) }
         ensures counted { Counts (failures self.old) (failures self.new)

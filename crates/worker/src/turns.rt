@@ -13,7 +13,7 @@ ghost use Rattle.worker.specs.Calls.{HasNoneStartable, IsLeastStartable, IsStart
 ghost use Rattle.worker.specs.Calls.{came_of};
 ghost use Rattle.worker.specs.Going.{AreJobsOf, IsJobOf, IsTurn, IsGoing, turns_left};
 ghost use Rattle.worker.specs.Going.{AreOneTurn, FinishesOnly, GoesOnBy, is_start, step_of};
-ghost use Rattle.worker.specs.Going.{taken_in};
+ghost use Rattle.worker.specs.Going.{IsOfTurns, taken_in};
 ghost use Rattle.worker.specs.Steps.{IsOfBuild, IsSameBuild};
 ghost use Rattle.worker.specs.Stopped.{IsRefusedBuild};
 ghost use Rattle.worker.specs.Stored.{KeepsAllBut};
@@ -127,8 +127,14 @@ pub(crate) fn take_turn<A: Allocator + Copy, S: BlobSink<A>, N: Runner<A>>(
         → YieldsNoMore (N.yields runner.old) (N.yields entry)
         → IsGoing A (N.yields entry) N.may_give (N.starts entry) (N.starts runner.old)
         before (S.tells sink.old) most first engine.old children.old.items
-        → KeepsAllBut (IsOfBuild A (N.yields entry) (S.tells sink.new).blobs engine.new)
+        → KeepsAllBut (IsOfBuild A (N.yields entry) (S.tells sink.new) engine.new)
         (S.tells sink.old).blobs (S.tells sink.new).blobs }
+    ensures whole { OnOk result ((entry : N) (before : Telling) (most : ℕ) (first : EngineValue)
+        → YieldsNoMore (N.yields runner.old) (N.yields entry)
+        → IsGoing A (N.yields entry) N.may_give (N.starts entry) (N.starts runner.old)
+        before (S.tells sink.old) most first engine.old children.old.items
+        → KeepsAllBut (IsOfTurns A (N.yields entry) (S.tells sink.new).blobs engine.new)
+        (S.tells sink.old).blobs (S.tells sink.new).blobs) }
     ensures only { OnOk result
         (FinishesOnly (step_of turn children.old.items) engine.old engine.new) }
     // Where it is refused, fewer children than may run at once are left.
@@ -142,6 +148,7 @@ pub(crate) fn take_turn<A: Allocator + Copy, S: BlobSink<A>, N: Runner<A>>(
     ensures within { YieldsNoMore (N.yields runner.new) (N.yields runner.old) }
     ensures alive { N.alive runner.new + length children.old.items
         ≡ N.alive runner.old + length children.new.items }
+    ensures below { N.work runner.new ≡ N.work runner.old }
     ensures fetched { Counts (S.tells sink.old).failures (S.tells sink.new).failures
         (IsErrAnd result (λ e. IsFetch e.refusal)) }
     ensures device { Counts (N.failures runner.old) (N.failures runner.new)

@@ -3,9 +3,9 @@ use Rattle.std.proofs.Math.Logic.{∥∥₁_map}
 use Rattle.builder.specs.Faults.{IsStoreFailure, fault_of}
 use Rattle.remote.specs.Remote.{connection_of, telling_of}
 use Rattle.cli.proofs.Builds.{server_stops, stops_of, told_as}
+use Rattle.cli.proofs.Within.{run_below}
 use Rattle.commands.proofs.Exits.{exit_by}
 use Rattle.commands.proofs.Tellings.{nothing_by}
-use Rattle.worker.specs.Outcomes.{YieldsNoMore}
 use Rattle.blob_source.specs.Memory.{TellsNothing}
 use Rattle.cli.specs.Refused.{FailsTelling}
 use Rattle.cli.proofs.building.build_in_folder.Goals as goal
@@ -21,11 +21,7 @@ returns-in-Ok-clause-told g c =
       by = told_as g.K.Opened.start asked.plan asked.sources asked.jobs _ _
           (subst (λ r. TellsNothing (telling_of r)) (sym c.new-client.ensures.remote) (nothing_by c.args.remote c.requires.fresh))
           (∥∥₁_map c.tell_build-told.new.sink.over (λ over. (connection_of g.S.Stream.flow remote, over))) _ _
-          (record {
-            within = subst (λ w. YieldsNoMore (g.P.Steps.Runner.yields c.steps-runner.result) (g.P.Workplace.below c.args.errors w).yields) work c.steps-runner.ensures.yields;
-            none = c.steps-runner.ensures.unstarted;
-            all = λ started h. subst (λ w. (g.P.Workplace.below c.args.errors w).ran started) c.as_str-2.ensures.value (c.end_steps.ensures.ran c.args.errors started h);
-          }) c.tell_build-told.result c.tell_build-told.ensures.told.came c.tell_build-told.ensures.told.order.fetched _ c.in-Ok.is;
+          (run_below (g.P.Workplace.below c.args.errors) work (c.tell_build-told.ensures.below ∙ c.steps-runner.ensures.work) c.steps-runner.ensures.yields c.steps-runner.ensures.unstarted (c.end_steps.ensures.ran c.args.errors)) c.tell_build-told.result c.tell_build-told.ensures.told.came c.tell_build-told.ensures.told.order.fetched _ c.in-Ok.is;
       holds = c.in_ok-put_root-in-Ok.ensures.held;
     }
 
@@ -48,11 +44,7 @@ returns-in_err-put_root-in-Ok-clause-fault g c =
     (server_stops g.K.Opened.start asked.plan asked.sources asked.jobs _ _
     (subst (λ r. TellsNothing (telling_of r)) (sym c.new-client.ensures.remote) (nothing_by c.args.remote c.requires.fresh))
     (∥∥₁_map c.tell_build-told.new.sink.over (λ over. (connection_of g.S.Stream.flow remote, over))) _ _
-    (record {
-      within = subst (λ w. YieldsNoMore (g.P.Steps.Runner.yields c.steps-runner.result) (g.P.Workplace.below c.args.errors w).yields) work c.steps-runner.ensures.yields;
-      none = c.steps-runner.ensures.unstarted;
-      all = λ started h. subst (λ w. (g.P.Workplace.below c.args.errors w).ran started) c.as_str-2.ensures.value (c.end_steps.ensures.ran c.args.errors started h);
-    })
+    (run_below (g.P.Workplace.below c.args.errors) work (c.tell_build-told.ensures.below ∙ c.steps-runner.ensures.work) c.steps-runner.ensures.yields c.steps-runner.ensures.unstarted (c.end_steps.ensures.ran c.args.errors))
     c.tell_build-told.result c.tell_build-told.ensures.told.came c.tell_build-told.ensures.told.order.fetched
     address _ _ c.in-Ok.is c.in_err-put_root-in-Ok.ensures.whole c.in_err-put_root-in-Ok.ensures.fault)
 
@@ -65,11 +57,7 @@ returns-in-Fetch-clause-fault g c =
     server_stops g.K.Opened.start asked.plan asked.sources asked.jobs _ _
     (subst (λ r. TellsNothing (telling_of r)) (sym c.new-client.ensures.remote) (nothing_by c.args.remote c.requires.fresh))
     (∥∥₁_map c.tell_build-told.new.sink.over (λ over. (connection_of g.S.Stream.flow remote, over))) _ _
-    (record {
-      within = subst (λ w. YieldsNoMore (g.P.Steps.Runner.yields c.steps-runner.result) (g.P.Workplace.below c.args.errors w).yields) work c.steps-runner.ensures.yields;
-      none = c.steps-runner.ensures.unstarted;
-      all = λ started h. subst (λ w. (g.P.Workplace.below c.args.errors w).ran started) c.as_str-2.ensures.value (c.end_steps.ensures.ran c.args.errors started h);
-    })
+    (run_below (g.P.Workplace.below c.args.errors) work (c.tell_build-told.ensures.below ∙ c.steps-runner.ensures.work) c.steps-runner.ensures.yields c.steps-runner.ensures.unstarted (c.end_steps.ensures.ran c.args.errors))
     c.tell_build-told.result c.tell_build-told.ensures.told.came c.tell_build-told.ensures.told.order.fetched
     (string_bytes asked.server.address) _ _ c.in-Err.is fails c.in_ok-error-in-Fetch.ensures.over
 
@@ -82,10 +70,6 @@ returns-in-Some-clause-fault g c =
     inr (inl (stops_of g.K.Opened.start asked.plan asked.sources asked.jobs _ _
     (subst (λ r. TellsNothing (telling_of r)) (sym c.new-client.ensures.remote) (nothing_by c.args.remote c.requires.fresh))
     (∥∥₁_map c.tell_build-told.new.sink.over (λ over. (connection_of g.S.Stream.flow remote, over))) _ _
-    (record {
-      within = subst (λ w. YieldsNoMore (g.P.Steps.Runner.yields c.steps-runner.result) (g.P.Workplace.below c.args.errors w).yields) work c.steps-runner.ensures.yields;
-      none = c.steps-runner.ensures.unstarted;
-      all = λ started h. subst (λ w. (g.P.Workplace.below c.args.errors w).ran started) c.as_str-2.ensures.value (c.end_steps.ensures.ran c.args.errors started h);
-    })
+    (run_below (g.P.Workplace.below c.args.errors) work (c.tell_build-told.ensures.below ∙ c.steps-runner.ensures.work) c.steps-runner.ensures.yields c.steps-runner.ensures.unstarted (c.end_steps.ensures.ran c.args.errors))
     c.tell_build-told.result c.tell_build-told.ensures.told.came c.tell_build-told.ensures.told.order.fetched
     c.in-Err.error c.in-Some.stopped _ c.in-Err.is c.in-Some.ensures.some c.in_ok-process_error-in-Some.ensures))

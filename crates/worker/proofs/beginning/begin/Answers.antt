@@ -1,5 +1,5 @@
 use Rattle.worker.proofs.Keeping.{kept_trans, kept_some}
-use Rattle.std.proofs.Common.{◌≡◌, ◌∙◌, Some, None, set, refl, ap, subst, sym, inl, inr}
+use Rattle.std.proofs.Common.{◌≡◌, ◌∙◌, Some, None, set, arith, refl, ap, subst, sym, inl, inr}
 use Rattle.tree.specs.Memo.{WasRefused}
 use Rattle.runs.specs.Calls.{without_job}
 use Rattle.runs.specs.Engine.{EngineValue, job_in}
@@ -11,7 +11,7 @@ use Rattle.worker.proofs.Telling.{held_kept}
 use Rattle.worker.proofs.Goes.{begun}
 use Rattle.worker.specs.Steps.{IsSameBuild}
 use Rattle.worker.proofs.Acts.{only_jobs, same_build, same_then}
-use Rattle.worker.proofs.Blobs.{launched_same, of_job_started, others_grown, others_more, others_then, started_same}
+use Rattle.worker.proofs.Blobs.{launched_same, of_gone_started, of_job_started, others_grown, others_more, others_then, started_same}
 use Rattle.worker.proofs.Knowing.{known_of, knows_still, knows_started}
 use Rattle.worker.proofs.PutOnce.{put_still}
 use Rattle.blob_source.proofs.Asking.{ok_no_error}
@@ -137,7 +137,14 @@ returns-in-Ok-launch-clause-build g c = same_then (started_same c.in-Ok.ensures.
 
 pub returns-in-Ok-launch-clause-only : goal.returns-in-Ok-launch-clause-only
 returns-in-Ok-launch-clause-only g c = others_then (others_grown c.start.ensures.called.asked.blobs)
-    (others_more (of_job_started c.in-Ok.ensures.started c.launch.ensures.kept.blobs (returns-in-Ok-launch-clause-build g c)) c.launch.ensures.only)
+    (others_more (of_job_started (g.S.BlobSource.tells c.launch.new.sink) c.in-Ok.ensures.started c.launch.ensures.kept.blobs (returns-in-Ok-launch-clause-build g c)) c.launch.ensures.only)
+
+pub returns-in-Ok-launch-clause-whole : goal.returns-in-Ok-launch-clause-whole
+returns-in-Ok-launch-clause-whole g c =
+    let within = c.requires.within in
+    let count = c.plan.ensures.valid.count in
+    others_then (others_grown c.start.ensures.called.asked.blobs)
+    (others_more (of_gone_started c.in-Ok.ensures.started c.launch.ensures.kept.blobs (returns-in-Ok-launch-clause-build g c) (omega (arith, within, count)) c.requires.startable.waiting.unfinished) c.in-Ok-launch.ensures.gone)
 
 pub returns-in-Err-clause-build : goal.returns-in-Err-clause-build
 returns-in-Err-clause-build g c = subst (IsSameBuild c.args.engine.now) (sym c.in-Err.ensures.unchanged) (same_build c.args.engine.now)
@@ -149,4 +156,4 @@ returns-clause-build g c =
 
 pub returns-clause-only : goal.returns-clause-only
 returns-clause-only g c = others_then (others_grown c.start.ensures.called.asked.blobs)
-    (others_more (of_job_started c.in-Ok.ensures.started c.launch.ensures.kept.blobs (returns-clause-build g c)) c.launch.ensures.only)
+    (others_more (of_job_started (g.S.BlobSource.tells c.launch.new.sink) c.in-Ok.ensures.started c.launch.ensures.kept.blobs (returns-clause-build g c)) c.launch.ensures.only)

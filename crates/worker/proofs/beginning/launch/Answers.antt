@@ -6,8 +6,8 @@ use Rattle.worker.specs.declared.child.Child.{Child}
 use Rattle.worker.specs.Outcomes.{IsHeld, CanBeTakenFor, CanBeTaken, tree_blobs}
 use Rattle.worker.specs.Going.{kept_job}
 use Rattle.worker.proofs.Stopping.{store_stops, store_no_child, job_begun, child_stops}
-use Rattle.worker.proofs.Telling.{held_kept, recorded_still}
-use Rattle.worker.proofs.Blobs.{others_grown, others_input, others_recorded, others_then}
+use Rattle.worker.proofs.Telling.{held_kept}
+use Rattle.worker.proofs.Blobs.{others_finished, others_gone, others_grown, others_input, others_recorded, others_then}
 use Rattle.worker.proofs.Keeping.{kept_trans, right_still}
 use Rattle.worker.proofs.PutOnce.{put_still}
 use Rattle.worker.specs.Counted.{IsDevice, IsFetch}
@@ -233,21 +233,21 @@ returns-in_err-put_trees-clause-only g c =
     let t = g.S.BlobSource.tells c.recorded_outcome.new.sink in
     let held : IsHeld t c.args.job.now.digest c.in-Some.outcome = subst (λ o. IfSome o (IsHeld t c.args.job.now.digest)) c.in-Some.is c.in_ok-outcome.ensures.held in
     others_then (others_then (others_input c.args.job.now c.put_input.ensures.only) (others_grown c.recorded_outcome.ensures.only))
-    (others_recorded c.args.job.now held.result c.in-Some.outcome (recorded_still c.put_trees.ensures.kept.blobs held.result c.in-Some.outcome held.recorded) c.put_trees.ensures.only)
+    (others_recorded c.args.job.now c.in-Some.outcome (held_kept c.put_trees.ensures.kept held) (subst (λ o. IfSome o (CanBeTaken c.args.job.now.command)) c.in-Some.is c.in_ok-outcome.ensures.fits) c.put_trees.ensures.only)
 
 pub returns-in_err-finish-clause-only : goal.returns-in_err-finish-clause-only
 returns-in_err-finish-clause-only g c =
     let t = g.S.BlobSource.tells c.recorded_outcome.new.sink in
     let held : IsHeld t c.args.job.now.digest c.in-Some.outcome = subst (λ o. IfSome o (IsHeld t c.args.job.now.digest)) c.in-Some.is c.in_ok-outcome.ensures.held in
     others_then (others_then (others_input c.args.job.now c.put_input.ensures.only) (others_grown c.recorded_outcome.ensures.only))
-    (others_recorded c.args.job.now held.result c.in-Some.outcome (recorded_still c.put_trees.ensures.kept.blobs held.result c.in-Some.outcome held.recorded) c.put_trees.ensures.only)
+    (others_recorded c.args.job.now c.in-Some.outcome (held_kept c.put_trees.ensures.kept held) (subst (λ o. IfSome o (CanBeTaken c.args.job.now.command)) c.in-Some.is c.in_ok-outcome.ensures.fits) c.put_trees.ensures.only)
 
 pub returns-in-Some-clause-only : goal.returns-in-Some-clause-only
 returns-in-Some-clause-only g c =
     let t = g.S.BlobSource.tells c.recorded_outcome.new.sink in
     let held : IsHeld t c.args.job.now.digest c.in-Some.outcome = subst (λ o. IfSome o (IsHeld t c.args.job.now.digest)) c.in-Some.is c.in_ok-outcome.ensures.held in
     others_then (others_then (others_input c.args.job.now c.put_input.ensures.only) (others_grown c.recorded_outcome.ensures.only))
-    (others_recorded c.args.job.now held.result c.in-Some.outcome (recorded_still c.put_trees.ensures.kept.blobs held.result c.in-Some.outcome held.recorded) c.put_trees.ensures.only)
+    (others_recorded c.args.job.now c.in-Some.outcome (held_kept c.put_trees.ensures.kept held) (subst (λ o. IfSome o (CanBeTaken c.args.job.now.command)) c.in-Some.is c.in_ok-outcome.ensures.fits) c.put_trees.ensures.only)
 
 pub returns-in_err-reserve-clause-only : goal.returns-in_err-reserve-clause-only
 returns-in_err-reserve-clause-only g c = others_then (others_input c.args.job.now c.put_input.ensures.only) (others_grown c.recorded_outcome.ensures.only)
@@ -257,3 +257,9 @@ returns-in_err-child-clause-only g c = others_then (others_then (others_input c.
 
 pub returns-clause-only : goal.returns-clause-only
 returns-clause-only g c = others_then (others_then (others_input c.args.job.now c.put_input.ensures.only) (others_grown c.recorded_outcome.ensures.only)) (others_grown c.start_child.ensures.only)
+
+pub returns-in-Some-clause-gone : goal.returns-in-Some-clause-gone
+returns-in-Some-clause-gone g c = others_then (others_then (others_gone c.args.job.now c.put_input.ensures.only) (others_grown c.recorded_outcome.ensures.only)) (others_finished c.args.job.now c.in-Some.outcome c.in_ok-finish.ensures.finished c.put_trees.ensures.only)
+
+pub returns-clause-gone : goal.returns-clause-gone
+returns-clause-gone g c = others_then (others_then (others_gone c.args.job.now c.put_input.ensures.only) (others_grown c.recorded_outcome.ensures.only)) (others_grown c.start_child.ensures.only)

@@ -4,7 +4,7 @@ use Rattle.worker.proofs.Goes.{own_jobs, puts_none}
 use Rattle.worker.proofs.Joins.{finish_join, lost_in_order}
 use Rattle.worker.proofs.Heard.{watched_moved}
 use Rattle.worker.proofs.Acts.{calls_same}
-use Rattle.worker.proofs.Blobs.{of_build_moved, others_more}
+use Rattle.worker.proofs.Blobs.{of_build_within, others_more}
 use Rattle.worker.proofs.Keeping.{kept_none}
 use Rattle.worker.proofs.Knowing.{knows_nothing}
 use Rattle.worker.proofs.PutOnce.{put_none}
@@ -82,4 +82,4 @@ returns-in-Err-clause-blobs g c =
     let t = g.S.BlobSource.tells c.take_turns.new.sink in
     let yields = g.N.Runner.yields c.args.runner.now in
     let rest = c.end_all.ensures.led c.args.runner.now (g.S.BlobSource.tells c.args.sink.now) t c.args.jobs c.args.engine.now c.in-Err.ensures.going.0 in
-    others_more (of_build_moved (λ l d p h. h) (λ e b at right. at) (calls_same g.row.A.Denot yields t c.args.jobs (map lost rest.1.ids) _ _ rest.1.leads)) c.take_turns.ensures.blobs
+    others_more (of_build_within (λ l d p h. h) (calls_same g.row.A.Denot yields t c.args.jobs (map lost rest.1.ids) _ _ rest.1.leads)) c.take_turns.ensures.blobs

@@ -6,7 +6,7 @@ use Rattle.worker.specs.Watching.{IsProgress, IsProgressOf, IsWatched, taken_cou
 use Rattle.worker.proofs.Keeping.{right_trans}
 use Rattle.worker.proofs.PutOnce.{remembers_none, remembers_then}
 use Rattle.worker.proofs.Complete.{all_finished}
-use Rattle.worker.proofs.Blobs.{of_build_moved, others_grown, others_more, others_then}
+use Rattle.worker.proofs.Blobs.{of_turns_all, of_turns_moved, others_grown, others_more, others_then}
 use Rattle.worker.proofs.Goes.{going_none, own_jobs}
 use Rattle.worker.proofs.Joins.{came_join, taken_join}
 use Rattle.worker.proofs.Stopping.{turns_then}
@@ -78,12 +78,13 @@ loop-turn-preserved g c =
       going = (going, is, heard, whole, put);
       within = λ l d p h. c.loop-turn.invariant.within l d p (c.take_turn.ensures.within l d p h);
       right = right_trans c.loop-turn.invariant.right c.take_turn.ensures.right;
-      blobs = others_then (others_more (of_build_moved (λ l d p h. h) c.take_turn.ensures.right c.take_turn.ensures.build) c.loop-turn.invariant.blobs) (c.take_turn.ensures.blobs c.args.runner.now (g.S.BlobSource.tells c.args.sink.now) c.args.jobs c.args.engine.now c.loop-turn.invariant.within was.0);
+      blobs = others_then (others_more (of_turns_moved (λ l d p h. h) c.take_turn.ensures.right c.take_turn.ensures.build) c.loop-turn.invariant.blobs) (c.in_ok-take_turn.ensures.whole c.args.runner.now (g.S.BlobSource.tells c.args.sink.now) c.args.jobs c.args.engine.now c.loop-turn.invariant.within was.0);
       stored = λ h. c.in_ok-take_turn.ensures.stored c.args.runner.now (g.S.BlobSource.tells c.args.sink.now) c.args.jobs c.args.engine.now c.loop-turn.invariant.going.0 (c.loop-turn.invariant.stored h);
       fetched = c.in_ok-take_turn.ensures.fetched.unfailed (λ f. f) ∙ c.loop-turn.invariant.fetched;
       device = c.in_ok-take_turn.ensures.device.unfailed (λ f. f) ∙ c.loop-turn.invariant.device;
       stays = remembers_then c.loop-turn.invariant.stays c.take_turn.ensures.stays;
       knows = c.take_turn.ensures.knows;
+      below = c.take_turn.ensures.below ∙ c.loop-turn.invariant.below;
       alive = let now = c.take_turn.ensures.alive in let was = c.loop-turn.invariant.alive in omega (arith, now, was);
     }
 
@@ -128,8 +129,8 @@ returns-in_err-take_turn-clause-few g c =
     rw p.1 (c.in_err-take_turn.ensures.room c.args.jobs c.in-Some.ensures.turn c.loop-turn.invariant.going.0.few)
 
 pub returns-in_err-take_turn-clause-blobs : goal.returns-in_err-take_turn-clause-blobs
-returns-in_err-take_turn-clause-blobs g c = others_then (others_more (of_build_moved (λ l d p h. h) c.take_turn.ensures.right c.take_turn.ensures.build) c.loop-turn.invariant.blobs)
+returns-in_err-take_turn-clause-blobs g c = others_then (others_more (λ b h. of_turns_all b (of_turns_moved (λ l d p h. h) c.take_turn.ensures.right c.take_turn.ensures.build b h)) c.loop-turn.invariant.blobs)
     (c.take_turn.ensures.blobs c.args.runner.now (g.S.BlobSource.tells c.args.sink.now) c.args.jobs c.args.engine.now c.loop-turn.invariant.within c.loop-turn.invariant.going.0)
 
 pub returns-clause-blobs : goal.returns-clause-blobs
-returns-clause-blobs g c = c.loop-turn.invariant.blobs
+returns-clause-blobs g c = others_more of_turns_all c.loop-turn.invariant.blobs

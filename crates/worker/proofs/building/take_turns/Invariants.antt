@@ -3,9 +3,8 @@ use Rattle.blob_source.specs.Sink.{KeepsRight}
 use Rattle.worker.specs.Storing.{Remembers, StaysRemembered, StoresSteps}
 use Rattle.worker.specs.Outcomes.{YieldsNoMore}
 use Rattle.worker.specs.Calls.{AreTurns, came_of}
-use Rattle.worker.specs.Going.{IsGoing, turns_left}
+use Rattle.worker.specs.Going.{IsGoing, IsOfTurns, turns_left}
 use Rattle.worker.specs.Watching.{IsProgress, IsProgressOf, IsWatched, turns_in}
-use Rattle.worker.specs.Steps.{IsOfBuild}
 use Rattle.worker.specs.Stored.{KeepsAllBut}
 use Rattle.worker.proofs.building.take_turns.Given as goal
 
@@ -21,12 +20,13 @@ invariant-loop-turn g l =
           × AreTurns h.led.built.led.calls × ((tells l.sink).puts ≡ (tells l.fn.sink).puts ++ came_of h.led.built.led.calls);
       within : YieldsNoMore (yields l.runner) (yields l.fn.runner);
       right : KeepsRight (tells l.fn.sink).blobs (tells l.sink).blobs;
-      blobs : KeepsAllBut (IsOfBuild g.row.A.Denot (yields l.fn.runner) (tells l.sink).blobs l.engine) (tells l.fn.sink).blobs (tells l.sink).blobs;
+      blobs : KeepsAllBut (IsOfTurns g.row.A.Denot (yields l.fn.runner) (tells l.sink).blobs l.engine) (tells l.fn.sink).blobs (tells l.sink).blobs;
       stored : StoresSteps (tells l.fn.sink) l.fn.engine → StoresSteps (tells l.sink) l.engine;
       fetched : (tells l.sink).failures ≡ (tells l.fn.sink).failures;
       device : g.N.Runner.failures l.runner ≡ g.N.Runner.failures l.fn.runner;
       stays : StaysRemembered l.fn.underway.remembered l.underway.remembered;
       knows : Remembers l.underway.remembered (tells l.sink).blobs;
+      below : g.N.Runner.work l.runner ≡ g.N.Runner.work l.fn.runner;
       alive : g.N.Runner.alive l.runner ≡ g.N.Runner.alive l.fn.runner + length l.underway.children.items;
     }
 

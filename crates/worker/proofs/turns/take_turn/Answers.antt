@@ -3,13 +3,13 @@ use Rattle.std.specs.Prelude.{IfErr, OnOk}
 use Rattle.worker.specs.Going.{AreOneTurn, FinishesOnly, GoesOnBy, IsTurn, is_start, step_of, taken_in}
 use Rattle.worker.specs.Calls.{PutsOf, came_of}
 use Rattle.worker.specs.Stopped.{IsRefusedBuild}
-use Rattle.worker.proofs.Taking.{finish_right, start_stored, finish_stored}
+use Rattle.worker.proofs.Taking.{finish_right, on_ok, start_stored, finish_stored, then_on_ok}
 use Rattle.worker.proofs.Stopping.{start_goes, finish_goes, start_room, finish_room, ended_of}
 use Rattle.worker.proofs.Lefts.{start_less, finish_less}
 use Rattle.worker.proofs.Counts.{start_only, finish_only}
 use Rattle.worker.proofs.PutOnce.{remembers_none, remembers_still}
 use Rattle.worker.proofs.Acts.{same_build}
-use Rattle.worker.proofs.Blobs.{finish_others, finish_same, of_build_moved, others_more}
+use Rattle.worker.proofs.Blobs.{finish_others, finish_same, of_build_within, of_turns_all, of_turns_moved, others_more}
 use Rattle.worker.proofs.turns.take_turn.Goals as goal
 
 pub returns-in-Start-clause-going : goal.returns-in-Start-clause-going
@@ -97,10 +97,16 @@ pub returns-in-Finish-clause-stays : goal.returns-in-Finish-clause-stays
 returns-in-Finish-clause-stays g c = remembers_none
 
 pub returns-in-Start-clause-blobs : goal.returns-in-Start-clause-blobs
-returns-in-Start-clause-blobs g c entry s most first within going = others_more (of_build_moved within (λ e b at right. at) (same_build c.begin.new.engine)) c.begin.ensures.only
+returns-in-Start-clause-blobs g c entry s most first within going = others_more (of_build_within within (same_build c.begin.new.engine)) c.begin.ensures.only
+
+pub returns-in-Start-clause-whole : goal.returns-in-Start-clause-whole
+returns-in-Start-clause-whole g c = then_on_ok c.begin.result (λ only entry s most first within going. others_more (of_turns_moved within (λ e b at right. at) (same_build c.begin.new.engine)) only) c.begin.ensures.whole
 
 pub returns-in-Finish-clause-build : goal.returns-in-Finish-clause-build
 returns-in-Finish-clause-build g c = finish_same g.N.Runner.may_give (g.S.BlobSource.tells c.args.sink.now) (g.S.BlobSource.tells c.finish_first.new.sink) c.args.engine.now c.finish_first.new.engine c.args.children.now.items c.finish_first.new.children.items c.finish_first.result c.finish_first.ensures.ended (ended_of g.N.Runner.may_give (g.S.BlobSource.tells c.args.sink.now) (g.S.BlobSource.tells c.finish_first.new.sink) c.args.engine.now c.finish_first.new.engine c.args.children.now.items c.finish_first.new.children.items c.finish_first.result c.finish_first.ensures.stopped)
 
 pub returns-in-Finish-clause-blobs : goal.returns-in-Finish-clause-blobs
-returns-in-Finish-clause-blobs g c entry s most first within going = finish_others (g.S.BlobSource.tells c.finish_first.new.sink) going (returns-in-Finish-clause-right g c) (returns-in-Finish-clause-build g c) c.finish_first.ensures.only
+returns-in-Finish-clause-blobs g c entry s most first within going = others_more of_turns_all (finish_others (g.S.BlobSource.tells c.finish_first.new.sink) going (returns-in-Finish-clause-right g c) (returns-in-Finish-clause-build g c) c.finish_first.ensures.only)
+
+pub returns-in-Finish-clause-whole : goal.returns-in-Finish-clause-whole
+returns-in-Finish-clause-whole g c = on_ok c.finish_first.result (λ entry s most first within going. finish_others (g.S.BlobSource.tells c.finish_first.new.sink) going (returns-in-Finish-clause-right g c) (returns-in-Finish-clause-build g c) c.finish_first.ensures.only)
