@@ -81,56 +81,48 @@ finish_same may t u now new cs ds (Err x) well ended = ends_same may t u ended.c
 -- ---- blobs of a build
 
 -- for a runner that yields more, and later
-module _ {A : Type 0} {y z : Yields} {B C : Blobs} {e f : EngineValue} (within : YieldsNoMore y z) (keeps : KeepsRight B C) (same : IsSameBuild e f) where
-  action_moved : {i : ℕ} {d : DigestValue} (o : IsActionOf A B e i d) → IsActionOf A C f i d
-  action_moved o = record { told = o.told; still = right_trans o.still keeps; at = o.at; same = same_then o.same same; job = o.job; prepared = o.prepared; digest = o.digest }
+abbrev action_moved : {A : Type 0} {B C : Blobs} {e f : EngineValue} {i : ℕ} {d : DigestValue} → KeepsRight B C → IsSameBuild e f → IsActionOf A B e i d → IsActionOf A C f i d
+action_moved keeps same o = record { told = o.told; still = right_trans o.still keeps; at = o.at; same = same_then o.same same; job = o.job; prepared = o.prepared; digest = o.digest }
 
-  child_moved : {b : List ℕ} → IsOfChild y B e b → IsOfChild z C f b
-  child_moved (j, p, may, among) = (j, p, end_still e f within keeps (same.commands, same.frames) j (made p) may, among)
+child_moved : {y z : Yields} {B C : Blobs} {e f : EngineValue} {b : List ℕ} → YieldsNoMore y z → KeepsRight B C → IsSameBuild e f → IsOfChild y B e b → IsOfChild z C f b
+child_moved {e = e} {f = f} within keeps same (j, p, may, among) = (j, p, end_still e f within keeps (same.commands, same.frames) j (made p) may, among)
 
-  finished_moved : {b : List ℕ} → IsOfFinished e b → IsOfFinished f b
-  finished_moved (i, g, at, among) = (i, g, same.finished i g at, among)
+finished_moved : {e f : EngineValue} {b : List ℕ} → IsSameBuild e f → IsOfFinished e b → IsOfFinished f b
+finished_moved same (i, g, at, among) = (i, g, same.finished i g at, among)
 
-  pub of_turns_moved : (b : List ℕ) → IsOfTurns A y B e b → IsOfTurns A z C f b
-  of_turns_moved b (inl (i, d, o, among)) = inl (i, d, action_moved o, among)
-  of_turns_moved b (inr (inl child)) = inr (inl (child_moved child))
-  of_turns_moved b (inr (inr finished)) = inr (inr (finished_moved finished))
+pub of_turns_moved : {A : Type 0} {y z : Yields} {B C : Blobs} {e f : EngineValue} → YieldsNoMore y z → KeepsRight B C → IsSameBuild e f → (b : List ℕ) → IsOfTurns A y B e b → IsOfTurns A z C f b
+of_turns_moved within keeps same b (inl (i, d, o, among)) = inl (i, d, action_moved keeps same o, among)
+of_turns_moved within keeps same b (inr (inl child)) = inr (inl (child_moved within keeps same child))
+of_turns_moved within keeps same b (inr (inr finished)) = inr (inr (finished_moved same finished))
 
 pub of_turns_all : {A : Type 0} {y : Yields} {t : Telling} {e : EngineValue} (b : List ℕ) → IsOfTurns A y t.blobs e b → IsOfBuild A y t e b
 of_turns_all b (inl (i, d, o, among)) = inl (i, d, o, inl among)
 of_turns_all b (inr other) = inr other
 
 pub of_build_within : {A : Type 0} {y z : Yields} {t : Telling} {e f : EngineValue} → YieldsNoMore y z → IsSameBuild e f → (b : List ℕ) → IsOfBuild A y t e b → IsOfBuild A z t f b
-of_build_within {A} {y} {z} {t} {e} {f} within same b h = by h
-  where
-    keeps : KeepsRight t.blobs t.blobs
-    keeps = λ d c at right. at
-
-    by : IsOfBuild A y t e b → IsOfBuild A z t f b
-    by (inl (i, d, o, for_job)) = inl (i, d, action_moved {A} within keeps same o, for_job)
-    by (inr (inl child)) = inr (inl (child_moved {A} within keeps same child))
-    by (inr (inr finished)) = inr (inr (finished_moved {A} within keeps same finished))
+of_build_within within same b (inl (i, d, o, for_job)) = inl (i, d, action_moved (λ d c at right. at) same o, for_job)
+of_build_within within same b (inr (inl child)) = inr (inl (child_moved within (λ d c at right. at) same child))
+of_build_within within same b (inr (inr finished)) = inr (inr (finished_moved same finished))
 
 -- a step was started, and its job goes on
-module _ {A : Type 0} {y : Yields} {B C : Blobs} {i : ℕ} {old mid new : EngineValue} {job : Job A} (s : IsStarted B i old mid job) (keeps : KeepsRight B C) (same : IsSameBuild old new) where
-  action_started : IsActionOf A C new i job.digest
-  action_started = record { told = B; still = keeps; at = old; same = same; job = job; prepared = s.prepared; digest = refl }
+abbrev action_started : {A : Type 0} {B C : Blobs} {i : ℕ} {old mid new : EngineValue} {job : Job A} → IsStarted B i old mid job → KeepsRight B C → IsSameBuild old new → IsActionOf A C new i job.digest
+action_started {B = B} {old = old} {job = job} s keeps same = record { told = B; still = keeps; at = old; same = same; job = job; prepared = s.prepared; digest = refl }
 
-  finished_now : {v : OutcomeValue} (f : IsFinished job.id v mid new) → i < length old.finished → finished_in i old ≡ None → finished_in f.job.step new ≡ Some (record { action = f.job.action; outcome = v })
-  finished_now {v} f lt none =
-      let F : FinishedValue = record { action = f.job.action; outcome = v } in
-      let kept : mid.finished ≡ old.finished = ap (λ (e : EngineValue). e.finished) s.after in
-      let step : f.job.step ≡ i = ap (λ (j : JobValue). j.step) (one_answer (job_in job.id mid) f.job (kept_job job) f.is (started_value s)) ∙ s.prepared.of_step in
-      let unfinished : finished_in f.job.step mid ≡ None = ap (λ k. finished_in k mid) step ∙ ap (λ fs. at_number fs i) kept ∙ none in
-      let within : f.job.step < length mid.finished = subst (λ k. k < length mid.finished) (sym step) (subst (λ (fs : List (Option FinishedValue)). i < length fs) (sym kept) lt) in
-      ap (finished_in f.job.step) f.after ∙ ap (λ o. at_number (first_kept mid.finished o f.job.step F) f.job.step) unfinished ∙ set_same mid.finished f.job.step (Some F) within
+finished_now : {A : Type 0} {B : Blobs} {i : ℕ} {old mid new : EngineValue} {job : Job A} {v : OutcomeValue} → IsStarted B i old mid job → (f : IsFinished job.id v mid new) → i < length old.finished → finished_in i old ≡ None → finished_in f.job.step new ≡ Some (record { action = f.job.action; outcome = v })
+finished_now {A} {B} {i} {old} {mid} {new} {job} {v} s f lt none =
+    let F : FinishedValue = record { action = f.job.action; outcome = v } in
+    let kept : mid.finished ≡ old.finished = ap (λ (e : EngineValue). e.finished) s.after in
+    let step : f.job.step ≡ i = ap (λ (j : JobValue). j.step) (one_answer (job_in job.id mid) f.job (kept_job job) f.is (started_value s)) ∙ s.prepared.of_step in
+    let unfinished : finished_in f.job.step mid ≡ None = ap (λ k. finished_in k mid) step ∙ ap (λ fs. at_number fs i) kept ∙ none in
+    let within : f.job.step < length mid.finished = subst (λ k. k < length mid.finished) (sym step) (subst (λ (fs : List (Option FinishedValue)). i < length fs) (sym kept) lt) in
+    ap (finished_in f.job.step) f.after ∙ ap (λ o. at_number (first_kept o mid.finished f.job.step F) f.job.step) unfinished ∙ set_same mid.finished f.job.step (Some F) within
 
-  pub of_gone_started : i < length old.finished → finished_in i old ≡ None → (b : List ℕ) → IsForGone job mid new b → IsOfTurns A y C new b
-  of_gone_started lt none b (inl among) = inl (i, job.digest, action_started, among)
-  of_gone_started lt none b (inr (v, f, among)) = inr (inr (f.job.step, record { action = f.job.action; outcome = v }, finished_now f lt none, among))
+pub of_gone_started : {A : Type 0} {y : Yields} {B C : Blobs} {i : ℕ} {old mid new : EngineValue} {job : Job A} → IsStarted B i old mid job → KeepsRight B C → IsSameBuild old new → i < length old.finished → finished_in i old ≡ None → (b : List ℕ) → IsForGone job mid new b → IsOfTurns A y C new b
+of_gone_started {i = i} {job = job} s keeps same lt none b (inl among) = inl (i, job.digest, action_started s keeps same, among)
+of_gone_started s keeps same lt none b (inr (v, f, among)) = inr (inr (f.job.step, record { action = f.job.action; outcome = v }, finished_now s f lt none, among))
 
 pub of_job_started : {A : Type 0} {y : Yields} {B : Blobs} (t : Telling) {i : ℕ} {old mid new : EngineValue} {job : Job A} → IsStarted B i old mid job → KeepsRight B t.blobs → IsSameBuild old new → (b : List ℕ) → IsForJob job t b → IsOfBuild A y t new b
-of_job_started t {i} {job = job} s keeps same b h = inl (i, job.digest, action_started s keeps same, h)
+of_job_started t {i = i} {job = job} s keeps same b h = inl (i, job.digest, action_started s keeps same, h)
 
 pub finish_others : {A J : Type 0} {y : Yields} {may : J → EndValue → Type 0} {from a : Starts} {s t : Telling} (u : Telling) {most : ℕ} {first now new : EngineValue} {cs ds : List (Child J)} → IsGoing A y may from a s t most first now cs → KeepsRight t.blobs u.blobs → IsSameBuild now new
     → HasEndedFirst (λ c old new. PutsMade (may c.job) t.blobs u.blobs) now new cs ds → KeepsAllBut (IsOfTurns A y u.blobs new) t.blobs u.blobs

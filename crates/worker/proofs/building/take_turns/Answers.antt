@@ -29,6 +29,7 @@ loop-turn-init g c =
             sym (append-nil t.puts),
           );
       within = λ l d p h. h;
+      below = refl;
       right = λ e b at right. at;
       blobs = others_grown (λ e b at. at);
       stored = λ h. h;
