@@ -15,7 +15,7 @@ use Rattle.verifier.proofs.FreshRuns.{one_answer}
 use Rattle.worker.specs.declared.child.Child.{Child}
 use Rattle.worker.specs.Going.{AreJobsOf, IsForGone, IsGoing, IsLaunched, IsOfTurns, IsOwnJob, EndedWell, HasEndedFirst, kept_job}
 use Rattle.worker.specs.Outcomes.{Yields, YieldsNoMore, CanBeTaken, IsHeld, blobs_made, tree_blobs}
-use Rattle.worker.specs.Steps.{IsActionOf, IsForJob, IsOfBuild, IsOfChild, IsOfFinished, IsSameBuild, blobs_of_job}
+use Rattle.worker.specs.Steps.{IsActionOf, IsForJob, IsOfBuild, IsOfProduced, IsOfFinished, IsSameBuild, blobs_of_job}
 use Rattle.worker.specs.Stored.{KeepsAllBut, PutsNoOther}
 use Rattle.worker.specs.Storing.{PutsMade}
 use Rattle.worker.specs.Values.{EndValue, made, Starts}
@@ -84,7 +84,7 @@ finish_same may t u now new cs ds (Err x) well ended = ends_same may t u ended.c
 abbrev action_moved : {A : Type 0} {B C : Blobs} {e f : EngineValue} {i : ℕ} {d : DigestValue} → KeepsRight B C → IsSameBuild e f → IsActionOf A B e i d → IsActionOf A C f i d
 action_moved keeps same o = record { told = o.told; still = right_trans o.still keeps; at = o.at; same = same_then o.same same; job = o.job; prepared = o.prepared; digest = o.digest }
 
-child_moved : {y z : Yields} {B C : Blobs} {e f : EngineValue} {b : List ℕ} → YieldsNoMore y z → KeepsRight B C → IsSameBuild e f → IsOfChild y B e b → IsOfChild z C f b
+child_moved : {y z : Yields} {B C : Blobs} {e f : EngineValue} {b : List ℕ} → YieldsNoMore y z → KeepsRight B C → IsSameBuild e f → IsOfProduced y B e b → IsOfProduced z C f b
 child_moved {e = e} {f = f} within keeps same (j, p, may, among) = (j, p, end_still e f within keeps (same.commands, same.frames) j (made p) may, among)
 
 finished_moved : {e f : EngineValue} {b : List ℕ} → IsSameBuild e f → IsOfFinished e b → IsOfFinished f b

@@ -25,7 +25,7 @@ use Rattle.worker.specs.Storing.{IsKeptBut, HasFewTrees, HasResultOf, IsHeldWhol
 use Rattle.worker.specs.declared.remembering.Remembered.{Remembered}
 use Rattle.worker.specs.Outcomes.{Yields, YieldsFor, HasAllRight, HasOwnAction, HasTrees, IsHeld}
 use Rattle.worker.specs.Outcomes.{CanBeTaken, tree_blobs}
-use Rattle.worker.specs.Steps.{IsActionOf, IsOfChild, IsOfFinished, blobs_of_job}
+use Rattle.worker.specs.Steps.{IsActionOf, IsOfProduced, IsOfFinished, blobs_of_job}
 use Rattle.worker.specs.Calls.{running, Call, WasStarted, IsBuiltWith, IsResultFor}
 use Rattle.worker.specs.Calls.{IsLeastStartable, HasNoneStartable, AreTurns}
 use Rattle.worker.specs.Watching.{FinishInOrder, taken_count, turns_in, jobs_after}
@@ -130,7 +130,7 @@ IsForGone job old new b = Contains (blobs_of_job job) b
 abbrev pub IsOfTurns : (A : Type 0) → Yields → Blobs → EngineValue → List ℕ → Type 0
 IsOfTurns A yields B e b =
     ((i : ℕ) × (d : DigestValue) × (o : IsActionOf A B e i d) × Contains (blobs_of_job o.job) b)
-    ⊎ (IsOfChild yields B e b ⊎ IsOfFinished e b)
+    ⊎ (IsOfProduced yields B e b ⊎ IsOfFinished e b)
 
 -- ---- how often the store is called
 

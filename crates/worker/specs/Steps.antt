@@ -70,8 +70,8 @@ abbrev pub IsForJob : {A : Type 0} → Job A → Telling → List ℕ → Type 0
 IsForJob job t b = Contains (blobs_of_job job) b ⊎ IsOfRecorded job t b
 
 -- a blob of what a job's child may come to
-abbrev pub IsOfChild : Yields → Blobs → EngineValue → List ℕ → Type 0
-IsOfChild yields B e b = (j : JobValue) × (p : ProducedValue) × MayComeTo yields B e j (made p)
+abbrev pub IsOfProduced : Yields → Blobs → EngineValue → List ℕ → Type 0
+IsOfProduced yields B e b = (j : JobValue) × (p : ProducedValue) × MayComeTo yields B e j (made p)
     × Contains (blobs_made p) b
 
 -- a Tree of what a step finished with, or a Directory of it
@@ -84,4 +84,4 @@ IsOfFinished e b = (i : ℕ) × (f : FinishedValue) × (finished_in i e ≡ Some
 abbrev pub IsOfBuild : (A : Type 0) → Yields → Telling → EngineValue → List ℕ → Type 0
 IsOfBuild A yields t e b =
     ((i : ℕ) × (d : DigestValue) × (o : IsActionOf A t.blobs e i d) × IsForJob o.job t b)
-    ⊎ (IsOfChild yields t.blobs e b ⊎ IsOfFinished e b)
+    ⊎ (IsOfProduced yields t.blobs e b ⊎ IsOfFinished e b)
