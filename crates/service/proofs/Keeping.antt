@@ -211,11 +211,11 @@ module _ {S : Type 0} (cut : Bool) (spoke : ℕ → S → List ℕ → List ℕ 
             subst (TalksOrEnded cut spoke ended lost prefix opening history (keeps.entries ++ more) j) (sym (others j n))
             (either_apart j (member_at members j) more keeps.entries (apart_from_own k j more n own) (keeps.each j below))
 
-    moved_at : (over : S → Cause → Type 0) (b : Option Why) (members members' : List (ℕ × MemberValue S)) (accepted : ℕ) (old new : ServerValue) (k : ℕ)
-        → (moves : MovesOnAt b spoke over k old members new members') → (keeps : KeepsTogether cut spoke ended lost prefix opening history members accepted old)
-        → HasMovedOn b spoke over prefix opening history keeps.entries k moves.after new
-    moved_at over b members members' accepted old new k moves keeps =
-        subst (λ (z : List ℕ). HasMovedOn b spoke over z opening history keeps.entries k moves.after new) keeps.same
+    moved_at : {most : ℕ} (over : S → Cause → Type 0) (b : Option Why) (members members' : List (ℕ × MemberValue S)) (accepted : ℕ) (old new : ServerValue) (k : ℕ)
+        → (moves : MovesOnAt most b spoke over k old members new members') → (keeps : KeepsTogether cut spoke ended lost prefix opening history members accepted old)
+        → HasMovedOn most b spoke over prefix opening history keeps.entries k moves.after new
+    moved_at {most} over b members members' accepted old new k moves keeps =
+        subst (λ (z : List ℕ). HasMovedOn most b spoke over z opening history keeps.entries k moves.after new) keeps.same
         (moves.moves.on opening history keeps.entries keeps.stands
         (subst (λ (z : List ℕ). TalksOn spoke z opening history keeps.entries k moves.before) (sym keeps.same) (holds_at members accepted old k moves.before keeps moves.held)))
 
@@ -237,24 +237,24 @@ module _ {S : Type 0} (cut : Bool) (spoke : ℕ → S → List ℕ → List ℕ 
           (uncut cut why (IsReason (over stream) (IsShut prefix k (history ++ entries)) l.left l.unsent why) l.may);
     }
 
-  keeps_moved_so : (over : S → Cause → Type 0) (members members' : List (ℕ × MemberValue S)) (accepted : ℕ) (old new : ServerValue) (k : ℕ)
-      → MovesOnAt None spoke over k old members new members' → KeepsSo members accepted old members' accepted new
-  keeps_moved_so over members members' accepted old new k moves prefix opening history keeps =
-      let x : HasMovedOn None spoke over prefix opening history keeps.entries k moves.after new = moved_at prefix opening history over None members members' accepted old new k moves keeps in
+  keeps_moved_so : {most : ℕ} (over : S → Cause → Type 0) (members members' : List (ℕ × MemberValue S)) (accepted : ℕ) (old new : ServerValue) (k : ℕ)
+      → MovesOnAt most None spoke over k old members new members' → KeepsSo members accepted old members' accepted new
+  keeps_moved_so {most} over members members' accepted old new k moves prefix opening history keeps =
+      let x : HasMovedOn most None spoke over prefix opening history keeps.entries k moves.after new = moved_at prefix opening history over None members members' accepted old new k moves keeps in
       keeps_with prefix opening history members members' accepted old new k x.more keeps
       (is_open prefix opening history members accepted old k moves.before keeps moves.held) x.theirs moves.others x.stands x.same
       (subst (TalksOrEnded cut spoke ended lost prefix opening history (keeps.entries ++ x.more) k) (sym moves.at) x.holds)
 
-  pub keeps_moved : (over : S → Cause → Type 0) (members members' : List (ℕ × MemberValue S)) (accepted : ℕ) (old new : ServerValue) (k : ℕ)
-      → MovesOnAt None spoke over k old members new members' → GoesOnTogether cut spoke ended lost members accepted old members' accepted new
+  pub keeps_moved : {most : ℕ} (over : S → Cause → Type 0) (members members' : List (ℕ × MemberValue S)) (accepted : ℕ) (old new : ServerValue) (k : ℕ)
+      → MovesOnAt most None spoke over k old members new members' → GoesOnTogether cut spoke ended lost members accepted old members' accepted new
   keeps_moved over members members' accepted old new k moves = record { on = keeps_moved_so over members members' accepted old new k moves }
 
   -- it moved on, and was ended then
-  left_so : (over : S → Cause → Type 0) (why : Why) (members mid members' : List (ℕ × MemberValue S)) (accepted : ℕ) (old between new : ServerValue) (k : ℕ)
-      → MovesOnAt (Some why) spoke over k old members between mid → EndsIfAny spoke over ended lost k why between mid new members' → KeepsSo members accepted old members' accepted new
-  left_so over why members mid members' accepted old between new k moves (inr (none, same, all)) prefix opening history keeps = none_is_some (member_at mid k) moves.after moves.at none
-  left_so over why members mid members' accepted old between new k moves (inl ends) prefix opening history keeps =
-      let x : HasMovedOn (Some why) spoke over prefix opening history keeps.entries k moves.after between = moved_at prefix opening history over (Some why) members mid accepted old between k moves keeps in
+  left_so : {most : ℕ} (over : S → Cause → Type 0) (why : Why) (members mid members' : List (ℕ × MemberValue S)) (accepted : ℕ) (old between new : ServerValue) (k : ℕ)
+      → MovesOnAt most (Some why) spoke over k old members between mid → EndsIfAny spoke over ended lost k why between mid new members' → KeepsSo members accepted old members' accepted new
+  left_so {most} over why members mid members' accepted old between new k moves (inr (none, same, all)) prefix opening history keeps = none_is_some (member_at mid k) moves.after moves.at none
+  left_so {most} over why members mid members' accepted old between new k moves (inl ends) prefix opening history keeps =
+      let x : HasMovedOn most (Some why) spoke over prefix opening history keeps.entries k moves.after between = moved_at prefix opening history over (Some why) members mid accepted old between k moves keeps in
       keeps_with prefix opening history members members' accepted old new k (x.more ++ End k ∷ []) keeps
       (is_open prefix opening history members accepted old k moves.before keeps moves.held) (own_end x.more x.theirs)
       (λ j n. ends.others j n ∙ moves.others j n)
@@ -272,8 +272,8 @@ module _ {S : Type 0} (cut : Bool) (spoke : ℕ → S → List ℕ → List ℕ 
       same_member : (o : Option (MemberValue S)) → o ≡ Some moves.after → o ≡ Some ends.m → moves.after ≡ ends.m
       same_member o p q = cc
 
-  pub keeps_left : (over : S → Cause → Type 0) (why : Why) (members mid members' : List (ℕ × MemberValue S)) (accepted : ℕ) (old between new : ServerValue) (k : ℕ)
-      → MovesOnAt (Some why) spoke over k old members between mid → EndsIfAny spoke over ended lost k why between mid new members' → GoesOnTogether cut spoke ended lost members accepted old members' accepted new
+  pub keeps_left : {most : ℕ} (over : S → Cause → Type 0) (why : Why) (members mid members' : List (ℕ × MemberValue S)) (accepted : ℕ) (old between new : ServerValue) (k : ℕ)
+      → MovesOnAt most (Some why) spoke over k old members between mid → EndsIfAny spoke over ended lost k why between mid new members' → GoesOnTogether cut spoke ended lost members accepted old members' accepted new
   keeps_left over why members mid members' accepted old between new k moves ends = record { on = left_so over why members mid members' accepted old between new k moves ends }
 
   -- it may end so, whatever led to the server
@@ -327,8 +327,8 @@ module _ {S : Type 0} (cut : Bool) (spoke : ℕ → S → List ℕ → List ℕ 
           (subst (λ (z : MemberValue S). IsReason (over z.stream) (IsOpenAt (session_at old k) → ⊥) z.left z.unsent why) (same_member (member_at members k) m may.held e) may.may))
 
   -- without memory it may end at any time
-  pub keeps_lost : (over : S → Cause → Type 0) (members mid members' : List (ℕ × MemberValue S)) (accepted : ℕ) (old between new : ServerValue) (k : ℕ)
-      → MovesOnAt None spoke over k old members between mid → EndsIfAny spoke over ended lost k (Err Memory) between mid new members' → GoesOnTogether cut spoke ended lost members accepted old members' accepted new
+  pub keeps_lost : {most : ℕ} (over : S → Cause → Type 0) (members mid members' : List (ℕ × MemberValue S)) (accepted : ℕ) (old between new : ServerValue) (k : ℕ)
+      → MovesOnAt most None spoke over k old members between mid → EndsIfAny spoke over ended lost k (Err Memory) between mid new members' → GoesOnTogether cut spoke ended lost members accepted old members' accepted new
   keeps_lost over members mid members' accepted old between new k moves ends =
       keeps_further (keeps_moved over members mid accepted old between k moves)
       (keeps_ended_so over (Err Memory) mid members' accepted between new k (λ m e prefix opening history entries stands same. uncut cut (Err Memory) (IsReason (over m.stream) (IsShut prefix k (history ++ entries)) m.left m.unsent (Err Memory)) (inl refl)) ends)

@@ -71,8 +71,8 @@ module _ {N S : Type 0} {places : N → ℕ → Type 0} {all : ℕ} where
   pub placed_told : (events : List Ready) (s : N) (l m : List (ℕ × MemberValue S)) (a : ℕ) → AreMarkedBy events l m → StaysPlaced places all s l a s m a
   placed_told events s l m a told = placed_alike s l m a (λ k none. told.0 k ∙ ap (option_map (marked_by events k)) none) told.1
 
-  pub placed_moved : (end : Option Why) (spoke : ℕ → S → List ℕ → List ℕ → Type 0) (over : S → Cause → Type 0) (k : ℕ) (old new : ServerValue) (s : N) (l m : List (ℕ × MemberValue S)) (a : ℕ)
-      → MovesOnAt end spoke over k old l new m → StaysPlaced places all s l a s m a
+  pub placed_moved : {most : ℕ} (end : Option Why) (spoke : ℕ → S → List ℕ → List ℕ → Type 0) (over : S → Cause → Type 0) (k : ℕ) (old new : ServerValue) (s : N) (l m : List (ℕ × MemberValue S)) (a : ℕ)
+      → MovesOnAt most end spoke over k old l new m → StaysPlaced places all s l a s m a
   placed_moved end spoke over k old new s l m a moves = record {
     on = λ h. record {
       free = h.free;

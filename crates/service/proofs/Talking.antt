@@ -1,8 +1,9 @@
 -- What is read of one connection and sent to it, as the server goes on.
-use Rattle.std.proofs.Common.{◌≡◌, ℕ, inl, inr, Bool, true, false, Option, Some, None, List, [], ◌∷◌, ◌++◌, take, drop, refl, sym, ◌∙◌, ap, subst, append_assoc}
-use Rattle.std.specs.Prelude.{option_map}
+use Rattle.std.proofs.Common.{◌≡◌, ℕ, ◌+◌, ◌<◌, inl, inr, Bool, true, false, Option, Some, None, List, [], ◌∷◌, ◌++◌, take, drop, refl, sym, ◌∙◌, ap, subst, append_assoc, arith}
+use Rattle.std.specs.Prelude.{count_by, option_map}
 use Rattle.std.specs.Option.{unwrap_or}
 use Rattle.std.proofs.lemmas.List.{append-nil, take-append-drop}
+use Rattle.std.proofs.lemmas.List.Sums.{sum_by-append}
 use Rattle.std.specs.Prelude.{Ok, Err}
 use Rattle.http_core.specs.Event.{EventValue}
 use Rattle.http_core.specs.Session.{SessionValue, Closed, Reading}
@@ -22,7 +23,7 @@ use Rattle.service.specs.Sockets.{Cause, Failed, Finished, IsBroken, ReadsFrom, 
 use Rattle.std.specs.declared.io.Error.{Error}
 use Rattle.service.specs.Talks.{entry_number, fault_of_silence, AreOfOthers, Answered, Talks, IsShut, IsReason, HasEnded}
 use Rattle.service.specs.Talks as talks
-use Rattle.service.specs.Member.{MemberValue, unsent_of, TalksOn, MayEndNow, FailsFor, GoesAfter, EndsWell, TalksOnUnless, AreOf, HasMovedOn, MovesOn, Passes, PassesSent, end_of}
+use Rattle.service.specs.Member.{MemberValue, unsent_of, TalksOn, MayEndNow, FailsFor, GoesAfter, EndsWell, TalksOnUnless, AreOf, HasMovedOn, MovesOn, Passes, PassesSent, end_of, is_piece}
 use Rattle.service.specs.declared.turn.Turn.{Turn}
 use Rattle.service.specs.declared.turn.Turn.TheVariants.{Again, Waits, Held, Ends}
 
@@ -142,6 +143,9 @@ both_own : (k : ℕ) (some more : List HistoryEntry) → AreOf k some → AreOf 
 both_own k [] more t os = os
 both_own k (e ∷ some) more (o, ts) os = (o, both_own k some more ts os)
 
+pieces_in : (some more : List HistoryEntry) → count_by is_piece (some ++ more) ≡ count_by is_piece some + count_by is_piece more
+pieces_in some more = sum_by-append _ some more
+
 text_unsent : (answer : Option AnswerValue) → unwrap_or (option_map text_of answer) [] ≡ unsent_of answer 0
 text_unsent None = refl
 text_unsent (Some a) = refl
@@ -223,10 +227,10 @@ may_end opening server k history prefix over left unsent (Ok done) stands same (
 may_end opening server k history prefix over left unsent (Err e) stands same f = f
 
 module _ {S : Type 0} (spoke : ℕ → S → List ℕ → List ℕ → Type 0) (over : S → Cause → Type 0) where
-  abbrev MovesSo : Option Why → ℕ → ServerValue → MemberValue S → ServerValue → MemberValue S → Type 0
-  MovesSo e k old before new after =
+  abbrev MovesSo : ℕ → Option Why → ℕ → ServerValue → MemberValue S → ServerValue → MemberValue S → Type 0
+  MovesSo most e k old before new after =
       (opening : CacheValue) (history entries : List HistoryEntry) → ServerStands opening old (history ++ entries)
-      → TalksOn spoke old.prefix opening history entries k before → HasMovedOn e spoke over old.prefix opening history entries k after new
+      → TalksOn spoke old.prefix opening history entries k before → HasMovedOn most e spoke over old.prefix opening history entries k after new
 
   -- ---- nothing comes to the server
 
@@ -288,16 +292,17 @@ module _ {S : Type 0} (spoke : ℕ → S → List ℕ → List ℕ → Type 0) (
   pub sends_more : (count : ℕ) (before after : MemberValue S) → Stays spoke before.stream after.stream → after.left ≡ before.left → after.unsent ≡ drop count before.unsent → PassesSent None spoke over count before after
   sends_more count before after stays p q = record { left = λ e. p; unsent = λ e. q; stays = stays; fails = tt }
 
-  passes_moves_so : (e : Option Why) (k : ℕ) (server : ServerValue) (before after : MemberValue S) → Passes e spoke over before after → MovesSo e k server before server after
+  passes_moves_so : {most : ℕ} (e : Option Why) (k : ℕ) (server : ServerValue) (before after : MemberValue S) → Passes e spoke over before after → MovesSo most e k server before server after
   passes_moves_so e k server before after p opening history entries stands h = record {
     more = [];
     theirs = tt;
+    few = omega arith;
     stands = subst (λ (z : List HistoryEntry). ServerStands opening server (history ++ z)) (sym (append-nil entries)) stands;
     same = refl;
     holds = subst (λ (z : List HistoryEntry). TalksOnUnless e spoke over server.prefix opening history z k after) (sym (append-nil entries)) (p.on server.prefix opening history entries k h);
   }
 
-  pub passes_moves : (e : Option Why) (k : ℕ) (server : ServerValue) (before after : MemberValue S) → Passes e spoke over before after → MovesOn e spoke over k server before server after
+  pub passes_moves : {most : ℕ} (e : Option Why) (k : ℕ) (server : ServerValue) (before after : MemberValue S) → Passes e spoke over before after → MovesOn most e spoke over k server before server after
   passes_moves e k server before after p = record { on = passes_moves_so e k server before after p }
 
   -- no bytes were read
@@ -322,14 +327,15 @@ module _ {S : Type 0} (spoke : ℕ → S → List ℕ → List ℕ → Type 0) (
   reads_end before after stays left unsent o = record { on = λ prefix opening history entries k h. ends_for prefix opening history entries k before after (Ok tt) stays h (inl (o, left, unsent)) }
 
   -- no more can be answered
-  pub lingers_moves : (e : Option Why) (k : ℕ) (server : ServerValue) (before after : MemberValue S) → EndsWell (over after.stream Shut) e → (IsOpenAt (session_at server k) → ⊥) → Stays spoke before.stream after.stream → after.left ≡ before.left → after.unsent ≡ before.unsent → before.unsent ≡ []
-      → MovesOn e spoke over k server before server after
+  pub lingers_moves : {most : ℕ} (e : Option Why) (k : ℕ) (server : ServerValue) (before after : MemberValue S) → EndsWell (over after.stream Shut) e → (IsOpenAt (session_at server k) → ⊥) → Stays spoke before.stream after.stream → after.left ≡ before.left → after.unsent ≡ before.unsent → before.unsent ≡ []
+      → MovesOn most e spoke over k server before server after
   lingers_moves None k server before after well shut stays p q none = passes_moves None k server before after (stays_passes None before after stays p q tt)
   lingers_moves (Some (Err e)) k server before after well shut stays p q none = absurd well
   lingers_moves (Some (Ok done)) k server before after well shut stays p q none = record {
     on = λ opening history entries stands h. record {
       more = [];
       theirs = tt;
+      few = omega arith;
       stands = subst (λ (z : List HistoryEntry). ServerStands opening server (history ++ z)) (sym (append-nil entries)) stands;
       same = refl;
       holds = subst (λ (z : List HistoryEntry). MayEndNow spoke over server.prefix opening history z k after.stream (Ok done)) (sym (append-nil entries))
@@ -338,49 +344,52 @@ module _ {S : Type 0} (spoke : ℕ → S → List ℕ → List ℕ → Type 0) (
   }
 
   -- without memory, only the stream counts
-  pub moves_end : (k : ℕ) (s t : ServerValue) (l m n : MemberValue S) → n.stream ≡ m.stream → MovesOn None spoke over k s l t m → MovesOn (Some (Err Memory)) spoke over k s l t n
-  moves_end k s t l m n e p = record {
+  pub moves_end : {most : ℕ} (k : ℕ) (s t : ServerValue) (l m n : MemberValue S) → n.stream ≡ m.stream → MovesOn most None spoke over k s l t m → MovesOn most (Some (Err Memory)) spoke over k s l t n
+  moves_end {most} k s t l m n e p = record {
     on = λ opening history entries stands h.
-        let x : HasMovedOn None spoke over s.prefix opening history entries k m t = p.on opening history entries stands h in
+        let x : HasMovedOn most None spoke over s.prefix opening history entries k m t = p.on opening history entries stands h in
         record {
           more = x.more;
           theirs = x.theirs;
+          few = x.few;
           stands = x.stands;
           same = x.same;
           holds = subst (λ (z : S). MayEndNow spoke over s.prefix opening history (entries ++ x.more) k z (Err Memory)) (sym e) (leaves s.prefix opening history spoke over (entries ++ x.more) k m (Err Memory) x.holds (inl refl));
         };
   }
 
-  pub moves_from : (e : Option Why) (k : ℕ) (s t : ServerValue) (l l' n : MemberValue S) → l' ≡ l → MovesOn e spoke over k s l' t n → MovesOn e spoke over k s l t n
-  moves_from e k s t l l' n q p = subst (λ (z : MemberValue S). MovesOn e spoke over k s z t n) q p
+  pub moves_from : {most : ℕ} (e : Option Why) (k : ℕ) (s t : ServerValue) (l l' n : MemberValue S) → l' ≡ l → MovesOn most e spoke over k s l' t n → MovesOn most e spoke over k s l t n
+  moves_from {most} e k s t l l' n q p = subst (λ (z : MemberValue S). MovesOn most e spoke over k s z t n) q p
 
-  pub stays_moves : (e : Option Why) (k : ℕ) (server : ServerValue) (before after : MemberValue S) → Stays spoke before.stream after.stream → after.left ≡ before.left → after.unsent ≡ before.unsent → FailsFor (λ e. over after.stream (Failed e)) e
-      → MovesOn e spoke over k server before server after
+  pub stays_moves : {most : ℕ} (e : Option Why) (k : ℕ) (server : ServerValue) (before after : MemberValue S) → Stays spoke before.stream after.stream → after.left ≡ before.left → after.unsent ≡ before.unsent → FailsFor (λ e. over after.stream (Failed e)) e
+      → MovesOn most e spoke over k server before server after
   stays_moves e k server before after stays p q f = passes_moves e k server before after (stays_passes e before after stays p q f)
 
   -- some is read, and some of it comes to the server
-  pub reads_moves : (e : Option Why) (k : ℕ) (s t : ServerValue) (l m n : MemberValue S) → Passes None spoke over l m → MovesOn e spoke over k s m t n → MovesOn e spoke over k s l t n
+  pub reads_moves : {most : ℕ} (e : Option Why) (k : ℕ) (s t : ServerValue) (l m n : MemberValue S) → Passes None spoke over l m → MovesOn most e spoke over k s m t n → MovesOn most e spoke over k s l t n
   reads_moves e k s t l m n p q = record { on = λ opening history entries stands h. q.on opening history entries stands (p.on s.prefix opening history entries k h) }
 
-  pub moves_nowhere : (k : ℕ) (server : ServerValue) (m : MemberValue S) → MovesOn None spoke over k server m server m
+  pub moves_nowhere : {most : ℕ} (k : ℕ) (server : ServerValue) (m : MemberValue S) → MovesOn most None spoke over k server m server m
   moves_nowhere k server m = passes_moves None k server m m (nothing_passes m)
 
-  moves_further_so : (e : Option Why) (k : ℕ) (s t u : ServerValue) (l m n : MemberValue S) → MovesOn None spoke over k s l t m → MovesOn e spoke over k t m u n → MovesSo e k s l u n
-  moves_further_so e k s t u l m n p q opening history entries stands h =
-      let x : HasMovedOn None spoke over s.prefix opening history entries k m t = p.on opening history entries stands h in
-      let y : HasMovedOn e spoke over t.prefix opening history (entries ++ x.more) k n u =
+  moves_further_so : {count most : ℕ} (e : Option Why) (k : ℕ) (s t u : ServerValue) (l m n : MemberValue S) → count < most → MovesOn count None spoke over k s l t m → MovesOn 1 e spoke over k t m u n → MovesSo most e k s l u n
+  moves_further_so {count} {most} e k s t u l m n c p q opening history entries stands h =
+      let x : HasMovedOn count None spoke over s.prefix opening history entries k m t = p.on opening history entries stands h in
+      let y : HasMovedOn 1 e spoke over t.prefix opening history (entries ++ x.more) k n u =
       q.on opening history (entries ++ x.more) x.stands (subst (λ (z : List ℕ). TalksOn spoke z opening history (entries ++ x.more) k m) (sym x.same) x.holds) in
       record {
         more = x.more ++ y.more;
         theirs = both_own k x.more y.more x.theirs y.theirs;
+        few = let few = x.few in let one = y.few in let all = pieces_in x.more y.more in omega (arith, c, few, one, all);
         stands = subst (λ (z : List HistoryEntry). ServerStands opening u (history ++ z)) (append_assoc entries x.more y.more) y.stands;
         same = y.same ∙ x.same;
         holds = subst (λ (z : List HistoryEntry). TalksOnUnless e spoke over s.prefix opening history z k n) (append_assoc entries x.more y.more)
             (subst (λ (z : List ℕ). TalksOnUnless e spoke over z opening history ((entries ++ x.more) ++ y.more) k n) x.same y.holds);
       }
 
-  pub moves_further : (e : Option Why) (k : ℕ) (s t u : ServerValue) (l m n : MemberValue S) → MovesOn None spoke over k s l t m → MovesOn e spoke over k t m u n → MovesOn e spoke over k s l u n
-  moves_further e k s t u l m n p q = record { on = moves_further_so e k s t u l m n p q }
+  -- one step more
+  pub moves_further : {count most : ℕ} (e : Option Why) (k : ℕ) (s t u : ServerValue) (l m n : MemberValue S) → count < most → MovesOn count None spoke over k s l t m → MovesOn 1 e spoke over k t m u n → MovesOn most e spoke over k s l u n
+  moves_further e k s t u l m n c p q = record { on = moves_further_so e k s t u l m n c p q }
 
   -- ---- some of what is left comes to the server
 
@@ -389,7 +398,7 @@ module _ {S : Type 0} (spoke : ℕ → S → List ℕ → List ℕ → Type 0) (
       → new.prefix ≡ old.prefix
       → ((opening : CacheValue) (history : List HistoryEntry) → ServerStands opening old history → IsOneAnswerTo old.prefix opening history (Piece k (take taken piece)) (unwrap_or (option_map text_of answer) []))
       → ((opening : CacheValue) (history : List HistoryEntry) → ServerStands opening old history → ServerStands opening new (history ++ Piece k (take taken piece) ∷ []))
-      → MovesSo None k old before new after
+      → MovesSo 1 None k old before new after
   next_moves_so k old new before after piece taken answer still p q r s u same answers goes opening history entries stands h =
       let t : Talks old.prefix opening history entries k h.read h.sent before.left before.unsent = h.talks in
       let bytes : List ℕ = take taken piece in
@@ -397,6 +406,7 @@ module _ {S : Type 0} (spoke : ℕ → S → List ℕ → List ℕ → Type 0) (
       record {
         more = Piece k bytes ∷ [];
         theirs = (refl, tt);
+        few = omega arith;
         stands = subst (λ (z : List HistoryEntry). ServerStands opening new z) (append_assoc history entries (Piece k bytes ∷ [])) (goes opening (history ++ entries) stands);
         same = same;
         holds = record {
@@ -420,19 +430,20 @@ module _ {S : Type 0} (spoke : ℕ → S → List ℕ → List ℕ → Type 0) (
       → new.prefix ≡ old.prefix
       → ((opening : CacheValue) (history : List HistoryEntry) → ServerStands opening old history → IsOneAnswerTo old.prefix opening history (Piece k (take taken piece)) (unwrap_or (option_map text_of answer) []))
       → ((opening : CacheValue) (history : List HistoryEntry) → ServerStands opening old history → ServerStands opening new (history ++ Piece k (take taken piece) ∷ []))
-      → MovesOn None spoke over k old before new after
+      → MovesOn 1 None spoke over k old before new after
   next_moves k old new before after piece taken answer still p q r s u same answers goes = record { on = next_moves_so k old new before after piece taken answer still p q r s u same answers goes }
 
   next_fails_so : (k : ℕ) (old new : ServerValue) (before after : MemberValue S) (piece : List ℕ)
       → IsOpenAt (session_at old k) → before.left ≡ piece → after.stream ≡ before.stream → new.prefix ≡ old.prefix
       → ((opening : CacheValue) (history : List HistoryEntry) → ServerStands opening old history → StandsOrFails opening old k piece new history)
-      → MovesSo (Some (Err Memory)) k old before new after
+      → MovesSo 1 (Some (Err Memory)) k old before new after
   next_fails_so k old new before after piece still p r same fails opening history entries stands h = by_end (fails opening (history ++ entries) stands)
     where
-      by_end : StandsOrFails opening old k piece new (history ++ entries) → HasMovedOn (Some (Err Memory)) spoke over old.prefix opening history entries k after new
+      by_end : StandsOrFails opening old k piece new (history ++ entries) → HasMovedOn 1 (Some (Err Memory)) spoke over old.prefix opening history entries k after new
       by_end (inl (none, still, s)) = record {
         more = [];
         theirs = tt;
+        few = omega arith;
         stands = subst (λ (z : List HistoryEntry). ServerStands opening new (history ++ z)) (sym (append-nil entries)) s;
         same = same;
         holds = record {
@@ -450,6 +461,7 @@ module _ {S : Type 0} (spoke : ℕ → S → List ℕ → List ℕ → Type 0) (
           record {
             more = Piece k front ∷ Fail k ∷ [];
             theirs = (refl, (refl, tt));
+            few = omega arith;
             stands = subst (λ (z : List HistoryEntry). ServerStands opening new z) (append_assoc history entries (Piece k front ∷ Fail k ∷ [])) s;
             same = same;
             holds = record {
@@ -473,5 +485,5 @@ module _ {S : Type 0} (spoke : ℕ → S → List ℕ → List ℕ → Type 0) (
   pub next_fails : (k : ℕ) (old new : ServerValue) (before after : MemberValue S) (piece : List ℕ)
       → IsOpenAt (session_at old k) → before.left ≡ piece → after.stream ≡ before.stream → new.prefix ≡ old.prefix
       → ((opening : CacheValue) (history : List HistoryEntry) → ServerStands opening old history → StandsOrFails opening old k piece new history)
-      → MovesOn (Some (Err Memory)) spoke over k old before new after
+      → MovesOn 1 (Some (Err Memory)) spoke over k old before new after
   next_fails k old new before after piece still p r same fails = record { on = next_fails_so k old new before after piece still p r same fails }

@@ -1,6 +1,6 @@
 -- An open connection, one of many.
 use Rattle.std.specs.Prelude.{◌≡◌, ◌⊎◌, ℕ, ◌+◌, ◌-◌, ◌<◌, ◌≤◌, min, ⊤, Bool, true, false, List, []}
-use Rattle.std.specs.Prelude.{◌++◌, ◌==◌, ◌||◌, ◌/◌, length, nat_lt, if◌then◌else◌}
+use Rattle.std.specs.Prelude.{◌++◌, ◌==◌, ◌||◌, ◌/◌, count_by, length, nat_lt, if◌then◌else◌}
 use Rattle.std.specs.Prelude.{◌∷◌, drop, Option, Some, None, IsSome, option_map, Result, Ok, Err}
 use Rattle.std.specs.Option.{option_map_or, unwrap_or}
 use Rattle.std.specs.List.{AllByRecursion}
@@ -11,7 +11,7 @@ use Rattle.std.specs.declared.time.Duration.{Duration}
 use Rattle.std.specs.declared.io.ErrorKind.TheVariants.{Interrupted, OutOfMemory, WouldBlock}
 use Rattle.cache_server.specs.Answer.{AnswerValue, text_of}
 use Rattle.cache_server.specs.Cache.{CacheValue}
-use Rattle.cache_server.specs.History.{HistoryEntry}
+use Rattle.cache_server.specs.History.{HistoryEntry, Piece}
 use Rattle.cache_server.specs.Server.{ServerValue, ServerStands, held_bytes_at, session_at}
 use Rattle.service.specs.Sockets.{Cause, Failed, IsBroken, Stays, Why}
 use Rattle.cache_server.specs.declared.error.ConnError.{ConnError}
@@ -266,28 +266,35 @@ TalksOnUnless (Some why) spoke over prefix opening history entries k m =
 abbrev pub AreOf : ℕ → List HistoryEntry → Type 0
 AreOf k entries = AllByRecursion (λ entry. entry_number entry ≡ k) entries
 
--- entries of the connection alone led to the server, and it goes on, or ends
+-- some came over a connection: a request, or a part of one
+abbrev pub is_piece : HistoryEntry → Bool
+is_piece (Piece k bytes) = true
+is_piece other = false
+
+-- entries of the connection alone led to the server, of which so many at most are pieces, and it
+-- goes on, or ends
 pub record HasMovedOn
-    {S : Type 0} (end : Option Why)
+    {S : Type 0} (most : ℕ) (end : Option Why)
     (spoke : ℕ → S → List ℕ → List ℕ → Type 0) (over : S → Cause → Type 0) (prefix : List ℕ)
     (opening : CacheValue) (history entries : List HistoryEntry) (k : ℕ) (m : MemberValue S)
     (server : ServerValue) : Type 0 where
   pub more : List HistoryEntry
   pub theirs : AreOf k more
+  pub few : count_by is_piece more ≤ most
   pub stands : ServerStands opening server (history ++ (entries ++ more))
   pub same : server.prefix ≡ prefix
   pub holds : TalksOnUnless end spoke over prefix opening history (entries ++ more) k m
 
 -- so it is whatever history had led to the server
 pub record MovesOn
-    {S : Type 0} (end : Option Why)
+    {S : Type 0} (most : ℕ) (end : Option Why)
     (spoke : ℕ → S → List ℕ → List ℕ → Type 0) (over : S → Cause → Type 0) (k : ℕ)
     (old : ServerValue) (before : MemberValue S) (new : ServerValue) (after : MemberValue S)
     : Type 0 where
   pub on : (opening : CacheValue) (history entries : List HistoryEntry)
       → ServerStands opening old (history ++ entries)
       → TalksOn spoke old.prefix opening history entries k before
-      → HasMovedOn end spoke over old.prefix opening history entries k after new
+      → HasMovedOn most end spoke over old.prefix opening history entries k after new
 
 -- some was read or sent, and nothing came to the server
 pub record Passes

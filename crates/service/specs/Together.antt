@@ -116,9 +116,9 @@ abbrev pub OthersAreSame :
     {S : Type 0} → ℕ → List (ℕ × MemberValue S) → List (ℕ × MemberValue S) → Type 0
 OthersAreSame k old new = (j : ℕ) → (j ≡ k → ⊥) → member_at new j ≡ member_at old j
 
--- the connection with the number has moved on
+-- the connection with the number has moved on, by so many pieces at most
 pub record MovesOnAt
-    {S : Type 0} (end : Option Why)
+    {S : Type 0} (most : ℕ) (end : Option Why)
     (spoke : ℕ → S → List ℕ → List ℕ → Type 0) (over : S → Cause → Type 0) (k : ℕ)
     (old : ServerValue) (members : List (ℕ × MemberValue S))
     (new : ServerValue) (members' : List (ℕ × MemberValue S)) : Type 0 where
@@ -128,7 +128,7 @@ pub record MovesOnAt
   pub at : member_at members' k ≡ Some after
   pub others : OthersAreSame k members members'
   pub many : length members' ≡ length members
-  pub moves : MovesOn end spoke over k old before new after
+  pub moves : MovesOn most end spoke over k old before new after
 
 -- a new connection, at this time, which is queued for a turn
 pub record EntersAt

@@ -93,8 +93,8 @@ impl<S: Peer + Drop> Together<S> {
         number: u64,
         now: u64,
     ) -> Option<(Turn, bool)>
-        ensures some { IfSome result (λ out. MovesOnAt (end_of out.0) S.spoke S.over number
-            server.old self.old.members.entries server.new self.new.members.entries) }
+        ensures some { IfSome result (λ out. MovesOnAt 16 (end_of out.0) S.spoke S.over
+            number server.old self.old.members.entries server.new self.new.members.entries) }
         ensures wake { IfSome result (λ _. IfSome (member_at self.new.members.entries number) (λ m.
             self.new.wake
             ≡ min self.old.wake (unwrap_or (deadline_at m self.old.idle) u64.MAX))) }
