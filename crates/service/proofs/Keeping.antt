@@ -13,7 +13,7 @@ use Rattle.service.specs.Sockets.{Cause, EndsAs, Failed, Finished, Shut, Silent,
 use Rattle.service.specs.Talks.{entry_number, AreOfOthers, IsShut, IsReason, OrCutOff, HasEnded, AreBelow, ServesEach}
 use Rattle.service.specs.Talks as talks
 use Rattle.service.specs.Member.{MemberValue, TalksOn, MayEndNow, AreOf, HasMovedOn, IsLetGo, in_queue, marked_by, new_member, roused, tells_of}
-use Rattle.service.specs.Together.{member_at, TalksOrEnded, KeepsTogether, GoesOnTogether, AreSame, AreSameButHeld, AreMarkedBy, OthersAreSame, MovesOnAt, MayEndAt, EntersAt, EndsAt, EndsIfAny}
+use Rattle.service.specs.Together.{member_at, TalksOrEnded, KeepsTogether, GoesOnTogether, AreSame, AreSameButHeld, AreMarkedBy, OthersAreSame, MovesOnAt, MayEndAt, EntersAt, EndsAt, EndsIfAny, Members}
 use Rattle.service.specs.declared.sockets.Ready.{Ready}
 use Rattle.service.proofs.Talking.{apart_from_own, holds_apart, ended_before, answered_apart, may_end, talks_as}
 
@@ -78,7 +78,7 @@ told_alike : {S : Type 0} (spoke : ℕ → S → List ℕ → List ℕ → Type 
 told_alike spoke events k o p told = subst (λ q. Alike spoke o q) (sym told) (all_marked_alike spoke events k o)
 
 -- one of them is queued for a turn
-pub queued_alike : {S : Type 0} (spoke : ℕ → S → List ℕ → List ℕ → Type 0) (k : ℕ) (l m : List (ℕ × MemberValue S)) → member_at m k ≡ option_map in_queue (member_at l k) → OthersAreSame k l m → (j : ℕ) → Alike spoke (member_at l j) (member_at m j)
+pub queued_alike : {S : Type 0} (spoke : ℕ → S → List ℕ → List ℕ → Type 0) (k : ℕ) (l m : Members S) → member_at m k ≡ option_map in_queue (member_at l k) → OthersAreSame k l m → (j : ℕ) → Alike spoke (member_at l j) (member_at m j)
 queued_alike {S} spoke k l m at others j = by_test (eqb_tells j k)
   where
     own : (o : Option (MemberValue S)) → Alike spoke o (option_map in_queue o)
@@ -107,20 +107,20 @@ lost_may true over shut lost left unsent why f (inl h) = inl (lost_reason over s
 lost_may true over shut lost left unsent why f (inr told) = inr told
 lost_may false over shut lost left unsent why f h = lost_reason over shut lost left unsent why f h
 
-pub keeps_further : {S : Type 0} {cut : Bool} {spoke : ℕ → S → List ℕ → List ℕ → Type 0} {ended : ℕ → List ℕ → List ℕ → Why → Type 0} {lost : ℕ → Cause → Type 0} {l m n : List (ℕ × MemberValue S)} {a b c : ℕ} {s t u : ServerValue}
+pub keeps_further : {S : Type 0} {cut : Bool} {spoke : ℕ → S → List ℕ → List ℕ → Type 0} {ended : ℕ → List ℕ → List ℕ → Why → Type 0} {lost : ℕ → Cause → Type 0} {l m n : Members S} {a b c : ℕ} {s t u : ServerValue}
     → GoesOnTogether cut spoke ended lost l a s m b t → GoesOnTogether cut spoke ended lost m b t n c u → GoesOnTogether cut spoke ended lost l a s n c u
 keeps_further p q = record { on = λ prefix opening history keeps. q.on prefix opening history (p.on prefix opening history keeps) }
 
 module _ {S : Type 0} (cut : Bool) (spoke : ℕ → S → List ℕ → List ℕ → Type 0) (ended : ℕ → List ℕ → List ℕ → Why → Type 0) (lost : ℕ → Cause → Type 0) where
-  abbrev KeepsSo : List (ℕ × MemberValue S) → ℕ → ServerValue → List (ℕ × MemberValue S) → ℕ → ServerValue → Type 0
+  abbrev KeepsSo : Members S → ℕ → ServerValue → Members S → ℕ → ServerValue → Type 0
   KeepsSo members accepted server members' accepted' server' =
       (prefix : List ℕ) (opening : CacheValue) (history : List HistoryEntry)
       → KeepsTogether cut spoke ended lost prefix opening history members accepted server → KeepsTogether cut spoke ended lost prefix opening history members' accepted' server'
 
-  pub keeps_nowhere : (members : List (ℕ × MemberValue S)) (accepted : ℕ) (server : ServerValue) → GoesOnTogether cut spoke ended lost members accepted server members accepted server
+  pub keeps_nowhere : (members : Members S) (accepted : ℕ) (server : ServerValue) → GoesOnTogether cut spoke ended lost members accepted server members accepted server
   keeps_nowhere members accepted server = record { on = λ prefix opening history keeps. keeps }
 
-  keeps_same_so : (members members' : List (ℕ × MemberValue S)) (accepted : ℕ) (server : ServerValue) → AreSame members members' → KeepsSo members accepted server members' accepted server
+  keeps_same_so : (members members' : Members S) (accepted : ℕ) (server : ServerValue) → AreSame members members' → KeepsSo members accepted server members' accepted server
   keeps_same_so members members' accepted server same prefix opening history keeps = record {
     entries = keeps.entries;
     stands = keeps.stands;
@@ -142,7 +142,7 @@ module _ {S : Type 0} (cut : Bool) (spoke : ℕ → S → List ℕ → List ℕ 
     talks = talks_as prefix opening history entries k h.read h.sent m.left m.unsent n.left n.unsent left unsent h.talks;
   }
 
-  keeps_alike : (members members' : List (ℕ × MemberValue S)) (accepted : ℕ) (server : ServerValue) → ((k : ℕ) → Alike spoke (member_at members k) (member_at members' k)) → GoesOnTogether cut spoke ended lost members accepted server members' accepted server
+  keeps_alike : (members members' : Members S) (accepted : ℕ) (server : ServerValue) → ((k : ℕ) → Alike spoke (member_at members k) (member_at members' k)) → GoesOnTogether cut spoke ended lost members accepted server members' accepted server
   keeps_alike members members' accepted server alike = record {
     on = λ prefix opening history keeps. record {
       entries = keeps.entries;
@@ -155,22 +155,22 @@ module _ {S : Type 0} (cut : Bool) (spoke : ℕ → S → List ℕ → List ℕ 
   }
 
   -- which of them wait for others makes no difference
-  pub keeps_but_held : (now : ℕ) (members members' : List (ℕ × MemberValue S)) (accepted : ℕ) (server : ServerValue) → AreSameButHeld spoke now members members' → GoesOnTogether cut spoke ended lost members accepted server members' accepted server
+  pub keeps_but_held : (now : ℕ) (members members' : Members S) (accepted : ℕ) (server : ServerValue) → AreSameButHeld spoke now members members' → GoesOnTogether cut spoke ended lost members accepted server members' accepted server
   keeps_but_held now members members' accepted server same = keeps_alike members members' accepted server (λ k. held_alike spoke now (member_at members k) (member_at members' k) (same.0 k))
 
   -- nor does who is queued
-  pub keeps_queued : (k : ℕ) (members members' : List (ℕ × MemberValue S)) (accepted : ℕ) (server : ServerValue) → member_at members' k ≡ option_map in_queue (member_at members k) → OthersAreSame k members members' → GoesOnTogether cut spoke ended lost members accepted server members' accepted server
+  pub keeps_queued : (k : ℕ) (members members' : Members S) (accepted : ℕ) (server : ServerValue) → member_at members' k ≡ option_map in_queue (member_at members k) → OthersAreSame k members members' → GoesOnTogether cut spoke ended lost members accepted server members' accepted server
   keeps_queued k members members' accepted server at others = keeps_alike members members' accepted server (queued_alike spoke k members members' at others)
 
   -- nor does what the system tells
-  pub keeps_told : (events : List Ready) (members members' : List (ℕ × MemberValue S)) (accepted : ℕ) (server : ServerValue) → AreMarkedBy events members members' → GoesOnTogether cut spoke ended lost members accepted server members' accepted server
+  pub keeps_told : (events : List Ready) (members members' : Members S) (accepted : ℕ) (server : ServerValue) → AreMarkedBy events members members' → GoesOnTogether cut spoke ended lost members accepted server members' accepted server
   keeps_told events members members' accepted server told = keeps_alike members members' accepted server (λ k. told_alike spoke events k (member_at members k) (member_at members' k) (told.0 k))
 
-  pub keeps_same : (members members' : List (ℕ × MemberValue S)) (accepted : ℕ) (server : ServerValue) → AreSame members members' → GoesOnTogether cut spoke ended lost members accepted server members' accepted server
+  pub keeps_same : (members members' : Members S) (accepted : ℕ) (server : ServerValue) → AreSame members members' → GoesOnTogether cut spoke ended lost members accepted server members' accepted server
   keeps_same members members' accepted server same = record { on = keeps_same_so members members' accepted server same }
 
   module _ (prefix : List ℕ) (opening : CacheValue) (history : List HistoryEntry) where
-    is_open : (members : List (ℕ × MemberValue S)) (accepted : ℕ) (server : ServerValue) (k : ℕ) (m : MemberValue S)
+    is_open : (members : Members S) (accepted : ℕ) (server : ServerValue) (k : ℕ) (m : MemberValue S)
         → KeepsTogether cut spoke ended lost prefix opening history members accepted server → member_at members k ≡ Some m → k < accepted
     is_open members accepted server k m keeps e = by_order (cases_lt k accepted)
       where
@@ -178,7 +178,7 @@ module _ {S : Type 0} (cut : Bool) (spoke : ℕ → S → List ℕ → List ℕ 
         by_order (inl h) = h
         by_order (inr h) = none_is_some (member_at members k) m e (keeps.fresh k h)
 
-    holds_at : (members : List (ℕ × MemberValue S)) (accepted : ℕ) (server : ServerValue) (k : ℕ) (m : MemberValue S)
+    holds_at : (members : Members S) (accepted : ℕ) (server : ServerValue) (k : ℕ) (m : MemberValue S)
         → (keeps : KeepsTogether cut spoke ended lost prefix opening history members accepted server) → member_at members k ≡ Some m → TalksOn spoke prefix opening history keeps.entries k m
     holds_at members accepted server k m keeps e =
         subst (TalksOrEnded cut spoke ended lost prefix opening history keeps.entries k) e (keeps.each k (is_open members accepted server k m keeps e))
@@ -189,7 +189,7 @@ module _ {S : Type 0} (cut : Bool) (spoke : ℕ → S → List ℕ → List ℕ 
     either_apart j (Some m) more entries ns h = holds_apart prefix opening history spoke j more entries m ns h
 
     -- entries of an open connection alone, after which it stands so
-    keeps_with : (members members' : List (ℕ × MemberValue S)) (accepted : ℕ) (old new : ServerValue) (k : ℕ) (more : List HistoryEntry)
+    keeps_with : (members members' : Members S) (accepted : ℕ) (old new : ServerValue) (k : ℕ) (more : List HistoryEntry)
         → (keeps : KeepsTogether cut spoke ended lost prefix opening history members accepted old)
         → k < accepted → AreOf k more → OthersAreSame k members members'
         → ServerStands opening new (history ++ (keeps.entries ++ more)) → new.prefix ≡ prefix
@@ -211,15 +211,15 @@ module _ {S : Type 0} (cut : Bool) (spoke : ℕ → S → List ℕ → List ℕ 
             subst (TalksOrEnded cut spoke ended lost prefix opening history (keeps.entries ++ more) j) (sym (others j n))
             (either_apart j (member_at members j) more keeps.entries (apart_from_own k j more n own) (keeps.each j below))
 
-    moved_at : {most : ℕ} (over : S → Cause → Type 0) (b : Option Why) (members members' : List (ℕ × MemberValue S)) (accepted : ℕ) (old new : ServerValue) (k : ℕ)
-        → (moves : MovesOnAt most b spoke over k old members new members') → (keeps : KeepsTogether cut spoke ended lost prefix opening history members accepted old)
-        → HasMovedOn most b spoke over prefix opening history keeps.entries k moves.after new
+    moved_at : {most : ℕ} (over : S → Cause → Type 0) (b : Option Why) (members members' : Members S) (accepted : ℕ) (old new : ServerValue) (k : ℕ)
+        → (moves : MovesOnAt spoke over most b k old members new members') → (keeps : KeepsTogether cut spoke ended lost prefix opening history members accepted old)
+        → HasMovedOn spoke over most b prefix opening history keeps.entries k moves.after new
     moved_at {most} over b members members' accepted old new k moves keeps =
-        subst (λ (z : List ℕ). HasMovedOn most b spoke over z opening history keeps.entries k moves.after new) keeps.same
+        subst (λ (z : List ℕ). HasMovedOn spoke over most b z opening history keeps.entries k moves.after new) keeps.same
         (moves.moves.on opening history keeps.entries keeps.stands
         (subst (λ (z : List ℕ). TalksOn spoke z opening history keeps.entries k moves.before) (sym keeps.same) (holds_at members accepted old k moves.before keeps moves.held)))
 
-    has_ended : (over : S → Cause → Type 0) (entries : List HistoryEntry) (k : ℕ) (stream : S) (why : Why) → EndsAs spoke over stream why ended lost → MayEndNow spoke over prefix opening history entries k stream why
+    has_ended : (over : S → Cause → Type 0) (entries : List HistoryEntry) (k : ℕ) (stream : S) (why : Why) → EndsAs spoke over stream why ended lost → MayEndNow spoke prefix opening history entries k over stream why
         → HasEnded cut ended lost prefix opening history (entries ++ End k ∷ []) k
     has_ended over entries k stream why ends l = record {
       before = entries;
@@ -237,24 +237,24 @@ module _ {S : Type 0} (cut : Bool) (spoke : ℕ → S → List ℕ → List ℕ 
           (uncut cut why (IsReason (over stream) (IsShut prefix k (history ++ entries)) l.left l.unsent why) l.may);
     }
 
-  keeps_moved_so : {most : ℕ} (over : S → Cause → Type 0) (members members' : List (ℕ × MemberValue S)) (accepted : ℕ) (old new : ServerValue) (k : ℕ)
-      → MovesOnAt most None spoke over k old members new members' → KeepsSo members accepted old members' accepted new
+  keeps_moved_so : {most : ℕ} (over : S → Cause → Type 0) (members members' : Members S) (accepted : ℕ) (old new : ServerValue) (k : ℕ)
+      → MovesOnAt spoke over most None k old members new members' → KeepsSo members accepted old members' accepted new
   keeps_moved_so {most} over members members' accepted old new k moves prefix opening history keeps =
-      let x : HasMovedOn most None spoke over prefix opening history keeps.entries k moves.after new = moved_at prefix opening history over None members members' accepted old new k moves keeps in
+      let x : HasMovedOn spoke over most None prefix opening history keeps.entries k moves.after new = moved_at prefix opening history over None members members' accepted old new k moves keeps in
       keeps_with prefix opening history members members' accepted old new k x.more keeps
       (is_open prefix opening history members accepted old k moves.before keeps moves.held) x.theirs moves.others x.stands x.same
       (subst (TalksOrEnded cut spoke ended lost prefix opening history (keeps.entries ++ x.more) k) (sym moves.at) x.holds)
 
-  pub keeps_moved : {most : ℕ} (over : S → Cause → Type 0) (members members' : List (ℕ × MemberValue S)) (accepted : ℕ) (old new : ServerValue) (k : ℕ)
-      → MovesOnAt most None spoke over k old members new members' → GoesOnTogether cut spoke ended lost members accepted old members' accepted new
+  pub keeps_moved : {most : ℕ} (over : S → Cause → Type 0) (members members' : Members S) (accepted : ℕ) (old new : ServerValue) (k : ℕ)
+      → MovesOnAt spoke over most None k old members new members' → GoesOnTogether cut spoke ended lost members accepted old members' accepted new
   keeps_moved over members members' accepted old new k moves = record { on = keeps_moved_so over members members' accepted old new k moves }
 
   -- it moved on, and was ended then
-  left_so : {most : ℕ} (over : S → Cause → Type 0) (why : Why) (members mid members' : List (ℕ × MemberValue S)) (accepted : ℕ) (old between new : ServerValue) (k : ℕ)
-      → MovesOnAt most (Some why) spoke over k old members between mid → EndsIfAny spoke over ended lost k why between mid new members' → KeepsSo members accepted old members' accepted new
+  left_so : {most : ℕ} (over : S → Cause → Type 0) (why : Why) (members mid members' : Members S) (accepted : ℕ) (old between new : ServerValue) (k : ℕ)
+      → MovesOnAt spoke over most (Some why) k old members between mid → EndsIfAny spoke over ended lost k why between mid new members' → KeepsSo members accepted old members' accepted new
   left_so {most} over why members mid members' accepted old between new k moves (inr (none, same, all)) prefix opening history keeps = none_is_some (member_at mid k) moves.after moves.at none
   left_so {most} over why members mid members' accepted old between new k moves (inl ends) prefix opening history keeps =
-      let x : HasMovedOn most (Some why) spoke over prefix opening history keeps.entries k moves.after between = moved_at prefix opening history over (Some why) members mid accepted old between k moves keeps in
+      let x : HasMovedOn spoke over most (Some why) prefix opening history keeps.entries k moves.after between = moved_at prefix opening history over (Some why) members mid accepted old between k moves keeps in
       keeps_with prefix opening history members members' accepted old new k (x.more ++ End k ∷ []) keeps
       (is_open prefix opening history members accepted old k moves.before keeps moves.held) (own_end x.more x.theirs)
       (λ j n. ends.others j n ∙ moves.others j n)
@@ -263,7 +263,7 @@ module _ {S : Type 0} (cut : Bool) (spoke : ℕ → S → List ℕ → List ℕ 
       (subst (TalksOrEnded cut spoke ended lost prefix opening history (keeps.entries ++ (x.more ++ End k ∷ [])) k) (sym ends.gone)
       (subst (λ (z : List HistoryEntry). HasEnded cut ended lost prefix opening history z k) (append_assoc keeps.entries x.more (End k ∷ []))
       (has_ended prefix opening history over (keeps.entries ++ x.more) k ends.m.stream why ends.ends
-      (subst (λ (z : MemberValue S). MayEndNow spoke over prefix opening history (keeps.entries ++ x.more) k z.stream why) (same_member (member_at mid k) moves.at ends.held) x.holds))))
+      (subst (λ (z : MemberValue S). MayEndNow spoke prefix opening history (keeps.entries ++ x.more) k over z.stream why) (same_member (member_at mid k) moves.at ends.held) x.holds))))
     where
       own_end : (more : List HistoryEntry) → AreOf k more → AreOf k (more ++ End k ∷ [])
       own_end [] t = (refl, tt)
@@ -272,8 +272,8 @@ module _ {S : Type 0} (cut : Bool) (spoke : ℕ → S → List ℕ → List ℕ 
       same_member : (o : Option (MemberValue S)) → o ≡ Some moves.after → o ≡ Some ends.m → moves.after ≡ ends.m
       same_member o p q = cc
 
-  pub keeps_left : {most : ℕ} (over : S → Cause → Type 0) (why : Why) (members mid members' : List (ℕ × MemberValue S)) (accepted : ℕ) (old between new : ServerValue) (k : ℕ)
-      → MovesOnAt most (Some why) spoke over k old members between mid → EndsIfAny spoke over ended lost k why between mid new members' → GoesOnTogether cut spoke ended lost members accepted old members' accepted new
+  pub keeps_left : {most : ℕ} (over : S → Cause → Type 0) (why : Why) (members mid members' : Members S) (accepted : ℕ) (old between new : ServerValue) (k : ℕ)
+      → MovesOnAt spoke over most (Some why) k old members between mid → EndsIfAny spoke over ended lost k why between mid new members' → GoesOnTogether cut spoke ended lost members accepted old members' accepted new
   keeps_left over why members mid members' accepted old between new k moves ends = record { on = left_so over why members mid members' accepted old between new k moves ends }
 
   -- it may end so, whatever led to the server
@@ -282,7 +282,7 @@ module _ {S : Type 0} (cut : Bool) (spoke : ℕ → S → List ℕ → List ℕ 
       (prefix : List ℕ) (opening : CacheValue) (history entries : List HistoryEntry) → ServerStands opening server (history ++ entries) → server.prefix ≡ prefix
       → OrCutOff cut why (IsReason (over m.stream) (IsShut prefix k (history ++ entries)) m.left m.unsent why)
 
-  ended_so : (over : S → Cause → Type 0) (why : Why) (members members' : List (ℕ × MemberValue S)) (accepted : ℕ) (old new : ServerValue) (k : ℕ)
+  ended_so : (over : S → Cause → Type 0) (why : Why) (members members' : Members S) (accepted : ℕ) (old new : ServerValue) (k : ℕ)
       → (ends : EndsAt spoke over ended lost k why old members new members') → MayEndSo over k old ends.m why → KeepsSo members accepted old members' accepted new
   ended_so over why members members' accepted old new k ends may prefix opening history keeps =
       let h : TalksOn spoke prefix opening history keeps.entries k ends.m = holds_at prefix opening history members accepted old k ends.m keeps ends.held in
@@ -306,14 +306,14 @@ module _ {S : Type 0} (cut : Bool) (spoke : ℕ → S → List ℕ → List ℕ 
         may = lost_may cut (over ends.m.stream) (IsShut prefix k (history ++ keeps.entries)) (lost k) ends.m.left ends.m.unsent why (λ cause. ends.ends.found k h.read h.sent cause h.said) m;
       }))
 
-  keeps_ended_so : (over : S → Cause → Type 0) (why : Why) (members members' : List (ℕ × MemberValue S)) (accepted : ℕ) (old new : ServerValue) (k : ℕ)
+  keeps_ended_so : (over : S → Cause → Type 0) (why : Why) (members members' : Members S) (accepted : ℕ) (old new : ServerValue) (k : ℕ)
       → ((m : MemberValue S) → member_at members k ≡ Some m → MayEndSo over k old m why) → EndsIfAny spoke over ended lost k why old members new members' → GoesOnTogether cut spoke ended lost members accepted old members' accepted new
   keeps_ended_so over why members members' accepted old new k may (inr (none, same, all)) =
       subst (λ (z : ServerValue). GoesOnTogether cut spoke ended lost members accepted old members' accepted z) (sym same) (keeps_same members members' accepted old all)
   keeps_ended_so over why members members' accepted old new k may (inl ends) = record { on = ended_so over why members members' accepted old new k ends (may ends.m ends.held) }
 
   -- it is ended as it may be
-  pub keeps_ended : (over : S → Cause → Type 0) (why : Why) (members members' : List (ℕ × MemberValue S)) (accepted : ℕ) (old new : ServerValue) (k : ℕ)
+  pub keeps_ended : (over : S → Cause → Type 0) (why : Why) (members members' : Members S) (accepted : ℕ) (old new : ServerValue) (k : ℕ)
       → MayEndAt over k old members why → EndsIfAny spoke over ended lost k why old members new members' → GoesOnTogether cut spoke ended lost members accepted old members' accepted new
   keeps_ended over why members members' accepted old new k may ends = keeps_ended_so over why members members' accepted old new k so ends
     where
@@ -327,13 +327,13 @@ module _ {S : Type 0} (cut : Bool) (spoke : ℕ → S → List ℕ → List ℕ 
           (subst (λ (z : MemberValue S). IsReason (over z.stream) (IsOpenAt (session_at old k) → ⊥) z.left z.unsent why) (same_member (member_at members k) m may.held e) may.may))
 
   -- without memory it may end at any time
-  pub keeps_lost : {most : ℕ} (over : S → Cause → Type 0) (members mid members' : List (ℕ × MemberValue S)) (accepted : ℕ) (old between new : ServerValue) (k : ℕ)
-      → MovesOnAt most None spoke over k old members between mid → EndsIfAny spoke over ended lost k (Err Memory) between mid new members' → GoesOnTogether cut spoke ended lost members accepted old members' accepted new
+  pub keeps_lost : {most : ℕ} (over : S → Cause → Type 0) (members mid members' : Members S) (accepted : ℕ) (old between new : ServerValue) (k : ℕ)
+      → MovesOnAt spoke over most None k old members between mid → EndsIfAny spoke over ended lost k (Err Memory) between mid new members' → GoesOnTogether cut spoke ended lost members accepted old members' accepted new
   keeps_lost over members mid members' accepted old between new k moves ends =
       keeps_further (keeps_moved over members mid accepted old between k moves)
       (keeps_ended_so over (Err Memory) mid members' accepted between new k (λ m e prefix opening history entries stands same. uncut cut (Err Memory) (IsReason (over m.stream) (IsShut prefix k (history ++ entries)) m.left m.unsent (Err Memory)) (inl refl)) ends)
 
-  keeps_entered_so : (members members' : List (ℕ × MemberValue S)) (accepted : ℕ) (server : ServerValue) (stream : S) (now : ℕ)
+  keeps_entered_so : (members members' : Members S) (accepted : ℕ) (server : ServerValue) (stream : S) (now : ℕ)
       → spoke accepted stream [] [] → EntersAt accepted stream now members members' → KeepsSo members accepted server members' (accepted + 1) server
   keeps_entered_so members members' accepted server stream now said enters prefix opening history keeps = record {
     entries = keeps.entries;
@@ -371,13 +371,13 @@ module _ {S : Type 0} (cut : Bool) (spoke : ℕ → S → List ℕ → List ℕ 
           less (inl h) = h
           less (inr h) = absurd (n (omega arith))
 
-  pub keeps_entered : (members members' : List (ℕ × MemberValue S)) (accepted : ℕ) (server : ServerValue) (stream : S) (now : ℕ)
+  pub keeps_entered : (members members' : Members S) (accepted : ℕ) (server : ServerValue) (stream : S) (now : ℕ)
       → spoke accepted stream [] [] → EntersAt accepted stream now members members' → GoesOnTogether cut spoke ended lost members accepted server members' (accepted + 1) server
   keeps_entered members members' accepted server stream now said enters = record { on = keeps_entered_so members members' accepted server stream now said enters }
 
   -- ---- the whole run
 
-  pub keeps_first : (opening : CacheValue) (history : List HistoryEntry) (members : List (ℕ × MemberValue S)) (server : ServerValue)
+  pub keeps_first : (opening : CacheValue) (history : List HistoryEntry) (members : Members S) (server : ServerValue)
       → members ≡ [] → ServerStands opening server history → KeepsTogether cut spoke ended lost server.prefix opening history members 0 server
   keeps_first opening history members server e stands = record {
     entries = [];
@@ -385,10 +385,10 @@ module _ {S : Type 0} (cut : Bool) (spoke : ℕ → S → List ℕ → List ℕ 
     same = refl;
     theirs = tt;
     each = λ k h. absurd (omega arith);
-    fresh = λ k h. ap (λ (z : List (ℕ × MemberValue S)). member_at z k) e;
+    fresh = λ k h. ap (λ (z : Members S). member_at z k) e;
   }
 
-  pub keeps_all : (prefix : List ℕ) (opening : CacheValue) (history : List HistoryEntry) (members : List (ℕ × MemberValue S)) (accepted : ℕ) (server : ServerValue)
+  pub keeps_all : (prefix : List ℕ) (opening : CacheValue) (history : List HistoryEntry) (members : Members S) (accepted : ℕ) (server : ServerValue)
       → ((k : ℕ) → k < accepted → member_at members k ≡ None) → KeepsTogether cut spoke ended lost prefix opening history members accepted server → ServesEach cut ended lost prefix opening history accepted server
   keeps_all prefix opening history members accepted server gone keeps = record {
     entries = keeps.entries;
@@ -417,7 +417,7 @@ cut_talks spoke ended lost prefix opening history entries k None h = record {
   may = inl h.may;
 }
 
-pub keeps_cut : {S : Type 0} (spoke : ℕ → S → List ℕ → List ℕ → Type 0) (ended : ℕ → List ℕ → List ℕ → Why → Type 0) (lost : ℕ → Cause → Type 0) (prefix : List ℕ) (opening : CacheValue) (history : List HistoryEntry) (members : List (ℕ × MemberValue S)) (accepted : ℕ) (server : ServerValue)
+pub keeps_cut : {S : Type 0} (spoke : ℕ → S → List ℕ → List ℕ → Type 0) (ended : ℕ → List ℕ → List ℕ → Why → Type 0) (lost : ℕ → Cause → Type 0) (prefix : List ℕ) (opening : CacheValue) (history : List HistoryEntry) (members : Members S) (accepted : ℕ) (server : ServerValue)
     → KeepsTogether false spoke ended lost prefix opening history members accepted server → KeepsTogether true spoke ended lost prefix opening history members accepted server
 keeps_cut spoke ended lost prefix opening history members accepted server keeps = record {
   entries = keeps.entries;
@@ -429,6 +429,6 @@ keeps_cut spoke ended lost prefix opening history members accepted server keeps 
 }
 
 -- any of them is ended, which is told as a fault of reading
-pub cut_ended : {S : Type 0} (spoke : ℕ → S → List ℕ → List ℕ → Type 0) (ended : ℕ → List ℕ → List ℕ → Why → Type 0) (lost : ℕ → Cause → Type 0) (over : S → Cause → Type 0) (members members' : List (ℕ × MemberValue S)) (accepted : ℕ) (old new : ServerValue) (k : ℕ)
+pub cut_ended : {S : Type 0} (spoke : ℕ → S → List ℕ → List ℕ → Type 0) (ended : ℕ → List ℕ → List ℕ → Why → Type 0) (lost : ℕ → Cause → Type 0) (over : S → Cause → Type 0) (members members' : Members S) (accepted : ℕ) (old new : ServerValue) (k : ℕ)
     → EndsIfAny spoke over ended lost k (Err ReadFault) old members new members' → GoesOnTogether true spoke ended lost members accepted old members' accepted new
 cut_ended spoke ended lost over members members' accepted old new k ends = keeps_ended_so true spoke ended lost over (Err ReadFault) members members' accepted old new k (λ m e prefix opening history entries stands same. inr refl) ends

@@ -8,7 +8,7 @@ use Rattle.std.specs.Option.{option_map_or}
 use Rattle.std.specs.List.{AllByRecursion}
 use Rattle.service.specs.Member.{IsLetGo, MemberValue, in_queue, let_go, marked_by, roused, tells_of}
 use Rattle.service.specs.Sockets.{Stays}
-use Rattle.service.specs.Together.{member_at, AreMarkedBy, AreSameButHeld, IsFree, OthersAreSame}
+use Rattle.service.specs.Together.{member_at, AreMarkedBy, AreSameButHeld, IsFree, OthersAreSame, Members}
 use Rattle.service.specs.declared.sockets.Ready.{Ready}
 
 -- the number is among these
@@ -22,14 +22,14 @@ all_among P (k ∷ ks) each = (each k (inl refl), all_among P ks (λ j h. each j
 
 module _ {S : Type 0} where
   -- once the events that are left are told too, all are
-  pub record ToTell (all left : List Ready) (old now : List (ℕ × MemberValue S)) : Type 0 where
+  pub record ToTell (all left : List Ready) (old now : Members S) : Type 0 where
     pub each : (k : ℕ) → option_map (marked_by left k) (member_at now k) ≡ option_map (marked_by all k) (member_at old k)
     pub many : length now ≡ length old
 
   -- ---- who waits for others no more
 
   -- each of them is free, or among those that are left
-  abbrev pub AreFreeBut : ℕ → List ℕ → List ℕ → List (ℕ × MemberValue S) → Type 0
+  abbrev pub AreFreeBut : ℕ → List ℕ → List ℕ → Members S → Type 0
   AreFreeBut time held left now = (k : ℕ) → Among held k → IsFree time (member_at now k) ⊎ Among left k
 
 module _ {S : Type 0} (spoke : ℕ → S → List ℕ → List ℕ → Type 0) (time : ℕ) where
@@ -51,7 +51,7 @@ module _ {S : Type 0} (spoke : ℕ → S → List ℕ → List ℕ → Type 0) (
   let_go_after None p q (inr none) h = subst (λ r. IsLetGo spoke time r q) none h
   let_go_after (Some m) p q (inr (stream, stays, is)) h = let_go_twice m stream q stays (subst (λ r. IsLetGo spoke time r q) is h)
 
-  pub frees_next : (held left rest : List ℕ) (n : ℕ) (l m : List (ℕ × MemberValue S)) → left ≡ n ∷ rest → IsLetGo spoke time (member_at l n) (member_at m n) → OthersAreSame n l m → AreFreeBut time held left l → AreFreeBut time held rest m
+  pub frees_next : (held left rest : List ℕ) (n : ℕ) (l m : Members S) → left ≡ n ∷ rest → IsLetGo spoke time (member_at l n) (member_at m n) → OthersAreSame n l m → AreFreeBut time held left l → AreFreeBut time held rest m
   frees_next held left rest n l m is at others free k among = by (eqb_tells k n) (free k among)
     where
       own : IsFree time (member_at m n)
@@ -66,14 +66,14 @@ module _ {S : Type 0} (spoke : ℕ → S → List ℕ → List ℕ → Type 0) (
       by (inr (f, other)) (inl h) = inl (subst (λ o. IsFree time o) (sym (others k other)) h)
       by (inr (f, other)) (inr h) = further other (subst (λ ks. Among ks k) is h)
 
-  pub frees_all : (held left : List ℕ) (l : List (ℕ × MemberValue S)) → left ≡ [] → AreFreeBut time held left l → AllByRecursion (λ k. IsFree time (member_at l k)) held
+  pub frees_all : (held left : List ℕ) (l : Members S) → left ≡ [] → AreFreeBut time held left l → AllByRecursion (λ k. IsFree time (member_at l k)) held
   frees_all held left l none free = all_among (λ k. IsFree time (member_at l k)) held (λ k among. by k (free k among))
     where
       by : (k : ℕ) → IsFree time (member_at l k) ⊎ Among left k → IsFree time (member_at l k)
       by k (inl h) = h
       by k (inr h) = absurd (subst (λ ks. Among ks k) none h)
 
-  pub goes_but_held : (old l m : List (ℕ × MemberValue S)) (k : ℕ) → IsLetGo spoke time (member_at l k) (member_at m k) → OthersAreSame k l m → length m ≡ length l → AreSameButHeld spoke time old l → AreSameButHeld spoke time old m
+  pub goes_but_held : (old l m : Members S) (k : ℕ) → IsLetGo spoke time (member_at l k) (member_at m k) → OthersAreSame k l m → length m ≡ length l → AreSameButHeld spoke time old l → AreSameButHeld spoke time old m
   goes_but_held old l m k at others many held = (λ j. by j (eqb_tells j k), many ∙ held.1)
     where
       by : (j : ℕ) → ((eqb j k ≡ true) × (j ≡ k)) ⊎ ((eqb j k ≡ false) × (j ≡ k → ⊥)) → (member_at m j ≡ member_at old j) ⊎ IsLetGo spoke time (member_at old j) (member_at m j)
@@ -92,11 +92,11 @@ module _ {S : Type 0} (event : Ready) where
   told k own (Some m) e = subst (λ b. Some (in_queue (roused event m)) ≡ Some (if b then in_queue (roused event m) else m)) (sym e) refl
 
   -- it is of the listener
-  pub marks_none : (l m : List (ℕ × MemberValue S)) → event.number ≡ None → m ≡ l → AreMarkedBy (event ∷ []) l m
+  pub marks_none : (l m : Members S) → event.number ≡ None → m ≡ l → AreMarkedBy (event ∷ []) l m
   marks_none l m none same = (λ j. ap (λ ms. member_at ms j) same ∙ not_told j (tells_of j event) (member_at l j) (ap (λ o. option_map_or (λ number. number == j) o false) none), ap length same)
 
   -- or of this connection
-  pub marks_one : (k : ℕ) (l m n : List (ℕ × MemberValue S)) → event.number ≡ Some k → member_at m k ≡ option_map (roused event) (member_at l k) → OthersAreSame k l m → length m ≡ length l
+  pub marks_one : (k : ℕ) (l m n : Members S) → event.number ≡ Some k → member_at m k ≡ option_map (roused event) (member_at l k) → OthersAreSame k l m → length m ≡ length l
       → member_at n k ≡ option_map in_queue (member_at m k) → OthersAreSame k m n → length n ≡ length m → AreMarkedBy (event ∷ []) l n
   marks_one k l m n is at others many at' others' many' = (λ j. by j (eqb_tells k j), many' ∙ many)
     where

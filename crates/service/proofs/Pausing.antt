@@ -12,7 +12,7 @@ module _ {S : Type 0} (full dry : S → Type 0) (held : Type 0) (m : MemberValue
 
 -- that it is queued makes no difference
 pub moves_queued : {S : Type 0} {most : ℕ} (spoke : ℕ → S → List ℕ → List ℕ → Type 0) (over : S → Cause → Type 0) (e : Option Why) (k : ℕ) (old new : ServerValue) (m after : MemberValue S) (queued : Bool)
-    → MovesOn most e spoke over k old (record m { queued = queued }) new after → MovesOn most e spoke over k old m new after
+    → MovesOn spoke over most e k old (record m { queued = queued }) new after → MovesOn spoke over most e k old m new after
 moves_queued spoke over e k old new m after queued h = record {
   on = λ opening history entries stands talks. h.on opening history entries stands (record { read = talks.read; sent = talks.sent; said = talks.said; talks = talks.talks });
 }

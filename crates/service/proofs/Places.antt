@@ -9,12 +9,12 @@ use Rattle.std.specs.declared.cmp.Ordering.{Ordering}
 use Rattle.cache_server.specs.Server.{ServerValue}
 use Rattle.service.specs.Sockets.{Cause, Why, GivesPlace, KeepsPlaces, TakesPlace}
 use Rattle.std.specs.Prelude.{option_map}
-use Rattle.service.specs.Member.{MemberValue, in_queue, marked_by}
-use Rattle.service.specs.Together.{member_at, ArePlaced, StaysPlaced, AreSame, AreSameButHeld, AreMarkedBy, OthersAreSame, MovesOnAt, EntersAt}
+use Rattle.service.specs.Member.{in_queue, marked_by}
+use Rattle.service.specs.Together.{member_at, ArePlaced, StaysPlaced, AreSame, AreSameButHeld, AreMarkedBy, OthersAreSame, MovesOnAt, EntersAt, Members}
 use Rattle.service.specs.declared.sockets.Ready.{Ready}
 use Rattle.service.proofs.Keeping.{held_alike, none_alike, none_is_some, queued_alike}
 
-none_left : {S : Type 0} (members : List (ℕ × MemberValue S)) → ((k : ℕ) → member_at members k ≡ None) → length members ≡ 0
+none_left : {S : Type 0} (members : Members S) → ((k : ℕ) → member_at members k ≡ None) → length members ≡ 0
 none_left [] gone = refl
 none_left (m ∷ members) gone = none_is_some (member_at (m ∷ members) m.0) m.1 own (gone m.0)
   where
@@ -22,7 +22,7 @@ none_left (m ∷ members) gone = none_is_some (member_at (m ∷ members) m.0) m.
     own = ap (λ (o : Ordering). cond (is_eq o) (Some m.1) (member_at members m.0)) (tied_itself nat_cmp_total m.0)
 
 -- all connections but one are as they were, and that one isn't new
-fresh_but : {S : Type 0} (k : ℕ) (l m : List (ℕ × MemberValue S)) (a : ℕ) → OthersAreSame k l m → (a ≤ k → member_at m k ≡ None)
+fresh_but : {S : Type 0} (k : ℕ) (l m : Members S) (a : ℕ) → OthersAreSame k l m → (a ≤ k → member_at m k ≡ None)
     → ((j : ℕ) → a ≤ j → member_at l j ≡ None) → (j : ℕ) → a ≤ j → member_at m j ≡ None
 fresh_but {S} k l m a others own fresh j above = by_test (eqb_tells j k)
   where
@@ -31,14 +31,14 @@ fresh_but {S} k l m a others own fresh j above = by_test (eqb_tells j k)
     by_test (inr (f, n)) = others j n ∙ fresh j above
 
 module _ {N S : Type 0} {places : N → ℕ → Type 0} {all : ℕ} where
-  pub placed_nowhere : (s : N) (l : List (ℕ × MemberValue S)) (a : ℕ) → StaysPlaced places all s l a s l a
+  pub placed_nowhere : (s : N) (l : Members S) (a : ℕ) → StaysPlaced places all s l a s l a
   placed_nowhere s l a = record { on = λ h. h }
 
-  pub placed_further : {s t u : N} {l m n : List (ℕ × MemberValue S)} {a b c : ℕ} → StaysPlaced places all s l a t m b → StaysPlaced places all t m b u n c → StaysPlaced places all s l a u n c
+  pub placed_further : {s t u : N} {l m n : Members S} {a b c : ℕ} → StaysPlaced places all s l a t m b → StaysPlaced places all t m b u n c → StaysPlaced places all s l a u n c
   placed_further p q = record { on = λ h. q.on (p.on h) }
 
   -- as many are free, and the connections are the same
-  pub placed_same : (s t : N) (l m : List (ℕ × MemberValue S)) (a : ℕ) → KeepsPlaces places s t → AreSame l m → StaysPlaced places all s l a t m a
+  pub placed_same : (s t : N) (l m : Members S) (a : ℕ) → KeepsPlaces places s t → AreSame l m → StaysPlaced places all s l a t m a
   placed_same s t l m a keeps same = record {
     on = λ h. record {
       free = h.free;
@@ -48,11 +48,11 @@ module _ {N S : Type 0} {places : N → ℕ → Type 0} {all : ℕ} where
     };
   }
 
-  pub placed_still : (s : N) (l m : List (ℕ × MemberValue S)) (a : ℕ) → AreSame l m → StaysPlaced places all s l a s m a
+  pub placed_still : (s : N) (l m : Members S) (a : ℕ) → AreSame l m → StaysPlaced places all s l a s m a
   placed_still s l m a same = placed_same s s l m a (λ free h. h) same
 
   -- where there was none there is none
-  placed_alike : (s : N) (l m : List (ℕ × MemberValue S)) (a : ℕ) → ((k : ℕ) → member_at l k ≡ None → member_at m k ≡ None) → length m ≡ length l → StaysPlaced places all s l a s m a
+  placed_alike : (s : N) (l m : Members S) (a : ℕ) → ((k : ℕ) → member_at l k ≡ None → member_at m k ≡ None) → length m ≡ length l → StaysPlaced places all s l a s m a
   placed_alike s l m a none many = record {
     on = λ h. record {
       free = h.free;
@@ -62,17 +62,17 @@ module _ {N S : Type 0} {places : N → ℕ → Type 0} {all : ℕ} where
     };
   }
 
-  pub placed_but_held : (spoke : ℕ → S → List ℕ → List ℕ → Type 0) (now : ℕ) (s : N) (l m : List (ℕ × MemberValue S)) (a : ℕ) → AreSameButHeld spoke now l m → StaysPlaced places all s l a s m a
+  pub placed_but_held : (spoke : ℕ → S → List ℕ → List ℕ → Type 0) (now : ℕ) (s : N) (l m : Members S) (a : ℕ) → AreSameButHeld spoke now l m → StaysPlaced places all s l a s m a
   placed_but_held spoke now s l m a same = placed_alike s l m a (λ k. none_alike spoke (member_at l k) (member_at m k) (held_alike spoke now (member_at l k) (member_at m k) (same.0 k))) same.1
 
-  pub placed_queued : (spoke : ℕ → S → List ℕ → List ℕ → Type 0) (k : ℕ) (s : N) (l m : List (ℕ × MemberValue S)) (a : ℕ) → member_at m k ≡ option_map in_queue (member_at l k) → OthersAreSame k l m → length m ≡ length l → StaysPlaced places all s l a s m a
+  pub placed_queued : (spoke : ℕ → S → List ℕ → List ℕ → Type 0) (k : ℕ) (s : N) (l m : Members S) (a : ℕ) → member_at m k ≡ option_map in_queue (member_at l k) → OthersAreSame k l m → length m ≡ length l → StaysPlaced places all s l a s m a
   placed_queued spoke k s l m a at others many = placed_alike s l m a (λ j. none_alike spoke (member_at l j) (member_at m j) (queued_alike spoke k l m at others j)) many
 
-  pub placed_told : (events : List Ready) (s : N) (l m : List (ℕ × MemberValue S)) (a : ℕ) → AreMarkedBy events l m → StaysPlaced places all s l a s m a
+  pub placed_told : (events : List Ready) (s : N) (l m : Members S) (a : ℕ) → AreMarkedBy events l m → StaysPlaced places all s l a s m a
   placed_told events s l m a told = placed_alike s l m a (λ k none. told.0 k ∙ ap (option_map (marked_by events k)) none) told.1
 
-  pub placed_moved : {most : ℕ} (end : Option Why) (spoke : ℕ → S → List ℕ → List ℕ → Type 0) (over : S → Cause → Type 0) (k : ℕ) (old new : ServerValue) (s : N) (l m : List (ℕ × MemberValue S)) (a : ℕ)
-      → MovesOnAt most end spoke over k old l new m → StaysPlaced places all s l a s m a
+  pub placed_moved : {most : ℕ} (end : Option Why) (spoke : ℕ → S → List ℕ → List ℕ → Type 0) (over : S → Cause → Type 0) (k : ℕ) (old new : ServerValue) (s : N) (l m : Members S) (a : ℕ)
+      → MovesOnAt spoke over most end k old l new m → StaysPlaced places all s l a s m a
   placed_moved end spoke over k old new s l m a moves = record {
     on = λ h. record {
       free = h.free;
@@ -83,7 +83,7 @@ module _ {N S : Type 0} {places : N → ℕ → Type 0} {all : ℕ} where
   }
 
   -- one has ended
-  pub placed_left : (k : ℕ) (s t : N) (l m : List (ℕ × MemberValue S)) (a : ℕ) → GivesPlace places s t → length m + 1 ≡ length l → member_at m k ≡ None → OthersAreSame k l m
+  pub placed_left : (k : ℕ) (s t : N) (l m : Members S) (a : ℕ) → GivesPlace places s t → length m + 1 ≡ length l → member_at m k ≡ None → OthersAreSame k l m
       → StaysPlaced places all s l a t m a
   placed_left k s t l m a gives fewer gone others = record {
     on = λ h. record {
@@ -95,7 +95,7 @@ module _ {N S : Type 0} {places : N → ℕ → Type 0} {all : ℕ} where
   }
 
   -- a place is free, so it can be taken
-  taken : (s t : N) (l : List (ℕ × MemberValue S)) (a : ℕ) → TakesPlace places s t → length l < all → ArePlaced places all s l a
+  taken : (s t : N) (l : Members S) (a : ℕ) → TakesPlace places s t → length l < all → ArePlaced places all s l a
       → (free : ℕ) × places t free × (free + 1 + length l ≡ all)
   taken s t l a takes less h = by h.free h.are h.sum
     where
@@ -104,7 +104,7 @@ module _ {N S : Type 0} {places : N → ℕ → Type 0} {all : ℕ} where
       by (suc free) are sum = (free, takes free (let e : suc free ≡ free + 1 = omega arith in subst (places s) e are), omega (arith, sum))
 
   -- one has come in
-  pub placed_entered : (s t : N) (k : ℕ) (stream : S) (now : ℕ) (l m : List (ℕ × MemberValue S)) → TakesPlace places s t → length l < all → EntersAt k stream now l m → StaysPlaced places all s l k t m (k + 1)
+  pub placed_entered : (s t : N) (k : ℕ) (stream : S) (now : ℕ) (l m : Members S) → TakesPlace places s t → length l < all → EntersAt k stream now l m → StaysPlaced places all s l k t m (k + 1)
   placed_entered s t k stream now l m takes less enters = record { on = λ h. go h (taken s t l k takes less h) }
     where
       go : ArePlaced places all s l k → ((free : ℕ) × places t free × (free + 1 + length l ≡ all)) → ArePlaced places all t m (k + 1)
@@ -116,7 +116,7 @@ module _ {N S : Type 0} {places : N → ℕ → Type 0} {all : ℕ} where
       }
 
   -- one came in, and was ended at once
-  pub placed_back : (s t u : N) (l m : List (ℕ × MemberValue S)) (a : ℕ) → TakesPlace places s t → GivesPlace places t u → length l < all → AreSame l m → StaysPlaced places all s l a u m a
+  pub placed_back : (s t u : N) (l m : Members S) (a : ℕ) → TakesPlace places s t → GivesPlace places t u → length l < all → AreSame l m → StaysPlaced places all s l a u m a
   placed_back s t u l m a takes gives less same = record { on = λ h. go h (taken s t l a takes less h) }
     where
       go : ArePlaced places all s l a → ((free : ℕ) × places t free × (free + 1 + length l ≡ all)) → ArePlaced places all u m a
@@ -128,7 +128,7 @@ module _ {N S : Type 0} {places : N → ℕ → Type 0} {all : ℕ} where
       }
 
   -- from none that is open, to none
-  pub placed_whole : (s t : N) (none m : List (ℕ × MemberValue S)) (a : ℕ) → none ≡ [] → StaysPlaced places all s none 0 t m a → ((k : ℕ) → k < a → member_at m k ≡ None) → places s all → places t all
+  pub placed_whole : (s t : N) (none m : Members S) (a : ℕ) → none ≡ [] → StaysPlaced places all s none 0 t m a → ((k : ℕ) → k < a → member_at m k ≡ None) → places s all → places t all
   placed_whole s t none m a e stays gone are = by (stays.on first)
     where
       first : ArePlaced places all s none 0
@@ -136,7 +136,7 @@ module _ {N S : Type 0} {places : N → ℕ → Type 0} {all : ℕ} where
         free = all;
         are = are;
         sum = let z : length none ≡ 0 = ap length e in omega (arith, z);
-        fresh = λ k above. ap (λ (z : List (ℕ × MemberValue S)). member_at z k) e;
+        fresh = λ k above. ap (λ (z : Members S). member_at z k) e;
       }
 
       by : ArePlaced places all t m a → places t all

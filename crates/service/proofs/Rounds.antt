@@ -3,7 +3,7 @@ use Rattle.std.proofs.Common.{◌≡◌, ℕ, ◌+◌, ◌≤◌, ◌⊎◌, inl
 use Rattle.std.specs.Prelude.{IfSome, IsSome, if◌then◌else◌, option_map}
 use Rattle.service.specs.Member.{GoesAhead, IsDeadline, MemberValue, in_queue, load_after, no_load}
 use Rattle.service.specs.Rounds.{ArePressed, EndLate, EndsLate, GoesAheadAt, HasTurn, NoneEnds, OneEnds, TakeTurns, TakesTurns}
-use Rattle.service.specs.Together.{AreSameButHeld, OthersAreSame, joining, member_at}
+use Rattle.service.specs.Together.{AreSameButHeld, Members, OthersAreSame, joining, member_at}
 use Rattle.service.specs.declared.load.Load.{Load}
 use Rattle.service.specs.declared.together.Together.{Together}
 
@@ -19,11 +19,11 @@ goes_first tried now none old mid new (inl (z, same)) goes = subst (λ m. GoesAh
 goes_first tried now none old mid new (inr before) goes = goes_further tried now old mid new before goes
 
 -- none yet
-pub none_ends : {S : Type 0} (idle : Option ℕ) (now : ℕ) (members : List (ℕ × MemberValue S)) (load : Load) → EndLate idle now members load members load
+pub none_ends : {S : Type 0} (idle : Option ℕ) (now : ℕ) (members : Members S) (load : Load) → EndLate idle now members load members load
 none_ends idle now members load = NoneEnds members load
 
 -- the connection with the number went ahead
-pub goes_at : {S : Type 0} (tried : S → ℕ → Type 0) (now k : ℕ) (old new : List (ℕ × MemberValue S)) (before after : MemberValue S) → member_at old k ≡ Some before → member_at new k ≡ Some after
+pub goes_at : {S : Type 0} (tried : S → ℕ → Type 0) (now k : ℕ) (old new : Members S) (before after : MemberValue S) → member_at old k ≡ Some before → member_at new k ≡ Some after
     → GoesAhead tried now before after → GoesAheadAt tried now k old new
 goes_at tried now k old new before after held at goes = record {
   before = before;
@@ -67,7 +67,7 @@ is_behind {S} {w} tried now k old mid new was rest goes queued at list = inr (re
 })
 
 -- one more is ended
-pub ends_one : {S : Type 0} (idle limit : Option ℕ) (pressed : Bool) (now number deadline : ℕ) (old mid new : List (ℕ × MemberValue S)) (before between after : Load)
+pub ends_one : {S : Type 0} (idle limit : Option ℕ) (pressed : Bool) (now number deadline : ℕ) (old mid new : Members S) (before between after : Load)
     → EndLate idle now old before mid between → limit ≡ idle → IsSome (member_at mid number) → ArePressed mid between pressed
     → IfSome (member_at mid number) (λ m. IsDeadline m limit pressed (Some deadline)) → deadline ≤ now → member_at new number ≡ None → OthersAreSame number mid new
     → IfSome (member_at mid number) (λ m. after ≡ load_after between m.load no_load) → EndLate idle now old before new after
@@ -92,7 +92,7 @@ ends_one {S} idle limit pressed now number deadline old mid new before between a
 
 -- so many turns were taken, whatever was let go behind them
 pub took_turns : {S : Type 0} {count all : ℕ} (spoke : ℕ → S → List ℕ → List ℕ → Type 0) (tried : S → ℕ → Type 0) (now : ℕ) (old last new : Together S) → count ≡ all → TakeTurns tried count old last
-    → AreSameButHeld spoke now last.members.entries new.members.entries → TakesTurns spoke tried all old new
+    → AreSameButHeld spoke now last.members.entries new.members.entries → TakesTurns tried spoke all old new
 took_turns spoke tried now old last new are turns same = record {
   last = last;
   turns = subst (λ n. TakeTurns tried n old last) are turns;

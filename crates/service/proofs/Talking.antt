@@ -96,7 +96,7 @@ module _ (prefix : List ℕ) (opening : CacheValue) (history : List HistoryEntry
 
   pub leaves : {S : Type 0} (spoke : ℕ → S → List ℕ → List ℕ → Type 0) (over : S → Cause → Type 0) (entries : List HistoryEntry) (k : ℕ) (m : MemberValue S) (why : Why)
       → TalksOn spoke prefix opening history entries k m → IsReason (over m.stream) (IsShut prefix k (history ++ entries)) m.left m.unsent why
-      → MayEndNow spoke over prefix opening history entries k m.stream why
+      → MayEndNow spoke prefix opening history entries k over m.stream why
   leaves spoke over entries k m why h may = record {
     read = h.read;
     sent = h.sent;
@@ -108,7 +108,7 @@ module _ (prefix : List ℕ) (opening : CacheValue) (history : List HistoryEntry
   }
 
   pub unless : {S : Type 0} (e : Option Why) (spoke : ℕ → S → List ℕ → List ℕ → Type 0) (over : S → Cause → Type 0) (entries : List HistoryEntry) (k : ℕ) (m : MemberValue S)
-      → FailsFor (λ e. over m.stream (Failed e)) e → TalksOn spoke prefix opening history entries k m → TalksOnUnless e spoke over prefix opening history entries k m
+      → FailsFor (λ e. over m.stream (Failed e)) e → TalksOn spoke prefix opening history entries k m → TalksOnUnless spoke prefix opening history entries k over e m
   unless None spoke over entries k m f h = h
   unless (Some why) spoke over entries k m f h = leaves spoke over entries k m why h (fault_may (over m.stream) (IsShut prefix k (history ++ entries)) m.left m.unsent why f)
 
@@ -230,11 +230,11 @@ module _ {S : Type 0} (spoke : ℕ → S → List ℕ → List ℕ → Type 0) (
   abbrev MovesSo : ℕ → Option Why → ℕ → ServerValue → MemberValue S → ServerValue → MemberValue S → Type 0
   MovesSo most e k old before new after =
       (opening : CacheValue) (history entries : List HistoryEntry) → ServerStands opening old (history ++ entries)
-      → TalksOn spoke old.prefix opening history entries k before → HasMovedOn most e spoke over old.prefix opening history entries k after new
+      → TalksOn spoke old.prefix opening history entries k before → HasMovedOn spoke over most e old.prefix opening history entries k after new
 
   -- ---- nothing comes to the server
 
-  pub stays_passes : (e : Option Why) (before after : MemberValue S) → Stays spoke before.stream after.stream → after.left ≡ before.left → after.unsent ≡ before.unsent → FailsFor (λ e. over after.stream (Failed e)) e → Passes e spoke over before after
+  pub stays_passes : (e : Option Why) (before after : MemberValue S) → Stays spoke before.stream after.stream → after.left ≡ before.left → after.unsent ≡ before.unsent → FailsFor (λ e. over after.stream (Failed e)) e → Passes spoke over e before after
   stays_passes e before after stays p q f = record {
     on = λ prefix opening history entries k h. unless prefix opening history e spoke over entries k after f (record {
       read = h.read;
@@ -244,11 +244,11 @@ module _ {S : Type 0} (spoke : ℕ → S → List ℕ → List ℕ → Type 0) (
     });
   }
 
-  pub nothing_passes : (m : MemberValue S) → Passes None spoke over m m
+  pub nothing_passes : (m : MemberValue S) → Passes spoke over None m m
   nothing_passes m = stays_passes None m m (λ k read sent h. h) refl refl tt
 
   -- some was read, where nothing was left
-  pub reads_pass : (before after : MemberValue S) (bytes : List ℕ) → ReadsFrom spoke before.stream bytes after.stream → before.left ≡ [] → after.left ≡ bytes → after.unsent ≡ before.unsent → Passes None spoke over before after
+  pub reads_pass : (before after : MemberValue S) (bytes : List ℕ) → ReadsFrom spoke before.stream bytes after.stream → before.left ≡ [] → after.left ≡ bytes → after.unsent ≡ before.unsent → Passes spoke over None before after
   reads_pass before after bytes reads e p q = record {
     on = λ prefix opening history entries k h. record {
       read = h.read ++ bytes;
@@ -261,7 +261,7 @@ module _ {S : Type 0} (spoke : ℕ → S → List ℕ → List ℕ → Type 0) (
 
   -- a part of what wasn't sent was, and then it passed on so
   pub sent_passes : (e : Option Why) (l m n : MemberValue S) (count : ℕ) → SendsTo spoke l.stream (take count l.unsent) m.stream → m.left ≡ l.left → m.unsent ≡ l.unsent
-      → PassesSent e spoke over count m n → Passes e spoke over l n
+      → PassesSent spoke over e count m n → Passes spoke over e l n
   sent_passes None l m n count sends p q r = record {
     on = λ prefix opening history entries k h. record {
       read = h.read;
@@ -286,23 +286,23 @@ module _ {S : Type 0} (spoke : ℕ → S → List ℕ → List ℕ → Type 0) (
   }
 
   -- ended, or with so much more sent
-  pub sends_over : (count : ℕ) (before after : MemberValue S) → Stays spoke before.stream after.stream → over after.stream (Failed WriteFault) → PassesSent (Some (Err WriteFault)) spoke over count before after
+  pub sends_over : (count : ℕ) (before after : MemberValue S) → Stays spoke before.stream after.stream → over after.stream (Failed WriteFault) → PassesSent spoke over (Some (Err WriteFault)) count before after
   sends_over count before after stays o = record { left = λ e. cc; unsent = λ e. cc; stays = stays; fails = inr o }
 
-  pub sends_more : (count : ℕ) (before after : MemberValue S) → Stays spoke before.stream after.stream → after.left ≡ before.left → after.unsent ≡ drop count before.unsent → PassesSent None spoke over count before after
+  pub sends_more : (count : ℕ) (before after : MemberValue S) → Stays spoke before.stream after.stream → after.left ≡ before.left → after.unsent ≡ drop count before.unsent → PassesSent spoke over None count before after
   sends_more count before after stays p q = record { left = λ e. p; unsent = λ e. q; stays = stays; fails = tt }
 
-  passes_moves_so : {most : ℕ} (e : Option Why) (k : ℕ) (server : ServerValue) (before after : MemberValue S) → Passes e spoke over before after → MovesSo most e k server before server after
+  passes_moves_so : {most : ℕ} (e : Option Why) (k : ℕ) (server : ServerValue) (before after : MemberValue S) → Passes spoke over e before after → MovesSo most e k server before server after
   passes_moves_so e k server before after p opening history entries stands h = record {
     more = [];
     theirs = tt;
     few = omega arith;
     stands = subst (λ (z : List HistoryEntry). ServerStands opening server (history ++ z)) (sym (append-nil entries)) stands;
     same = refl;
-    holds = subst (λ (z : List HistoryEntry). TalksOnUnless e spoke over server.prefix opening history z k after) (sym (append-nil entries)) (p.on server.prefix opening history entries k h);
+    holds = subst (λ (z : List HistoryEntry). TalksOnUnless spoke server.prefix opening history z k over e after) (sym (append-nil entries)) (p.on server.prefix opening history entries k h);
   }
 
-  pub passes_moves : {most : ℕ} (e : Option Why) (k : ℕ) (server : ServerValue) (before after : MemberValue S) → Passes e spoke over before after → MovesOn most e spoke over k server before server after
+  pub passes_moves : {most : ℕ} (e : Option Why) (k : ℕ) (server : ServerValue) (before after : MemberValue S) → Passes spoke over e before after → MovesOn spoke over most e k server before server after
   passes_moves e k server before after p = record { on = passes_moves_so e k server before after p }
 
   -- no bytes were read
@@ -311,7 +311,7 @@ module _ {S : Type 0} (spoke : ℕ → S → List ℕ → List ℕ → Type 0) (
 
   -- it stays so, and may end for this reason
   ends_for : (prefix : List ℕ) (opening : CacheValue) (history entries : List HistoryEntry) (k : ℕ) (before after : MemberValue S) (why : Why) → Stays spoke before.stream after.stream
-      → TalksOn spoke prefix opening history entries k before → IsReason (over after.stream) (IsShut prefix k (history ++ entries)) before.left before.unsent why → MayEndNow spoke over prefix opening history entries k after.stream why
+      → TalksOn spoke prefix opening history entries k before → IsReason (over after.stream) (IsShut prefix k (history ++ entries)) before.left before.unsent why → MayEndNow spoke prefix opening history entries k over after.stream why
   ends_for prefix opening history entries k before after why stays h may = record {
     read = h.read;
     sent = h.sent;
@@ -323,12 +323,12 @@ module _ {S : Type 0} (spoke : ℕ → S → List ℕ → List ℕ → Type 0) (
   }
 
   -- the peer has ended it, and nothing is left
-  pub reads_end : (before after : MemberValue S) → Stays spoke before.stream after.stream → before.left ≡ [] → before.unsent ≡ [] → over after.stream Finished → Passes (Some (Ok tt)) spoke over before after
+  pub reads_end : (before after : MemberValue S) → Stays spoke before.stream after.stream → before.left ≡ [] → before.unsent ≡ [] → over after.stream Finished → Passes spoke over (Some (Ok tt)) before after
   reads_end before after stays left unsent o = record { on = λ prefix opening history entries k h. ends_for prefix opening history entries k before after (Ok tt) stays h (inl (o, left, unsent)) }
 
   -- no more can be answered
   pub lingers_moves : {most : ℕ} (e : Option Why) (k : ℕ) (server : ServerValue) (before after : MemberValue S) → EndsWell (over after.stream Shut) e → (IsOpenAt (session_at server k) → ⊥) → Stays spoke before.stream after.stream → after.left ≡ before.left → after.unsent ≡ before.unsent → before.unsent ≡ []
-      → MovesOn most e spoke over k server before server after
+      → MovesOn spoke over most e k server before server after
   lingers_moves None k server before after well shut stays p q none = passes_moves None k server before after (stays_passes None before after stays p q tt)
   lingers_moves (Some (Err e)) k server before after well shut stays p q none = absurd well
   lingers_moves (Some (Ok done)) k server before after well shut stays p q none = record {
@@ -338,44 +338,44 @@ module _ {S : Type 0} (spoke : ℕ → S → List ℕ → List ℕ → Type 0) (
       few = omega arith;
       stands = subst (λ (z : List HistoryEntry). ServerStands opening server (history ++ z)) (sym (append-nil entries)) stands;
       same = refl;
-      holds = subst (λ (z : List HistoryEntry). MayEndNow spoke over server.prefix opening history z k after.stream (Ok done)) (sym (append-nil entries))
+      holds = subst (λ (z : List HistoryEntry). MayEndNow spoke server.prefix opening history z k over after.stream (Ok done)) (sym (append-nil entries))
           (ends_for server.prefix opening history entries k before after (Ok done) stays h (inr (shut_is opening server k (history ++ entries) stands shut, well, none)));
     };
   }
 
   -- without memory, only the stream counts
-  pub moves_end : {most : ℕ} (k : ℕ) (s t : ServerValue) (l m n : MemberValue S) → n.stream ≡ m.stream → MovesOn most None spoke over k s l t m → MovesOn most (Some (Err Memory)) spoke over k s l t n
+  pub moves_end : {most : ℕ} (k : ℕ) (s t : ServerValue) (l m n : MemberValue S) → n.stream ≡ m.stream → MovesOn spoke over most None k s l t m → MovesOn spoke over most (Some (Err Memory)) k s l t n
   moves_end {most} k s t l m n e p = record {
     on = λ opening history entries stands h.
-        let x : HasMovedOn most None spoke over s.prefix opening history entries k m t = p.on opening history entries stands h in
+        let x : HasMovedOn spoke over most None s.prefix opening history entries k m t = p.on opening history entries stands h in
         record {
           more = x.more;
           theirs = x.theirs;
           few = x.few;
           stands = x.stands;
           same = x.same;
-          holds = subst (λ (z : S). MayEndNow spoke over s.prefix opening history (entries ++ x.more) k z (Err Memory)) (sym e) (leaves s.prefix opening history spoke over (entries ++ x.more) k m (Err Memory) x.holds (inl refl));
+          holds = subst (λ (z : S). MayEndNow spoke s.prefix opening history (entries ++ x.more) k over z (Err Memory)) (sym e) (leaves s.prefix opening history spoke over (entries ++ x.more) k m (Err Memory) x.holds (inl refl));
         };
   }
 
-  pub moves_from : {most : ℕ} (e : Option Why) (k : ℕ) (s t : ServerValue) (l l' n : MemberValue S) → l' ≡ l → MovesOn most e spoke over k s l' t n → MovesOn most e spoke over k s l t n
-  moves_from {most} e k s t l l' n q p = subst (λ (z : MemberValue S). MovesOn most e spoke over k s z t n) q p
+  pub moves_from : {most : ℕ} (e : Option Why) (k : ℕ) (s t : ServerValue) (l l' n : MemberValue S) → l' ≡ l → MovesOn spoke over most e k s l' t n → MovesOn spoke over most e k s l t n
+  moves_from {most} e k s t l l' n q p = subst (λ (z : MemberValue S). MovesOn spoke over most e k s z t n) q p
 
   pub stays_moves : {most : ℕ} (e : Option Why) (k : ℕ) (server : ServerValue) (before after : MemberValue S) → Stays spoke before.stream after.stream → after.left ≡ before.left → after.unsent ≡ before.unsent → FailsFor (λ e. over after.stream (Failed e)) e
-      → MovesOn most e spoke over k server before server after
+      → MovesOn spoke over most e k server before server after
   stays_moves e k server before after stays p q f = passes_moves e k server before after (stays_passes e before after stays p q f)
 
   -- some is read, and some of it comes to the server
-  pub reads_moves : {most : ℕ} (e : Option Why) (k : ℕ) (s t : ServerValue) (l m n : MemberValue S) → Passes None spoke over l m → MovesOn most e spoke over k s m t n → MovesOn most e spoke over k s l t n
+  pub reads_moves : {most : ℕ} (e : Option Why) (k : ℕ) (s t : ServerValue) (l m n : MemberValue S) → Passes spoke over None l m → MovesOn spoke over most e k s m t n → MovesOn spoke over most e k s l t n
   reads_moves e k s t l m n p q = record { on = λ opening history entries stands h. q.on opening history entries stands (p.on s.prefix opening history entries k h) }
 
-  pub moves_nowhere : {most : ℕ} (k : ℕ) (server : ServerValue) (m : MemberValue S) → MovesOn most None spoke over k server m server m
+  pub moves_nowhere : {most : ℕ} (k : ℕ) (server : ServerValue) (m : MemberValue S) → MovesOn spoke over most None k server m server m
   moves_nowhere k server m = passes_moves None k server m m (nothing_passes m)
 
-  moves_further_so : {count most : ℕ} (e : Option Why) (k : ℕ) (s t u : ServerValue) (l m n : MemberValue S) → count < most → MovesOn count None spoke over k s l t m → MovesOn 1 e spoke over k t m u n → MovesSo most e k s l u n
+  moves_further_so : {count most : ℕ} (e : Option Why) (k : ℕ) (s t u : ServerValue) (l m n : MemberValue S) → count < most → MovesOn spoke over count None k s l t m → MovesOn spoke over 1 e k t m u n → MovesSo most e k s l u n
   moves_further_so {count} {most} e k s t u l m n c p q opening history entries stands h =
-      let x : HasMovedOn count None spoke over s.prefix opening history entries k m t = p.on opening history entries stands h in
-      let y : HasMovedOn 1 e spoke over t.prefix opening history (entries ++ x.more) k n u =
+      let x : HasMovedOn spoke over count None s.prefix opening history entries k m t = p.on opening history entries stands h in
+      let y : HasMovedOn spoke over 1 e t.prefix opening history (entries ++ x.more) k n u =
       q.on opening history (entries ++ x.more) x.stands (subst (λ (z : List ℕ). TalksOn spoke z opening history (entries ++ x.more) k m) (sym x.same) x.holds) in
       record {
         more = x.more ++ y.more;
@@ -383,12 +383,12 @@ module _ {S : Type 0} (spoke : ℕ → S → List ℕ → List ℕ → Type 0) (
         few = let few = x.few in let one = y.few in let all = pieces_in x.more y.more in omega (arith, c, few, one, all);
         stands = subst (λ (z : List HistoryEntry). ServerStands opening u (history ++ z)) (append_assoc entries x.more y.more) y.stands;
         same = y.same ∙ x.same;
-        holds = subst (λ (z : List HistoryEntry). TalksOnUnless e spoke over s.prefix opening history z k n) (append_assoc entries x.more y.more)
-            (subst (λ (z : List ℕ). TalksOnUnless e spoke over z opening history ((entries ++ x.more) ++ y.more) k n) x.same y.holds);
+        holds = subst (λ (z : List HistoryEntry). TalksOnUnless spoke s.prefix opening history z k over e n) (append_assoc entries x.more y.more)
+            (subst (λ (z : List ℕ). TalksOnUnless spoke z opening history ((entries ++ x.more) ++ y.more) k over e n) x.same y.holds);
       }
 
   -- one step more
-  pub moves_further : {count most : ℕ} (e : Option Why) (k : ℕ) (s t u : ServerValue) (l m n : MemberValue S) → count < most → MovesOn count None spoke over k s l t m → MovesOn 1 e spoke over k t m u n → MovesOn most e spoke over k s l u n
+  pub moves_further : {count most : ℕ} (e : Option Why) (k : ℕ) (s t u : ServerValue) (l m n : MemberValue S) → count < most → MovesOn spoke over count None k s l t m → MovesOn spoke over 1 e k t m u n → MovesOn spoke over most e k s l u n
   moves_further e k s t u l m n c p q = record { on = moves_further_so e k s t u l m n c p q }
 
   -- ---- some of what is left comes to the server
@@ -430,7 +430,7 @@ module _ {S : Type 0} (spoke : ℕ → S → List ℕ → List ℕ → Type 0) (
       → new.prefix ≡ old.prefix
       → ((opening : CacheValue) (history : List HistoryEntry) → ServerStands opening old history → IsOneAnswerTo old.prefix opening history (Piece k (take taken piece)) (unwrap_or (option_map text_of answer) []))
       → ((opening : CacheValue) (history : List HistoryEntry) → ServerStands opening old history → ServerStands opening new (history ++ Piece k (take taken piece) ∷ []))
-      → MovesOn 1 None spoke over k old before new after
+      → MovesOn spoke over 1 None k old before new after
   next_moves k old new before after piece taken answer still p q r s u same answers goes = record { on = next_moves_so k old new before after piece taken answer still p q r s u same answers goes }
 
   next_fails_so : (k : ℕ) (old new : ServerValue) (before after : MemberValue S) (piece : List ℕ)
@@ -439,7 +439,7 @@ module _ {S : Type 0} (spoke : ℕ → S → List ℕ → List ℕ → Type 0) (
       → MovesSo 1 (Some (Err Memory)) k old before new after
   next_fails_so k old new before after piece still p r same fails opening history entries stands h = by_end (fails opening (history ++ entries) stands)
     where
-      by_end : StandsOrFails opening old k piece new (history ++ entries) → HasMovedOn 1 (Some (Err Memory)) spoke over old.prefix opening history entries k after new
+      by_end : StandsOrFails opening old k piece new (history ++ entries) → HasMovedOn spoke over 1 (Some (Err Memory)) old.prefix opening history entries k after new
       by_end (inl (none, still, s)) = record {
         more = [];
         theirs = tt;
@@ -485,5 +485,5 @@ module _ {S : Type 0} (spoke : ℕ → S → List ℕ → List ℕ → Type 0) (
   pub next_fails : (k : ℕ) (old new : ServerValue) (before after : MemberValue S) (piece : List ℕ)
       → IsOpenAt (session_at old k) → before.left ≡ piece → after.stream ≡ before.stream → new.prefix ≡ old.prefix
       → ((opening : CacheValue) (history : List HistoryEntry) → ServerStands opening old history → StandsOrFails opening old k piece new history)
-      → MovesOn 1 (Some (Err Memory)) spoke over k old before new after
+      → MovesOn spoke over 1 (Some (Err Memory)) k old before new after
   next_fails k old new before after piece still p r same fails = record { on = next_fails_so k old new before after piece still p r same fails }

@@ -169,21 +169,22 @@ CountsRead end now old new before after =
     ⊎ (((after.reads ≡ before.reads + 1) × (new.moved ≡ now))
     ⊎ ((1024 ≤ before.reads) × (after.reads ≡ before.reads) × (end ≡ Some (Ok tt))))
 
--- It waits for an event: some of an answer isn't sent, and its stream takes no more; or neither a
--- byte nor the end is at hand there, and what was read has come to the server, up to its last
--- answer.
-abbrev pub AwaitsEvent : {S : Type 0} → (full dry : S → Type 0) → MemberValue S → Type 0
-AwaitsEvent full dry m =
-    ((m.unsent ≡ [] → ⊥) × full m.stream)
-    ⊎ (dry m.stream × (m.closed ≡ false) × ((m.left ≡ []) ⊎ IsSome m.lingering))
+-- `full` says of a stream that it takes no more bytes, and `dry` that no byte is at hand there.
+module _ {S : Type 0} (full dry : S → Type 0) where
+  -- It waits for an event: some of an answer isn't sent, and its stream takes no more; or neither a
+  -- byte nor the end is at hand there, and what was read has come to the server, up to its last
+  -- answer.
+  abbrev pub AwaitsEvent : MemberValue S → Type 0
+  AwaitsEvent m =
+      ((m.unsent ≡ [] → ⊥) × full m.stream)
+      ⊎ (dry m.stream × (m.closed ≡ false) × ((m.left ≡ []) ⊎ IsSome m.lingering))
 
--- why it goes no further for now: it waits for an event, or is held, for this
-abbrev pub PausesFor :
-    {S : Type 0} → (full dry : S → Type 0) → Type 0 → Turn → MemberValue S → Type 0
-PausesFor full dry held Again m = ⊤
-PausesFor full dry held Waits m = AwaitsEvent full dry m
-PausesFor full dry held Held m = held
-PausesFor full dry held (Ends why) m = ⊤
+  -- why it goes no further for now: it waits for an event, or is held, for this
+  abbrev pub PausesFor : Type 0 → Turn → MemberValue S → Type 0
+  PausesFor held Again m = ⊤
+  PausesFor held Waits m = AwaitsEvent m
+  PausesFor held Held m = held
+  PausesFor held (Ends why) m = ⊤
 
 -- it has no leave to answer more, or to read more of a request of which it keeps so much
 abbrev pub HasNoLeave : Leave → Load → Type 0
@@ -199,29 +200,6 @@ GoesAhead tried now old new =
 -- as many bytes count as kept of a request that isn't whole as its session keeps
 abbrev pub CountsKept : {S : Type 0} → ServerValue → ℕ → MemberValue S → Type 0
 CountsKept server k m = m.load.requests ≡ held_bytes_at (session_at server k)
-
--- it goes on: what was read and what was sent is as the entries say
-pub record TalksOn
-    {S : Type 0} (spoke : ℕ → S → List ℕ → List ℕ → Type 0) (prefix : List ℕ)
-    (opening : CacheValue) (history entries : List HistoryEntry) (k : ℕ) (m : MemberValue S)
-    : Type 0 where
-  pub read : List ℕ
-  pub sent : List ℕ
-  pub said : spoke k m.stream read sent
-  pub talks : Talks prefix opening history entries k read sent m.left m.unsent
-
--- it may end, for this reason
-pub record MayEndNow
-    {S : Type 0} (spoke : ℕ → S → List ℕ → List ℕ → Type 0) (over : S → Cause → Type 0)
-    (prefix : List ℕ) (opening : CacheValue) (history entries : List HistoryEntry) (k : ℕ)
-    (stream : S) (why : Why) : Type 0 where
-  pub read : List ℕ
-  pub sent : List ℕ
-  pub left : List ℕ
-  pub unsent : List ℕ
-  pub said : spoke k stream read sent
-  pub talks : Talks prefix opening history entries k read sent left unsent
-  pub may : IsReason (over stream) (IsShut prefix k (history ++ entries)) left unsent why
 
 -- why it ends with this turn, if it does
 abbrev pub end_of : Turn → Option Why
@@ -252,16 +230,6 @@ EndsWell holds None = ⊤
 EndsWell holds (Some (Ok done)) = holds
 EndsWell holds (Some (Err e)) = ⊥
 
--- it goes on, or ends for this reason
-abbrev pub TalksOnUnless :
-    {S : Type 0} → Option Why → (ℕ → S → List ℕ → List ℕ → Type 0)
-    → (S → Cause → Type 0) → List ℕ → CacheValue → List HistoryEntry → List HistoryEntry → ℕ
-    → MemberValue S → Type 0
-TalksOnUnless None spoke over prefix opening history entries k m =
-    TalksOn spoke prefix opening history entries k m
-TalksOnUnless (Some why) spoke over prefix opening history entries k m =
-    MayEndNow spoke over prefix opening history entries k m.stream why
-
 -- each entry is of the connection
 abbrev pub AreOf : ℕ → List HistoryEntry → Type 0
 AreOf k entries = AllByRecursion (λ entry. entry_number entry ≡ k) entries
@@ -271,46 +239,69 @@ abbrev pub is_piece : HistoryEntry → Bool
 is_piece (Piece k bytes) = true
 is_piece other = false
 
--- entries of the connection alone led to the server, of which so many at most are pieces, and it
--- goes on, or ends
-pub record HasMovedOn
-    {S : Type 0} (most : ℕ) (end : Option Why)
-    (spoke : ℕ → S → List ℕ → List ℕ → Type 0) (over : S → Cause → Type 0) (prefix : List ℕ)
-    (opening : CacheValue) (history entries : List HistoryEntry) (k : ℕ) (m : MemberValue S)
-    (server : ServerValue) : Type 0 where
-  pub more : List HistoryEntry
-  pub theirs : AreOf k more
-  pub few : count_by is_piece more ≤ most
-  pub stands : ServerStands opening server (history ++ (entries ++ more))
-  pub same : server.prefix ≡ prefix
-  pub holds : TalksOnUnless end spoke over prefix opening history (entries ++ more) k m
+-- ---- what came over it, and what was sent
 
--- so it is whatever history had led to the server
-pub record MovesOn
-    {S : Type 0} (most : ℕ) (end : Option Why)
-    (spoke : ℕ → S → List ℕ → List ℕ → Type 0) (over : S → Cause → Type 0) (k : ℕ)
-    (old : ServerValue) (before : MemberValue S) (new : ServerValue) (after : MemberValue S)
-    : Type 0 where
-  pub on : (opening : CacheValue) (history entries : List HistoryEntry)
-      → ServerStands opening old (history ++ entries)
-      → TalksOn spoke old.prefix opening history entries k before
-      → HasMovedOn most end spoke over old.prefix opening history entries k after new
+-- `spoke` says of a stream which connection it is, what was read of it, and what was sent to it.
+module _
+    {S : Type 0} (spoke : ℕ → S → List ℕ → List ℕ → Type 0) (prefix : List ℕ)
+    (opening : CacheValue) (history entries : List HistoryEntry) (k : ℕ) where
+  -- it goes on: what was read and what was sent is as the entries say
+  pub record TalksOn (m : MemberValue S) : Type 0 where
+    pub read : List ℕ
+    pub sent : List ℕ
+    pub said : spoke k m.stream read sent
+    pub talks : Talks prefix opening history entries k read sent m.left m.unsent
 
--- some was read or sent, and nothing came to the server
-pub record Passes
-    {S : Type 0} (end : Option Why)
-    (spoke : ℕ → S → List ℕ → List ℕ → Type 0) (over : S → Cause → Type 0)
-    (before after : MemberValue S) : Type 0 where
-  pub on : (prefix : List ℕ) (opening : CacheValue) (history entries : List HistoryEntry) (k : ℕ)
-      → TalksOn spoke prefix opening history entries k before
-      → TalksOnUnless end spoke over prefix opening history entries k after
+  -- it may end, for this reason
+  pub record MayEndNow (over : S → Cause → Type 0) (stream : S) (why : Why) : Type 0 where
+    pub read : List ℕ
+    pub sent : List ℕ
+    pub left : List ℕ
+    pub unsent : List ℕ
+    pub said : spoke k stream read sent
+    pub talks : Talks prefix opening history entries k read sent left unsent
+    pub may : IsReason (over stream) (IsShut prefix k (history ++ entries)) left unsent why
 
--- so it is, where so many bytes of what wasn't sent were sent before it
-pub record PassesSent
-    {S : Type 0} (end : Option Why)
-    (spoke : ℕ → S → List ℕ → List ℕ → Type 0) (over : S → Cause → Type 0) (count : ℕ)
-    (before after : MemberValue S) : Type 0 where
-  pub left : end ≡ None → after.left ≡ before.left
-  pub unsent : end ≡ None → after.unsent ≡ drop count before.unsent
-  pub stays : Stays spoke before.stream after.stream
-  pub fails : FailsFor (λ e. over after.stream (Failed e)) end
+  -- it goes on, or ends for this reason
+  abbrev pub TalksOnUnless : (S → Cause → Type 0) → Option Why → MemberValue S → Type 0
+  TalksOnUnless over None m = TalksOn m
+  TalksOnUnless over (Some why) m = MayEndNow over m.stream why
+
+-- `over` says that it is over, and why.
+module _
+    {S : Type 0} (spoke : ℕ → S → List ℕ → List ℕ → Type 0) (over : S → Cause → Type 0) where
+  -- entries of the connection alone led to the server, of which so many at most are pieces, and it
+  -- goes on, or ends
+  pub record HasMovedOn
+      (most : ℕ) (end : Option Why) (prefix : List ℕ) (opening : CacheValue)
+      (history entries : List HistoryEntry) (k : ℕ) (m : MemberValue S) (server : ServerValue)
+      : Type 0 where
+    pub more : List HistoryEntry
+    pub theirs : AreOf k more
+    pub few : count_by is_piece more ≤ most
+    pub stands : ServerStands opening server (history ++ (entries ++ more))
+    pub same : server.prefix ≡ prefix
+    pub holds : TalksOnUnless spoke prefix opening history (entries ++ more) k over end m
+
+  -- so it is whatever history had led to the server
+  pub record MovesOn
+      (most : ℕ) (end : Option Why) (k : ℕ) (old : ServerValue) (before : MemberValue S)
+      (new : ServerValue) (after : MemberValue S) : Type 0 where
+    pub on : (opening : CacheValue) (history entries : List HistoryEntry)
+        → ServerStands opening old (history ++ entries)
+        → TalksOn spoke old.prefix opening history entries k before
+        → HasMovedOn most end old.prefix opening history entries k after new
+
+  -- some was read or sent, and nothing came to the server
+  pub record Passes (end : Option Why) (before after : MemberValue S) : Type 0 where
+    pub on : (prefix : List ℕ) (opening : CacheValue) (history entries : List HistoryEntry)
+        (k : ℕ) → TalksOn spoke prefix opening history entries k before
+        → TalksOnUnless spoke prefix opening history entries k over end after
+
+  -- so it is, where so many bytes of what wasn't sent were sent before it
+  pub record PassesSent (end : Option Why) (count : ℕ) (before after : MemberValue S)
+      : Type 0 where
+    pub left : end ≡ None → after.left ≡ before.left
+    pub unsent : end ≡ None → after.unsent ≡ drop count before.unsent
+    pub stays : Stays spoke before.stream after.stream
+    pub fails : FailsFor (λ e. over after.stream (Failed e)) end

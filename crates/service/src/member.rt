@@ -226,7 +226,7 @@ impl<S: Peer + Drop> Member<S> {
         leave: Leave,
         now: u64,
     ) -> Turn
-        ensures moves { MovesOn 16 (end_of result) S.spoke S.over number
+        ensures moves { MovesOn S.spoke S.over 16 (end_of result) number
             server.old self.old server.new self.new }
         ensures pauses { PausesFor S.full S.dry (HasNoLeave leave self.new.load) result self.new }
         ensures held { IsTrue self.new.held ↔ (result ≡ Turn.Held) }
@@ -264,7 +264,7 @@ impl<S: Peer + Drop> Member<S> {
         leave: Leave,
         now: u64,
     ) -> Turn
-        ensures moves { MovesOn 1 (end_of result) S.spoke S.over number
+        ensures moves { MovesOn S.spoke S.over 1 (end_of result) number
             server.old self.old server.new self.new }
         ensures pauses { PausesFor S.full S.dry (HasNoLeave leave self.new.load) result self.new }
         ensures bound { leave.answers ≡ false → server.new ≡ server.old }
@@ -376,7 +376,7 @@ impl<S: Peer + Drop> Member<S> {
         requires unsent { self.old.unsent ≡ [] }
         requires more { IsOpenAt (session_at server.old number) }
         requires some { self.old.left ≡ [] → ⊥ }
-        ensures moves { MovesOn 1 (end_of result) S.spoke S.over number
+        ensures moves { MovesOn S.spoke S.over 1 (end_of result) number
             server.old self.old server.new self.new }
         ensures pauses { PausesFor S.full S.dry ⊥ result self.new }
         ensures queued { self.new.queued ≡ self.old.queued }
@@ -410,7 +410,7 @@ impl<S: Peer + Drop> Member<S> {
         requires left { self.old.left ≡ [] }
         requires unsent { self.old.unsent ≡ [] }
         requires more { IsOpenAt (session_at server.old number) }
-        ensures moves { MovesOn 1 (end_of result) S.spoke S.over number
+        ensures moves { MovesOn S.spoke S.over 1 (end_of result) number
             server.old self.old server.new self.new }
         ensures pauses { PausesFor S.full S.dry ⊥ result self.new }
         ensures queued { self.new.queued ≡ self.old.queued }

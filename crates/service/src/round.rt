@@ -32,7 +32,7 @@ impl<S: Peer + Drop> Together<S> {
             (sockets.new, self.new.members.entries) }
         ensures seen { AreSeenTo S.full S.dry self.old → AreSeenTo S.full S.dry self.new }
         // Each that is queued has a turn.
-        ensures turns { TakesTurns S.spoke S.tried (length self.old.ready.items)
+        ensures turns { TakesTurns S.tried S.spoke (length self.old.ready.items)
             self.old self.new }
         // Who waits for others goes on once less is held.
         ensures goes { IsTrue self.old.scales.eased → self.new.held.items ≡ [] }
@@ -93,7 +93,7 @@ impl<S: Peer + Drop> Together<S> {
         number: u64,
         now: u64,
     ) -> Option<(Turn, bool)>
-        ensures some { IfSome result (λ out. MovesOnAt 16 (end_of out.0) S.spoke S.over
+        ensures some { IfSome result (λ out. MovesOnAt S.spoke S.over 16 (end_of out.0)
             number server.old self.old.members.entries server.new self.new.members.entries) }
         ensures wake { IfSome result (λ _. IfSome (member_at self.new.members.entries number) (λ m.
             self.new.wake

@@ -19,7 +19,7 @@ impl<S: Peer + Drop> Member<S> {
     /// Sends some of the answer.
     pub(super) fn send(&mut self, desk: &mut Desk, now: u64) -> Turn
         requires { self.old.unsent ≡ [] → ⊥ }
-        ensures passes { Passes (end_of result) S.spoke S.over self.old self.new }
+        ensures passes { Passes S.spoke S.over (end_of result) self.old self.new }
         ensures pauses { PausesFor S.full S.dry ⊥ result self.new }
         ensures queued { self.new.queued ≡ self.old.queued }
         ensures tried { result ≡ Turn.Again → S.tried self.new.stream now }
@@ -67,7 +67,7 @@ impl<S: Peer + Drop> Member<S> {
     fn pass(&mut self, count: usize) -> Turn
         requires within { count ≤ length self.old.unsent }
         requires over { count ≡ 0 → S.over self.old.stream (Failed ConnError.WriteFault) }
-        ensures passes { PassesSent (end_of result) S.spoke S.over count self.old self.new }
+        ensures passes { PassesSent S.spoke S.over (end_of result) count self.old self.new }
         ensures none { count ≡ 0 → result ≡ Turn.Ends (Err ConnError.WriteFault) }
         ensures some { 0 < count → result ≡ Turn.Again }
         ensures queued { self.new.queued ≡ self.old.queued }

@@ -13,7 +13,7 @@ returns-clause-some g c = record {
   others = λ j n. search rules;
   many = search rules;
   moves = moves_queued g.S.Peer.spoke g.S.Peer.over (end_of c.turn-turn.result) c.args.number c.args.server.now c.turn-turn.new.server c.in-Some.member.now c.turn-turn.new.self false
-      (subst (λ (z : MemberValue g.row.S.Denot). MovesOn 16 (end_of c.turn-turn.result) g.S.Peer.spoke g.S.Peer.over c.args.number c.args.server.now z c.turn-turn.new.server c.turn-turn.new.self) c.queue.ensures.is c.turn-turn.ensures.moves);
+      (subst (λ (z : MemberValue g.row.S.Denot). MovesOn g.S.Peer.spoke g.S.Peer.over 16 (end_of c.turn-turn.result) c.args.number c.args.server.now z c.turn-turn.new.server c.turn-turn.new.self) c.queue.ensures.is c.turn-turn.ensures.moves);
 }
 
 pub returns-clause-ahead : goal.returns-clause-ahead

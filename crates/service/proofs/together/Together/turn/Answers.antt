@@ -21,21 +21,21 @@ pub returns-in-Again-clause-keeps : goal.returns-in-Again-clause-keeps
 returns-in-Again-clause-keeps g c accepted =
     keeps_further
     (keeps_moved false g.S.Peer.spoke g.N.Sockets.ended g.N.Sockets.lost g.S.Peer.over c.args.self.now.members.entries c.advance.new.self.members.entries accepted c.args.server.now c.advance.new.server c.in-Some.number
-    (subst (λ t. MovesOnAt 16 (end_of t) g.S.Peer.spoke g.S.Peer.over c.in-Some.number c.args.server.now c.args.self.now.members.entries c.advance.new.server c.advance.new.self.members.entries) c.in-Again.is c.in-Some-advance.ensures.some))
+    (subst (λ t. MovesOnAt g.S.Peer.spoke g.S.Peer.over 16 (end_of t) c.in-Some.number c.args.server.now c.args.self.now.members.entries c.advance.new.server c.advance.new.self.members.entries) c.in-Again.is c.in-Some-advance.ensures.some))
     (keeps_queued false g.S.Peer.spoke g.N.Sockets.ended g.N.Sockets.lost c.in-Some.number c.advance.new.self.members.entries c.queue.new.self.members.entries accepted c.advance.new.server c.queue.ensures.at c.queue.ensures.others)
 
 pub returns-then-is_err-clause-keeps : goal.returns-then-is_err-clause-keeps
 returns-then-is_err-clause-keeps g c accepted =
     keeps_lost false g.S.Peer.spoke g.N.Sockets.ended g.N.Sockets.lost g.S.Peer.over c.args.self.now.members.entries c.advance.new.self.members.entries c.end.new.self.members.entries
     accepted c.args.server.now c.advance.new.server c.end.new.server c.in-Some.number
-    (subst (λ t. MovesOnAt 16 (end_of t) g.S.Peer.spoke g.S.Peer.over c.in-Some.number c.args.server.now c.args.self.now.members.entries c.advance.new.server c.advance.new.self.members.entries) c.in-Held.is c.in-Some-advance.ensures.some)
+    (subst (λ t. MovesOnAt g.S.Peer.spoke g.S.Peer.over 16 (end_of t) c.in-Some.number c.args.server.now c.args.self.now.members.entries c.advance.new.server c.advance.new.self.members.entries) c.in-Held.is c.in-Some-advance.ensures.some)
     c.end.ensures.ends
 
 pub returns-in-Ends-clause-keeps : goal.returns-in-Ends-clause-keeps
 returns-in-Ends-clause-keeps g c accepted =
     keeps_left false g.S.Peer.spoke g.N.Sockets.ended g.N.Sockets.lost g.S.Peer.over c.in-Ends.end c.args.self.now.members.entries c.advance.new.self.members.entries c.end-in-Ends.new.self.members.entries
     accepted c.args.server.now c.advance.new.server c.end-in-Ends.new.server c.in-Some.number
-    (subst (λ t. MovesOnAt 16 (end_of t) g.S.Peer.spoke g.S.Peer.over c.in-Some.number c.args.server.now c.args.self.now.members.entries c.advance.new.server c.advance.new.self.members.entries) c.in-Ends.is c.in-Some-advance.ensures.some)
+    (subst (λ t. MovesOnAt g.S.Peer.spoke g.S.Peer.over 16 (end_of t) c.in-Some.number c.args.server.now c.args.self.now.members.entries c.advance.new.server c.advance.new.self.members.entries) c.in-Ends.is c.in-Some-advance.ensures.some)
     c.end-in-Ends.ensures.ends
 
 pub returns-in-Again-clause-places : goal.returns-in-Again-clause-places
