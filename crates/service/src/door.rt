@@ -52,6 +52,15 @@ impl<S: Peer + Drop> Together<S> {
         ensures seen { AreSeenTo S.full S.dry self.old → AreSeenTo S.full S.dry self.new }
         ensures wake { AreSeenTo S.full S.dry self.old
             → WakesAfter now self.old.wake → WakesAfter now self.new.wake }
+        ensures rest { self.new ≡ record self.old {
+          members = self.new.members;
+          ready = self.new.ready;
+          short = self.new.short;
+          waits = self.new.waits;
+          retry = self.new.retry;
+          wake = self.new.wake;
+          line = self.new.line;
+        } }
     {
         self.try_again(now);
         for _ in 0..u64::MAX {
@@ -91,6 +100,15 @@ impl<S: Peer + Drop> Together<S> {
         ensures seen { AreSeenTo S.full S.dry self.old → AreSeenTo S.full S.dry self.new }
         ensures wake { AreSeenTo S.full S.dry self.old
             → WakesAfter now self.old.wake → WakesAfter now self.new.wake }
+        ensures rest { self.new ≡ record self.old {
+          members = self.new.members;
+          ready = self.new.ready;
+          short = self.new.short;
+          waits = self.new.waits;
+          retry = self.new.retry;
+          wake = self.new.wake;
+          line = self.new.line;
+        } }
     {
         let number = *accepted;
         let Some((stream, peer)) = self.next(rt, sockets, number, now)? else {

@@ -57,6 +57,12 @@ impl<S: Peer + Drop> Together<S> {
         ensures waits { self.new.waits
             ≡ (self.old.waits || list_any (λ e. is_none e.number) events.now) }
         ensures seen { AreSeenTo S.full S.dry self.old → AreSeenTo S.full S.dry self.new }
+        ensures rest { self.new ≡ record self.old {
+          members = self.new.members;
+          ready = self.new.ready;
+          short = self.new.short;
+          waits = self.new.waits;
+        } }
     {
         for event in events {
             self.note(event);
@@ -70,6 +76,12 @@ impl<S: Peer + Drop> Together<S> {
             self.old.members.entries self.new.members.entries }
         ensures waits { self.new.waits ≡ (self.old.waits || is_none event.now.number) }
         ensures seen { AreSeenTo S.full S.dry self.old → AreSeenTo S.full S.dry self.new }
+        ensures rest { self.new ≡ record self.old {
+          members = self.new.members;
+          ready = self.new.ready;
+          short = self.new.short;
+          waits = self.new.waits;
+        } }
     {
         let Some(number) = event.number else {
             self.waits = true;
@@ -86,8 +98,14 @@ impl<S: Peer + Drop> Together<S> {
         ensures free { AllByRecursion
             (λ k. IsFree now (member_at self.new.members.entries k)) self.old.held.items }
         ensures none { self.new.held.items ≡ [] }
-        ensures scales { self.new.scales ≡ self.old.scales }
         ensures seen { AreSeenTo S.full S.dry self.old → AreSeenTo S.full S.dry self.new }
+        ensures rest { self.new ≡ record self.old {
+          members = self.new.members;
+          ready = self.new.ready;
+          short = self.new.short;
+          held = self.new.held;
+          wake = self.new.wake;
+        } }
     {
         for _ in 0..self.held.len() {
             let Some(number) = self.held.pop_front() else {

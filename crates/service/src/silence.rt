@@ -41,6 +41,13 @@ impl<S: Peer + Drop> Together<S> {
             → AreHeavyInTime self.old.idle now self.new.members.entries }
         ensures late { EndLate self.old.idle now self.old.members.entries self.old.scales.load
             self.new.members.entries self.new.scales.load }
+        ensures rest { self.new ≡ record self.old {
+          members = self.new.members;
+          scales = self.new.scales;
+          waits = self.new.waits;
+          wake = self.new.wake;
+          line = self.new.line;
+        } }
     {
         if now < self.wake && !self.is_pressed() {
             return;
@@ -115,9 +122,14 @@ impl<S: Peer + Drop> Together<S> {
         ensures others { OthersAreSame number self.old.members.entries self.new.members.entries }
         ensures less { IfSome (member_at self.old.members.entries number) (λ m.
             self.new.scales.load ≡ load_after self.old.scales.load m.load no_load) }
-        ensures idle { self.new.idle ≡ self.old.idle }
         ensures seen { AreSeenTo S.full S.dry self.old → AreSeenTo S.full S.dry self.new }
         ensures little { HoldLittle self.old.scales.load → HoldLittle self.new.scales.load }
+        ensures rest { self.new ≡ record self.old {
+          members = self.new.members;
+          scales = self.new.scales;
+          waits = self.new.waits;
+          line = self.new.line;
+        } }
     {
         if let Some(why) = self.silence(server, number, deadline, now) {
             self.end(rt, sockets, server, number, why);

@@ -212,6 +212,12 @@ impl<S: Peer + Drop> Together<S> {
         ensures places { LeavesPlaced N.places (sockets.old, self.old.members.entries)
             (sockets.new, self.new.members.entries) }
         ensures short { OnOk result (self.old.short ≡ false) }
+        ensures rest { self.new ≡ record self.old {
+          members = self.new.members;
+          ready = self.new.ready;
+          short = self.new.short;
+          waits = self.new.waits;
+        } }
         ensures stops { IfErr result (λ e. N.broken e
             ⊎ ((self.old.short ≡ true) × (error_kind e ≡ OutOfMemory))) }
     {
@@ -247,6 +253,8 @@ impl<S: Peer + Drop> Together<S> {
         ensures within { accepted.new ≤ connections }
         ensures all { OnOk result (accepted.new ≡ connections) }
         ensures gone { OnOk result ((k : ℕ) → member_at self.new.members.entries k ≡ None) }
+        ensures share { self.new.share ≡ self.old.share }
+        ensures idle { self.new.idle ≡ self.old.idle }
         ensures stops { IfErr result
             (Stops N.failed N.refused N.broken (self.new.members.entries ≡ []) sockets.new) }
     {

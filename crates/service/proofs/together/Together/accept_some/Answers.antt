@@ -1,6 +1,7 @@
 use Rattle.std.specs.Prelude.{false}
-use Rattle.std.proofs.Common.{◌≡◌, inr, arith, true, length, sym, ◌∙◌, ap, subst, rules}
+use Rattle.std.proofs.Common.{◌≡◌, inr, arith, true, length, refl, sym, ◌∙◌, ap, subst, rules}
 use Rattle.service.specs.Together.{AreSame, WakesAfter, member_at}
+use Rattle.service.specs.declared.together.Together.{Together}
 use Rattle.service.proofs.Keeping.{keeps_further, keeps_same}
 use Rattle.service.proofs.Places.{placed_further, placed_still}
 use Rattle.service.proofs.Rounds.{counts_on}
@@ -21,6 +22,7 @@ loop-preserved g c = record {
   within = c.accept_one.ensures.within;
   again = λ was. c.accept_one.ensures.again (search rules);
   seen = λ seen. c.accept_one.ensures.seen (c.loop.invariant.seen seen);
+  rest = c.accept_one.ensures.rest ∙ ap (λ (z : Together g.row.S.Denot). let new = c.accept_one.new.self in record z { members = new.members; ready = new.ready; short = new.short; waits = new.waits; retry = new.retry; wake = new.wake; line = new.line }) c.loop.invariant.rest;
   wake = λ seen later. c.accept_one.ensures.wake (c.loop.invariant.seen seen) (c.loop.invariant.wake seen later);
 }
 
@@ -37,5 +39,6 @@ loop-init g c =
       within = c.requires;
       again = λ was shut. let z : false ≡ true = sym shut ∙ c.try_again.ensures.waits was in absurd cc;
       seen = seen_same g.S.Peer.full g.S.Peer.dry c.args.self.now c.try_again.new.self rest;
+      rest = subst (λ (z : Together g.row.S.Denot). z ≡ record c.args.self.now { members = z.members; ready = z.ready; short = z.short; waits = z.waits; retry = z.retry; wake = z.wake; line = z.line }) (sym rest) refl;
       wake = λ seen later. subst (λ w. WakesAfter c.args.now w) (sym (ap (λ z. z.wake) rest)) later;
     }

@@ -13,5 +13,6 @@ invariant-loop g l = record {
   within : l.accepted ≤ l.fn.connections;
   again : IsTrue l.fn.self.waits ⊎ (l.fn.self.retry ≤ l.fn.now) → l.self.waits ≡ false → FindsNone g.N.Sockets.refused l.sockets ⊎ (l.self.retry ≡ min (l.fn.now + 500) 18446744073709551615);
   seen : AreSeenTo g.S.Peer.full g.S.Peer.dry l.fn.self → AreSeenTo g.S.Peer.full g.S.Peer.dry l.self;
+  rest : l.self ≡ record l.fn.self { members = l.self.members; ready = l.self.ready; short = l.self.short; waits = l.self.waits; retry = l.self.retry; wake = l.self.wake; line = l.self.line };
   wake : AreSeenTo g.S.Peer.full g.S.Peer.dry l.fn.self → WakesAfter l.fn.now l.fn.self.wake → WakesAfter l.fn.now l.self.wake;
 }

@@ -8,6 +8,6 @@ invariant-loop g l = record {
   same : AreSameButHeld g.S.Peer.spoke l.fn.now l.fn.self.members.entries l.self.members.entries;
   free : AreFreeBut l.fn.now l.fn.self.held.items l.self.held.items l.self.members.entries;
   seen : AreSeenTo g.S.Peer.full g.S.Peer.dry l.fn.self → AreSeenTo g.S.Peer.full g.S.Peer.dry l.self;
-  scales : l.self.scales ≡ l.fn.self.scales;
+  rest : l.self ≡ record l.fn.self { members = l.self.members; ready = l.self.ready; short = l.self.short; held = l.self.held; wake = l.self.wake };
   many : l.counter + length l.self.held.items ≡ length l.fn.self.held.items;
 }

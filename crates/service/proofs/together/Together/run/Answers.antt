@@ -1,6 +1,6 @@
 use Rattle.std.specs.Prelude.{false}
 use Rattle.service.proofs.Keeping.{keeps_but_held, keeps_further}
-use Rattle.std.proofs.Common.{inl, refl, arith}
+use Rattle.std.proofs.Common.{inl, refl, ◌∙◌, arith}
 use Rattle.service.proofs.Places.{placed_further, placed_but_held}
 use Rattle.service.proofs.Rounds.{took_turns}
 use Rattle.service.proofs.Seeing.{seen_same}
@@ -13,6 +13,9 @@ loop-preserved g c = record {
   seen = λ seen. c.turn.ensures.seen (c.loop.invariant.seen seen);
   turns = OneTurn c.loop.counter _ c.args.self.now c.loop.self c.turn.new.self c.loop.invariant.turns c.turn.ensures.turns;
   eased = λ eased. c.turn.ensures.eased (c.loop.invariant.eased eased);
+  share = c.turn.ensures.share ∙ c.loop.invariant.share;
+  retry = c.turn.ensures.retry ∙ c.loop.invariant.retry;
+  idle = c.turn.ensures.idle ∙ c.loop.invariant.idle;
   places = λ all accepted. placed_further (c.loop.invariant.places all accepted) (c.turn.ensures.places all accepted);
 }
 
@@ -37,6 +40,9 @@ loop-init g c = record {
   seen = λ seen. seen;
   eased = λ eased. eased;
   places = λ all accepted. record { on = λ placed. placed };
+  share = refl;
+  retry = refl;
+  idle = refl;
 }
 
 pub returns-then-self-clause-turns : goal.returns-then-self-clause-turns

@@ -1,4 +1,4 @@
-use Rattle.std.proofs.Common.{false, ap, length}
+use Rattle.std.proofs.Common.{false, ap, length, ◌∙◌}
 use Rattle.service.specs.Together.{AreSame, member_at}
 use Rattle.service.proofs.Keeping.{keeps_same, keeps_further}
 use Rattle.service.proofs.Places.{placed_further, placed_still}
@@ -44,6 +44,8 @@ loop-preserved g c =
           (keeps_further (keeps_same false g.S.Peer.spoke g.N.Sockets.ended g.N.Sockets.lost _ _ n c.sweep.new.server shown) (keeps_further (c.pause.ensures.keeps c.sweep.new.server n) (c.run.ensures.keeps n)))));
       places = placed_further c.loop.invariant.places (placed_further (c.sweep.ensures.places c.args.at_once c.loop.accepted) (placed_further c.accept_some.ensures.places
           (placed_further (placed_still c.accept_some.new.sockets _ _ n shown) (placed_further (c.pause.ensures.places c.args.at_once n) (c.run.ensures.places c.args.at_once n)))));
+      share = c.run.ensures.share ∙ ap (λ z. z.share) c.pause.ensures.rest ∙ ap (λ z. z.share) c.show.ensures ∙ ap (λ z. z.share) c.accept_some.ensures.rest ∙ ap (λ z. z.share) c.sweep.ensures.rest ∙ c.loop.invariant.share;
+      idle = c.run.ensures.idle ∙ ap (λ z. z.idle) c.pause.ensures.rest ∙ ap (λ z. z.idle) c.show.ensures ∙ ap (λ z. z.idle) c.accept_some.ensures.rest ∙ ap (λ z. z.idle) c.sweep.ensures.rest ∙ c.loop.invariant.idle;
       within = c.accept_some.ensures.within;
       seen = c.run.ensures.seen c.pause.ensures.seen;
     }

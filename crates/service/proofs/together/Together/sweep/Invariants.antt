@@ -9,7 +9,7 @@ invariant-loop g l = record {
   keeps : (accepted : ℕ) → GoesOnTogether false g.S.Peer.spoke g.N.Sockets.ended g.N.Sockets.lost l.fn.self.members.entries accepted l.fn.server l.self.members.entries accepted l.server;
   places : LeavesPlaced g.N.Sockets.places (l.fn.sockets, l.fn.self.members.entries) (l.sockets, l.self.members.entries);
   seen : AreSeenTo g.S.Peer.full g.S.Peer.dry l.fn.self → AreSeenTo g.S.Peer.full g.S.Peer.dry l.self;
-  idle : l.self.idle ≡ l.fn.self.idle;
+  rest : l.self ≡ record l.fn.self { members = l.self.members; scales = l.self.scales; waits = l.self.waits; line = l.self.line };
   spares : (calm : Bool) → (calm ≡ true → HoldLittle l.fn.self.scales.load) → SparesInTime calm l.fn.self.idle l.fn.now l.fn.self.members.entries l.self.members.entries;
   late : EndLate l.fn.self.idle l.fn.now l.fn.self.members.entries l.fn.self.scales.load l.self.members.entries l.self.scales.load;
   little : HoldLittle l.fn.self.scales.load → HoldLittle l.self.scales.load;
