@@ -8,7 +8,7 @@ use Rattle.blob_source.specs.declared.source.FetchError.TheVariants as refusals
 use Rattle.remote.specs.Line.{ConnectionValue, RefusesRequest}
 use Rattle.remote.specs.declared.fault.Fault.{Fault}
 use Rattle.commands.specs.Faults.{IsServerFault, OrMemory, TellsFailure, kept_failure}
-use Rattle.commands.specs.Places.{Access, Carries, Comes, FailsOver, KeepsRefused, MaySend, RefusesAt, gets_alone, puts_blobs, request_of}
+use Rattle.commands.specs.Places.{Access, Carries, Comes, FailsOver, KeepsRefused, MaySend, RefusesAt, gets_alone, request_of}
 use Rattle.commands.specs.Places.Comes.{fresh}
 use Rattle.commands.specs.PutRefused.{RefusesPut}
 use Rattle.commands.specs.declared.error.CommandError.{CommandError}
@@ -80,10 +80,9 @@ get_refused T start new address d before fault refusal e = refused_by T (Refuses
     (λ f refused is told. record { fault = f; why = record { old = start; new = new; before = fresh; sent = refl; is = refused; kept = is }; told = told }) before fault refusal
 
 -- a blob that is put
-pub blob_refused : (start old new : ConnectionValue) (address bytes : List ℕ) (before : Option Failure) (fault : Option Fault) (refusal : FetchError)
-    (e : CommandError) → ∥ Comes puts_blobs start old ∥₁ → RefusesRequest old new (request_of PutBlob (digest_of bytes).hash bytes) refusal → new.fault ≡ fault
-    → TellsFailure address (kept_failure {T = DigestValue} before PutBlob (digest_of bytes) (Err refusal) fault) refusal e → OrMemory (λ x. ∥ RefusesPut start address bytes x ∥₁) e
-blob_refused start old new address bytes before fault refusal e came =
-    refused_by DigestValue (λ x. ∥ RefusesPut start address bytes x ∥₁) old new address PutBlob (digest_of bytes) bytes e
-    (λ f refused is told. ∥∥₁_map came (λ comes. record { fault = f; why = record { old = old; new = new; before = comes; sent = refl; is = refused; kept = is }; told = told }))
-    before fault refusal
+pub blob_refused : (old new : ConnectionValue) (address bytes : List ℕ) (before : Option Failure) (fault : Option Fault) (refusal : FetchError)
+    (e : CommandError) → RefusesRequest old new (request_of PutBlob (digest_of bytes).hash bytes) refusal → new.fault ≡ fault
+    → TellsFailure address (kept_failure {T = DigestValue} before PutBlob (digest_of bytes) (Err refusal) fault) refusal e → OrMemory (RefusesPut old address bytes) e
+blob_refused old new address bytes before fault refusal e =
+    refused_by DigestValue (RefusesPut old address bytes) old new address PutBlob (digest_of bytes) bytes e
+    (λ f refused is told. record { new = new; fault = f; is = refused; kept = is; told = told }) before fault refusal

@@ -5,8 +5,7 @@ use Rattle.blob_digest.specs.Digest.{digest_of}
 use Rattle.blob_source.specs.declared.source.FetchError.{FetchError}
 use Rattle.http_core.specs.declared.event.Area.TheVariants.{Cas}
 use Rattle.remote.specs.Line.{ConnectionValue, Puts}
-use Rattle.commands.specs.Places.{Access, Comes}
-use Rattle.commands.specs.Put.{TakesBlob}
+use Rattle.commands.specs.Places.{Access, Comes, TakesBlob}
 
 pub taken_by_put : {T : Type 0} (access : Access) (start old new : ConnectionValue) (bytes : List ℕ) (result : Result T FetchError)
     → OnOk result (Puts old new Cas (digest_of bytes).hash bytes) → ∥ Comes access start old ∥₁ → OnOk result (∥ TakesBlob access start bytes ∥₁)

@@ -1,6 +1,8 @@
 -- What is seen of a client.
 use Rattle.std.specs.Prelude.{Option}
 use Rattle.std.specs.declared.alloc.Global.{Global}
+use Rattle.remote.specs.Line.{ConnectionValue}
+use Rattle.remote.specs.Remote.{connection_of}
 use Rattle.remote.specs.declared.remote.Remote.{Remote}
 use Rattle.remote.specs.declared.stream.Stream as streams
 use Rattle.commands.specs.declared.client.Client.{Client}
@@ -17,3 +19,7 @@ module _ {S K U : Type 0} {stream : streams.Ghosts S} {opened : openings.Ghosts 
   -- its request that failed last
   abbrev pub failed_request : Client S K U stream opened permit → Option Failure
   failed_request c = c.failure
+
+  -- how its connection stands
+  abbrev pub connection : Client S K U stream opened permit → ConnectionValue
+  connection c = connection_of stream.flow c.remote

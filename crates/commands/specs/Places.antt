@@ -183,6 +183,14 @@ pub record CameOver (access : Access) (start : ConnectionValue) (area : Area)
   pub is : Gets old new area hash (Some bytes)
       ⊎ (MaySend access (put area hash bytes) × Puts old new area hash bytes)
 
+-- the server took a PUT of this blob over the connection, which was opened so
+pub record TakesBlob (access : Access) (start : ConnectionValue) (bytes : List ℕ)
+    : Type 0 where
+  pub old : ConnectionValue
+  pub new : ConnectionValue
+  pub before : Comes access start old
+  pub is : Puts old new Cas (digest_of bytes).hash bytes
+
 abbrev pub CameAllOver : Access → ConnectionValue → Area → Blobs → Type 0
 CameAllOver access start area told =
     (d : DigestValue) (b : List ℕ) → told d ≡ Some b → CameOver access start area d.hash b

@@ -6,8 +6,8 @@ ghost use Rattle.blob_source.specs.Source.{AsksBlob, AsksResult, bytes_of};
 ghost use Rattle.commands.specs.Faults.{OrMemory, TellsFailure, kept_failure};
 ghost use Rattle.commands.specs.Places.{AreLacked, FailsOver, FailsToConnect, IsClientOver};
 ghost use Rattle.commands.specs.Places.{IsConnected, IsFresh, KeepsRefused, LacksIt, LacksOver};
-ghost use Rattle.commands.specs.Places.{puts_blobs, puts_too};
-ghost use Rattle.commands.specs.Put.{TakesBlob};
+ghost use Rattle.commands.specs.Places.{TakesBlob, puts_too};
+ghost use Rattle.commands.specs.Put.{PutsNext};
 ghost use Rattle.commands.specs.PutRefused.{RefusesPut};
 ghost use Rattle.commands.specs.Status.{exit_status};
 ghost use Rattle.http_core.specs.declared.event.Area.TheVariants.{Ac, Cas};
@@ -87,6 +87,8 @@ pub struct Client<S: Stream + Drop, K: Opened, U: Permit> {
 }
 
 impl<S: Stream + Drop, K: Opened> Client<S, K, PutsBlobs> {
+    ghost use Rattle.commands.specs.Client.{connection};
+
     /// Puts a blob that isn't asked for again.
     pub(crate) fn put(
         &mut self,
@@ -95,9 +97,10 @@ impl<S: Stream + Drop, K: Opened> Client<S, K, PutsBlobs> {
         bytes: &[u8],
     ) -> Result<Digest, CommandError>
         ensures named { IfOk result (λ digest. digest ≡ digest_of bytes.now) }
-        ensures taken { OnOk result (∥ TakesBlob puts_blobs K.start bytes.now ∥₁) }
+        ensures taken { OnOk result
+            (PutsNext (connection self.old) (connection self.new) bytes.now) }
         ensures refused { IfErr result (OrMemory
-            (λ e. ∥ RefusesPut K.start (string_bytes server.now.address) bytes.now e ∥₁)) }
+            (RefusesPut (connection self.old) (string_bytes server.now.address) bytes.now)) }
     {
         let put = self.remote.send_blob(alloc, bytes);
         let digest = digest_put(&put, bytes);

@@ -3,6 +3,7 @@ ghost use Rattle.std.specs.Prelude.{OnErr, OnOk, min, string_bytes};
 ghost use Rattle.std.specs.Io.KnownBytes.{Appends};
 ghost use Rattle.blob_digest.specs.Text.{digest_text};
 ghost use Rattle.clap.specs.Words.{found_of, rows_of};
+ghost use Rattle.commands.specs.Client.{connection};
 ghost use Rattle.commands.specs.Places.{IsFresh};
 ghost use Rattle.commands.specs.Printed.{BeginsDigest, PrintsDigest};
 ghost use Rattle.commands.specs.Put.{IsPutAt, PutsPath, StandsAs};
@@ -82,10 +83,11 @@ impl<W: Inputs> Uploader<'_, W> {
         place: &str,
     ) -> Result<Digest, CommandError>
         ensures put { IfOk result (λ digest. (left : ℕ)
-            → IsPutAt W.sees K.start (suc left) place.now (nodes.File digest false)) }
+            → IsPutAt W.sees (suc left) place.now (nodes.File digest false)
+            (connection client.old) (connection client.new)) }
         ensures refused { IfErr result (OrMemory (λ e. (left : ℕ)
-            → FailsHere W.sees K.start (string_bytes self.now.server.now.address) left
-            place.now e)) }
+            → FailsHere W.sees (string_bytes self.now.server.now.address) left place.now
+            (connection client.old) e)) }
         ensures counted { OnOk result
             (P.files progress.new ≡ min (P.files progress.old + 1) 18446744073709551615) }
         ensures sized { IfOk result (λ digest. P.size progress.new
@@ -109,9 +111,11 @@ impl<W: Inputs> Uploader<'_, W> {
     ) -> Result<Node<Global>, CommandError>
         ensures stands { IfOk result (λ node. StandsAs W.sees place.now (node_value node)) }
         ensures put { IfOk result
-            (λ node. IsPutAt W.sees K.start (suc levels_left) place.now (node_value node)) }
-        ensures refused { IfErr result (OrMemory (λ e. FailsBelow W.sees K.start
-            (string_bytes self.now.server.now.address) e levels_left place.now)) }
+            (λ node. IsPutAt W.sees (suc levels_left) place.now (node_value node)
+            (connection client.old) (connection client.new)) }
+        ensures refused { IfErr result (OrMemory (λ e. FailsBelow W.sees
+            (string_bytes self.now.server.now.address) e levels_left place.now
+            (connection client.old))) }
     {
         let found = self.world.look(self.alloc, place)?;
         let node = match found {
@@ -138,9 +142,11 @@ impl<W: Inputs> Uploader<'_, W> {
         levels_left: u32,
     ) -> Result<Digest, CommandError>
         ensures put { IfOk result
-            (λ digest. IsPutAt W.sees K.start (suc levels_left) place.now (nodes.Dir digest)) }
-        ensures refused { IfErr result (OrMemory (λ e. FailsBelow W.sees K.start
-            (string_bytes self.now.server.now.address) e levels_left place.now)) }
+            (λ digest. IsPutAt W.sees (suc levels_left) place.now (nodes.Dir digest)
+            (connection client.old) (connection client.new)) }
+        ensures refused { IfErr result (OrMemory (λ e. FailsBelow W.sees
+            (string_bytes self.now.server.now.address) e levels_left place.now
+            (connection client.old))) }
     {
         let alloc = self.alloc;
         let names = self.world.list(alloc, place)?;
@@ -173,8 +179,8 @@ fn put_over<W: Inputs, K: Opened, P: Counter>(
     requires start { K.start ≡ connection_of W.Link.flow remote }
     requires fresh { IsFresh remote }
     ensures put { IfOk result (PutsPath W.sees K.start (string_bytes place)) }
-    ensures refused { IfErr result (OrMemory (λ e. FailsBelow W.sees K.start
-        (string_bytes server.now.address) e 64 (string_bytes place))) }
+    ensures refused { IfErr result (OrMemory (λ e. FailsBelow W.sees
+        (string_bytes server.now.address) e 64 (string_bytes place) K.start)) }
 {
     let mut client: Client<W::Link, K, PutsBlobs> = Client::new(remote);
     let uploader = Uploader {

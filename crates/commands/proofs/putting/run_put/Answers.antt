@@ -44,10 +44,10 @@ returns-in_err-digest-clause-refused g c =
     let options = rows_of (found_of c.args.matches.now) in
     let start = connection_of g.W.Link.Stream.flow c.in_ok-remote.remote in
     exit_by (FailsPut sees options) _ c.from_residual-in_err-digest.ensures.1
-    (or_memory (λ x. FailsBelow sees start (option_text options (codes "server")) x 64 (option_text options (codes "path"))) (FailsPut sees options) _ in_memory
+    (or_memory (λ x. FailsBelow sees (option_text options (codes "server")) x 64 (option_text options (codes "path")) start) (FailsPut sees options) _ in_memory
     (in_path start (starts_put sees options c.in_ok-server.server start c.in_ok-server.ensures.server c.in_ok-remote.ensures.opened c.in_ok-server.ensures.checked))
-    (subst (λ a. OrMemory (λ x. FailsBelow sees start a x 64 (option_text options (codes "path"))) c.in_err-digest.field-0.0) c.in_ok-server.ensures.server.address
-    (subst (λ p. OrMemory (λ x. FailsBelow sees start (string_bytes c.in_ok-server.server.address) x 64 p) c.in_err-digest.field-0.0) (c.in_ok-place.ensures.ok ∙ c.text_of.ensures) c.in_err-digest.ensures.refused)))
+    (subst (λ a. OrMemory (λ x. FailsBelow sees a x 64 (option_text options (codes "path")) start) c.in_err-digest.field-0.0) c.in_ok-server.ensures.server.address
+    (subst (λ p. OrMemory (λ x. FailsBelow sees (string_bytes c.in_ok-server.server.address) x 64 p start) c.in_err-digest.field-0.0) (c.in_ok-place.ensures.ok ∙ c.text_of.ensures) c.in_err-digest.ensures.refused)))
 
 pub returns-in_err-print_digest-clause-refused : goal.returns-in_err-print_digest-clause-refused
 returns-in_err-print_digest-clause-refused g c =

@@ -8,9 +8,8 @@ use Rattle.remote.specs.Table.{told_by}
 use Rattle.commands.specs.Faults.{TellsFailure, kept_failure}
 use Rattle.commands.specs.Places.{CameAllOver, KeepsRefused, puts_blobs}
 use Rattle.commands.specs.declared.failure.Method.TheVariants.{PutBlob}
-use Rattle.commands.specs.Put.{TakesBlob}
+use Rattle.commands.specs.Put.{PutsNext}
 use Rattle.commands.proofs.Failures.{blob_refused, keeps_after}
-use Rattle.commands.proofs.Taken.{taken_by_put}
 use Rattle.commands.proofs.Tellings.{LacksAllOver, comes_by_blob, same_put}
 use Rattle.commands.proofs.client.Client+S+K+PutsBlobs.put.Goals as goal
 
@@ -49,9 +48,7 @@ invariant_of-self g c =
 pub returns-in-Ok-clause-taken : goal.returns-in-Ok-clause-taken
 returns-in-Ok-clause-taken g c =
     let flow = g.S.Stream.flow in
-    subst (λ r. OnOk r (∥ TakesBlob puts_blobs g.K.Opened.start c.args.bytes.now ∥₁)) c.in-Ok.is
-    (taken_by_put puts_blobs g.K.Opened.start (connection_of flow c.args.self.now.remote) (connection_of flow c.send_blob-put.new.self) c.args.bytes.now c.send_blob-put.result
-    c.send_blob-put.ensures.sent.taken (∥∥₁_map c.args.self.now.over (λ over. over.came)))
+    subst (λ r. OnOk r (PutsNext (connection_of flow c.args.self.now.remote) (connection_of flow c.send_blob-put.new.self) c.args.bytes.now)) c.in-Ok.is c.send_blob-put.ensures.sent.taken
 
 pub returns-in_ok-error-in-Err-clause-refused : goal.returns-in_ok-error-in-Err-clause-refused
 returns-in_ok-error-in-Err-clause-refused g c =
@@ -65,6 +62,6 @@ returns-in_ok-error-in-Err-clause-refused g c =
     c.digest_put-digest.ensures c.keep_failure.ensures) in
     let old = connection_of flow c.args.self.now.remote in
     let new = connection_of flow c.send_blob-put.new.self in
-    blob_refused g.K.Opened.start old new address bytes c.args.self.now.failure c.last_fault-fault.result refusal e (∥∥₁_map c.args.self.now.over (λ over. over.came))
+    blob_refused old new address bytes c.args.self.now.failure c.last_fault-fault.result refusal e
     (subst (λ r. IfErr r (RefusesRequest old new (put Cas (digest_of bytes).hash bytes))) c.in-Err.is c.send_blob-put.ensures.sent.refused)
     (sym c.last_fault-fault.ensures) (subst (λ f. TellsFailure address f refusal e) kept c.in_ok-error-in-Err.ensures.error)
