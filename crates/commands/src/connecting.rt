@@ -1,13 +1,12 @@
 ghost use Rattle.std.specs.Prelude.{◌≡◌, ◌∷◌, [], IfOk, IsTrue, OnErr, OnOk, codes, string_bytes};
-ghost use Rattle.std.specs.Io.{ReadsAtMost, WritesAtMost};
 ghost use Rattle.std.specs.Io.Buffered.{reader_buffer, reader_inner};
-ghost use Rattle.std.specs.Io.KnownBytes.{ReadConsumes, WriteAppends};
 ghost use Rattle.clap.specs.Words.{found_of, rows_of};
 ghost use Rattle.command_lines.specs.CommandLine.{option_text};
 ghost use Rattle.commands.specs.Options.{IsServerOf, IsTimeout, number_or};
 ghost use Rattle.commands.specs.Words.{IsCheckedBy, has_prefix, has_timeout, names_server};
 ghost use Rattle.commands.specs.Words.{server_words};
 
+use crate::again::{read_again, write_again};
 use crate::error::CommandError;
 use crate::options::{invalid_value, is_address, limit_of, number_in};
 use clap::ArgMatches;
@@ -16,7 +15,7 @@ use http_core::{Host, Prefix};
 use remote::Stream;
 use std::alloc::Global;
 use std::io;
-use std::io::{BufRead, BufReader, ErrorKind, Read, Write};
+use std::io::{BufRead, BufReader, ErrorKind};
 use std::net::{Net, SocketAddr, TcpStream, ToSocketAddrs};
 use std::time::Duration;
 
@@ -141,38 +140,6 @@ fn is_quiet(reader: &BufReader<TcpStream>) -> bool
     ensures { IsTrue result → reader_buffer reader.now ≡ [] }
 {
     reader.buffer().is_empty() && reader.get_ref().is_open()
-}
-
-/// How often a system call that a signal interrupted is made again.
-const BROKEN_OFF: u32 = 1000;
-
-/// Reads, and reads again where a signal interrupted that: nothing was read then. (A process that
-/// was stopped and goes on sees that, since the socket has a limit on silence.)
-fn read_again<T: Read>(reader: &mut T, buf: &mut [u8]) -> io::Result<usize>
-    ensures bound { ReadsAtMost result buf.new }
-    ensures bytes { ReadConsumes (T.remaining reader.old) (T.remaining reader.new) result buf.new }
-{
-    for _ in 0..BROKEN_OFF {
-        match reader.read(buf) {
-            Err(fault) if fault.kind() == ErrorKind::Interrupted => {}
-            done => return done,
-        }
-    }
-    Err(io::Error::from(ErrorKind::Interrupted))
-}
-
-/// Writes, and writes again where a signal interrupted that.
-fn write_again<T: Write>(writer: &mut T, buf: &[u8]) -> io::Result<usize>
-    ensures bound { WritesAtMost result buf.now }
-    ensures bytes { WriteAppends (T.contents writer.old) (T.contents writer.new) result buf.now }
-{
-    for _ in 0..BROKEN_OFF {
-        match writer.write(buf) {
-            Err(fault) if fault.kind() == ErrorKind::Interrupted => {}
-            done => return done,
-        }
-    }
-    Err(io::Error::from(ErrorKind::Interrupted))
 }
 
 /// A connection to a server, which is opened anew where the server has closed it. It reads ahead,

@@ -2,6 +2,7 @@
 //! command stands on: its errors and statuses, files, digests in options, a client of a server.
 #![tactic(auto)]
 
+mod again;
 mod children;
 mod client;
 mod connecting;

@@ -7,6 +7,7 @@ ghost use Rattle.commands.specs.Status.{exit_status};
 ghost use Rattle.commands.specs.Told.{AppendsPart, IsNoStoreText, IsNoteText, TellsNote, TellsOf};
 ghost use Rattle.commands.specs.Told.{in_one_line, line_after, no_blob_text};
 
+use crate::again::write_again;
 use crate::ended::Note;
 use crate::error::CommandError;
 use crate::error_text::{error_text, of_path};
@@ -22,25 +23,14 @@ pub(crate) fn write_bytes<O: Write>(out: &mut O, bytes: &[u8]) -> Result<(), Com
     ensures output { IfErr result IsPrintFault }
 {
     let mut rest = bytes;
-    for _ in 0..u64::MAX {
-        if rest.is_empty() {
-            return Ok(());
-        }
-        match out.write(rest) {
+    while !rest.is_empty() {
+        match write_again(out, rest) {
             Ok(0) => return Err(CommandError::Output(ErrorKind::WriteZero.into())),
             Ok(count) => rest = &rest[count..],
-            Err(fault) => {
-                if fault.kind() != ErrorKind::Interrupted {
-                    return Err(CommandError::Output(fault));
-                }
-            }
+            Err(fault) => return Err(CommandError::Output(fault)),
         }
     }
-    if rest.is_empty() {
-        Ok(())
-    } else {
-        Err(CommandError::Output(ErrorKind::Interrupted.into()))
-    }
+    Ok(())
 }
 
 /// The text in one line: a space stands for each newline.

@@ -1,5 +1,5 @@
 use Rattle.std.specs.Io.KnownBytes.{Keeps}
-use Rattle.commands.proofs.connecting.write_again.Given as goal
+use Rattle.commands.proofs.again.write_again.Given as goal
 
 -- nothing was written so far
 abbrev pub invariant-loop : goal.invariant-loop

@@ -1,5 +1,5 @@
 use Rattle.std.specs.Io.KnownBytes.{Keeps}
-use Rattle.commands.proofs.connecting.read_again.Given as goal
+use Rattle.commands.proofs.again.read_again.Given as goal
 
 -- nothing was read so far
 abbrev pub invariant-loop : goal.invariant-loop

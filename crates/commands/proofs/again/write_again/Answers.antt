@@ -1,5 +1,5 @@
 use Rattle.std.proofs.KnownBytes.{Keeps-refl, Keeps-trans}
-use Rattle.commands.proofs.connecting.write_again.Goals as goal
+use Rattle.commands.proofs.again.write_again.Goals as goal
 
 pub loop-init : goal.loop-init
 loop-init g c = Keeps-refl (g.T.Write.contents c.args.writer.now)

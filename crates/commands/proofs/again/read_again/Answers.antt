@@ -1,5 +1,5 @@
 use Rattle.std.proofs.KnownBytes.{Keeps-refl, Keeps-trans}
-use Rattle.commands.proofs.connecting.read_again.Goals as goal
+use Rattle.commands.proofs.again.read_again.Goals as goal
 
 pub loop-init : goal.loop-init
 loop-init g c = Keeps-refl (g.T.Read.remaining c.args.reader.now)
