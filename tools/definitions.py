@@ -14,7 +14,7 @@ import textwrap
 
 from harness import TOP, words_of
 
-HEAD = re.compile(r"(?:abbrev|unfoldable|data|record|syntax)\s+pub\s+(\S+)|pub\s+(?:data|record|abbrev)\s+(\S+)")
+HEAD = re.compile(r"\s*(?:(?:abbrev|unfoldable|data|record|syntax)\s+pub\s+(\S+)|pub\s+(?:data|record|abbrev)\s+(\S+))")
 
 
 class Definition:
@@ -32,11 +32,12 @@ def crates_in_order():
 
 
 def comment_above(lines, at):
-    """The comment that stands right above a line."""
+    """The comment that stands right above a line, which may be in a section (`module _`)."""
+    above = [line.strip() for line in lines[:at]]
     first = at
-    while first > 0 and lines[first - 1].startswith("--") and not lines[first - 1].startswith("-- ----"):
+    while first > 0 and above[first - 1].startswith("--") and not above[first - 1].startswith("-- ----"):
         first -= 1
-    return " ".join(line[2:].strip() for line in lines[first:at])
+    return " ".join(line[2:].strip() for line in above[first:])
 
 
 def definitions_of(crate, file):
