@@ -31,6 +31,7 @@ impl<S: Peer + Drop> Together<S> {
             (sockets.new, self.new.members.entries) }
         ensures again { IsSome (member_at self.old.members.entries number)
             → IsTrue self.new.waits }
+        ensures waits { IsTrue self.old.waits → IsTrue self.new.waits }
         ensures load { IfSome (member_at self.old.members.entries number) (λ m.
             self.new.scales.load ≡ load_after self.old.scales.load m.load no_load) }
         ensures fewer { IsSome (member_at self.old.members.entries number)

@@ -37,6 +37,7 @@ impl<S: Peer + Drop> Together<S> {
         // Who waits for others goes on once less is held.
         ensures goes { IsTrue self.old.scales.eased → self.new.held.items ≡ [] }
         ensures over { self.new.scales.eased ≡ false }
+        ensures waits { IsTrue self.old.waits → IsTrue self.new.waits }
         ensures share { self.new.share ≡ self.old.share }
         ensures retry { self.new.retry ≡ self.old.retry }
         ensures idle { self.new.idle ≡ self.old.idle }
@@ -69,6 +70,7 @@ impl<S: Peer + Drop> Together<S> {
         ensures seen { AreSeenTo S.full S.dry self.old → AreSeenTo S.full S.dry self.new }
         ensures eased { IsTrue self.old.scales.eased → IsTrue self.new.scales.eased }
         ensures turns { HasTurn S.tried now self.old self.new }
+        ensures waits { IsTrue self.old.waits → IsTrue self.new.waits }
         ensures share { self.new.share ≡ self.old.share }
         ensures retry { self.new.retry ≡ self.old.retry }
         ensures idle { self.new.idle ≡ self.old.idle }

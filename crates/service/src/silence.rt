@@ -41,6 +41,7 @@ impl<S: Peer + Drop> Together<S> {
             → AreHeavyInTime self.old.idle now self.new.members.entries }
         ensures late { EndLate self.old.idle now self.old.members.entries self.old.scales.load
             self.new.members.entries self.new.scales.load }
+        ensures waits { IsTrue self.old.waits → IsTrue self.new.waits }
         ensures rest { self.new ≡ record self.old {
           members = self.new.members;
           scales = self.new.scales;
@@ -124,6 +125,7 @@ impl<S: Peer + Drop> Together<S> {
             self.new.scales.load ≡ load_after self.old.scales.load m.load no_load) }
         ensures seen { AreSeenTo S.full S.dry self.old → AreSeenTo S.full S.dry self.new }
         ensures little { HoldLittle self.old.scales.load → HoldLittle self.new.scales.load }
+        ensures waits { IsTrue self.old.waits → IsTrue self.new.waits }
         ensures rest { self.new ≡ record self.old {
           members = self.new.members;
           scales = self.new.scales;

@@ -13,6 +13,7 @@ loop-preserved g c = record {
   seen = λ seen. c.turn.ensures.seen (c.loop.invariant.seen seen);
   turns = OneTurn c.loop.counter _ c.args.self.now c.loop.self c.turn.new.self c.loop.invariant.turns c.turn.ensures.turns;
   eased = λ eased. c.turn.ensures.eased (c.loop.invariant.eased eased);
+  waits = λ was. c.turn.ensures.waits (c.loop.invariant.waits was);
   share = c.turn.ensures.share ∙ c.loop.invariant.share;
   retry = c.turn.ensures.retry ∙ c.loop.invariant.retry;
   idle = c.turn.ensures.idle ∙ c.loop.invariant.idle;
@@ -40,6 +41,7 @@ loop-init g c = record {
   seen = λ seen. seen;
   eased = λ eased. eased;
   places = λ all accepted. record { on = λ placed. placed };
+  waits = λ was. was;
   share = refl;
   retry = refl;
   idle = refl;

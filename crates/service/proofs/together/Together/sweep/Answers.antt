@@ -16,6 +16,7 @@ loop-preserved g c = record {
   places = λ all accepted. placed_further (c.loop.invariant.places all accepted) (c.give_up.ensures.places all accepted);
   seen = λ seen. c.give_up.ensures.seen (c.loop.invariant.seen seen);
   rest = c.give_up.ensures.rest ∙ ap (λ (z : Together g.row.S.Denot). let new = c.give_up.new.self in record z { members = new.members; scales = new.scales; waits = new.waits; line = new.line }) c.loop.invariant.rest;
+  waits = λ was. c.give_up.ensures.waits (c.loop.invariant.waits was);
   spares = λ calm few. spares_on calm c.args.self.now.idle c.loop.self.idle c.is_pressed-pressed.result c.args.now c.in-Err.number c.in-Err.deadline
       c.args.self.now.members.entries c.loop.self.members.entries c.give_up.new.self.members.entries
       (λ is. is_calm c.loop.self.members.entries c.loop.self.scales.load c.is_pressed-pressed.result c.is_pressed-pressed.ensures.answers (c.loop.invariant.little (few is)))

@@ -1,4 +1,4 @@
-use Rattle.std.specs.Prelude.{Bool, false, true}
+use Rattle.std.specs.Prelude.{Bool, IsTrue, false, true}
 use Rattle.std.proofs.Common.{◌≡◌, ℕ, ◌+◌, length}
 use Rattle.service.specs.Rounds.{EndLate}
 use Rattle.service.specs.Together.{AreSeenTo, GoesOnTogether, HoldLittle, LeavesPlaced, SparesInTime}
@@ -10,6 +10,7 @@ invariant-loop g l = record {
   places : LeavesPlaced g.N.Sockets.places (l.fn.sockets, l.fn.self.members.entries) (l.sockets, l.self.members.entries);
   seen : AreSeenTo g.S.Peer.full g.S.Peer.dry l.fn.self → AreSeenTo g.S.Peer.full g.S.Peer.dry l.self;
   rest : l.self ≡ record l.fn.self { members = l.self.members; scales = l.self.scales; waits = l.self.waits; line = l.self.line };
+  waits : IsTrue l.fn.self.waits → IsTrue l.self.waits;
   spares : (calm : Bool) → (calm ≡ true → HoldLittle l.fn.self.scales.load) → SparesInTime calm l.fn.self.idle l.fn.now l.fn.self.members.entries l.self.members.entries;
   late : EndLate l.fn.self.idle l.fn.now l.fn.self.members.entries l.fn.self.scales.load l.self.members.entries l.self.scales.load;
   little : HoldLittle l.fn.self.scales.load → HoldLittle l.self.scales.load;
