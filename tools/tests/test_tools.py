@@ -88,10 +88,11 @@ class Tools(unittest.TestCase):
                 self.refuse(2, f"tools/{tool}", "word")
 
     def test_definitions(self):
-        """Each public word of specs/ is found, whatever keyword it begins with."""
+        """Each public word of specs/ is found, whatever keyword it begins with, in sections too. (A record's fields are none.)"""
+        head = r"^(?:(?:\w+ )?pub (?!mod |use )| +(?:\w+ pub |pub (?:data|record|abbrev) ))"
         for file in glob.glob(f"{TOP}/crates/*/specs/*.antt"):
             with open(file, encoding="utf-8") as text:
-                words = re.findall(r"^(?:\w+ )?pub (?!mod |use )", text.read(), re.M)
+                words = re.findall(head, text.read(), re.M)
             crate, name = file.split("/")[-3], os.path.basename(file)
             self.assertEqual(len(words), len(definitions.definitions_of(crate, name)[1]), file)
 
