@@ -31,7 +31,7 @@ from prover import Workspace
 
 # What one check is taken to need of memory, in bytes; and those of the crates that were seen to take more.
 ROOM = 4_500_000_000
-ROOMS = {"commands": 8_000_000_000, "cli": 8_000_000_000}
+ROOMS = {"commands": 8_000_000_000, "cli": 9_500_000_000, "builder": 6_500_000_000}
 # So many mistakes stand in one check at most, which bounds its time and memory.
 MOST = 20
 
