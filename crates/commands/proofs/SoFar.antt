@@ -15,7 +15,7 @@ use Rattle.blob_digest.specs.Digest.{DigestValue, digest_of}
 use Rattle.remote.specs.Line.{ConnectionValue}
 use Rattle.tree.specs.Form.{NodeValue, no_children, node_value}
 use Rattle.commands.specs.Children.{AddsName, HasOneMore}
-use Rattle.commands.specs.Put.{ArePut, EntryValue, IsListed, IsPutAt, PutsNext, StandsAs, names_of}
+use Rattle.commands.specs.Put.{ArePut, EntryValue, IsListed, IsPutAt, PutsNext, StandsAs, entry_names}
 use Rattle.commands.specs.Put.ArePut.{next_put, none_put}
 use Rattle.commands.specs.Put.IsPutAt.{folder_put, link_put}
 use Rattle.commands.specs.World.{Sight, a_link, what_stands}
@@ -27,7 +27,7 @@ use Rattle.commands.proofs.Order.{Follows, follows_on, nothing_follows}
 -- each name that was read has a child, which was read at its place, and no other has one; these entries are put by what went over the connection meanwhile
 pub record IsPutSoFar (sees : Sight) (left : ℕ) (place : List ℕ) (names : List (List ℕ)) (d : DirectoryValue) (old now : ConnectionValue) : Type 0 where
   pub entries : List EntryValue
-  pub named : names_of entries ≡ names
+  pub named : entry_names entries ≡ names
   pub children : (e : EntryValue) → Contains entries e ↔ IsChild e.name d (Some e.node)
   pub are_put : ArePut sees left place entries old now
   pub follows : Follows names d

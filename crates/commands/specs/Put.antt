@@ -20,13 +20,13 @@ pub record EntryValue : Type 0 where
   pub name : List ℕ
   pub node : NodeValue
 
-abbrev pub names_of : List EntryValue → List (List ℕ)
-names_of = map (λ e. e.name)
+abbrev pub entry_names : List EntryValue → List (List ℕ)
+entry_names = map (λ e. e.name)
 
 -- the folder was read and has these names in it, and these entries are the Directory's children
 pub record IsListed (sees : Sight) (place : List ℕ) (entries : List EntryValue) (d : DirectoryValue)
     : Type 0 where
-  pub read : sees.lists place (names_of entries)
+  pub read : sees.lists place (entry_names entries)
   pub children : (e : EntryValue) → Contains entries e ↔ IsChild e.name d (Some e.node)
 
 -- such a node stands at a place, where a link isn't followed

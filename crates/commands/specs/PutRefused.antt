@@ -18,7 +18,7 @@ use Rattle.remote.specs.declared.files.FileError.{FileError}
 use Rattle.commands.specs.Faults.{IsServerFault, TellsOfEntry, error_of_file}
 use Rattle.commands.specs.Places.{FailsToConnect}
 use Rattle.commands.specs.Printed.{StartsPut}
-use Rattle.commands.specs.Put.{ArePut, EntryValue, IsListed, PutsPath, names_of}
+use Rattle.commands.specs.Put.{ArePut, EntryValue, IsListed, PutsPath, entry_names}
 use Rattle.commands.specs.Refusal.{IsPrintFault}
 use Rattle.commands.specs.Words.{AllValid, FailsFirst, server_words}
 use Rattle.commands.specs.World.{Sight, a_link}
@@ -59,7 +59,7 @@ pub record ReachesEntry (sees : Sight) (left : ℕ) (place name : List ℕ) (old
     : Type 0 where
   pub before : List EntryValue
   pub behind : List (List ℕ)
-  pub read : sees.lists place (names_of before ++ name ∷ behind)
+  pub read : sees.lists place (entry_names before ++ name ∷ behind)
   pub put : ArePut sees left place before old now
 
 -- What stands at a place, where paths go so many names further down, isn't put over the connection
@@ -74,8 +74,8 @@ pub data FailsHere (sees : Sight) (address : List ℕ) (left : ℕ) (place : Lis
   no_name : (name : List ℕ) (now : ConnectionValue) → ReachesEntry sees left place name old now
       → HasNoName (place ++ 47 ∷ name) name e → FailsHere sees address left place old e
   name_twice : (entries : List EntryValue) (now : ConnectionValue)
-      → sees.lists place (names_of entries) → ArePut sees left place entries old now
-      → HasNameTwice place (names_of entries) e → FailsHere sees address left place old e
+      → sees.lists place (entry_names entries) → ArePut sees left place entries old now
+      → HasNameTwice place (entry_names entries) e → FailsHere sees address left place old e
   file_refused : (bytes : List ℕ) → sees.reads place bytes → RefusesPut old address bytes e
       → FailsHere sees address left place old e
   folder_refused : (entries : List EntryValue) (d : DirectoryValue) (filled : ConnectionValue)
