@@ -22,11 +22,7 @@ if ! flock -n "$lock"; then
 fi
 trap 'rm -rf "$log" "$rooms"' EXIT
 
-declare -A uses=()
-while IFS=: read -r head names; do
-  head=${head%% *}
-  [ -n "$head" ] && uses[$head]=$names
-done < <(sed 's/#.*//' "$top/crates.txt")
+. "$top/tools/shared/crates.sh"
 
 # The repository's crates below a crate, each after those below it.
 below() {

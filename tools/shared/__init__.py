@@ -1,0 +1,1 @@
+"""What the packages of tools/ share: each finds this folder by its own shared.py."""
