@@ -1,0 +1,14 @@
+pub mod Lines
+pub mod Bytes
+pub mod Numbers
+pub mod Asking
+pub mod Replying
+pub mod Streams
+pub mod Tracing
+pub mod Machines
+pub mod Joining
+pub mod Example
+pub mod Connecting
+pub mod Faults
+pub mod EmptyResult
+pub mod Small

@@ -1,0 +1,5 @@
+pub mod Asking
+pub mod Serving
+pub mod Connections
+pub mod Laws
+pub mod Conversation
