@@ -38,7 +38,7 @@ module _ (reader : Reader) where
         × (files_of (found reader s) reader r.digest ≡ Some files)
         × (all_held (found reader s) files ≡ true)
 
-  -- so is all to which the bytes of a result refer
+  -- each reference that the bytes of a result make is whole
   abbrev pub AreWhole : CacheState → List ℕ → Type 0
   AreWhole s bytes = AllByRecursion (IsWhole s) (outputs_of reader bytes)
 

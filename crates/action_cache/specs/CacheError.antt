@@ -1,4 +1,4 @@
--- Which refusal of the machine an error tells of.
+-- The refusal of the machine that an error tells of.
 use Rattle.std.specs.Prelude.{◌≡◌, ◌⊎◌, ℕ, List, Option, Some, None, IfSome}
 use Rattle.eviction.specs.declared.error.BoundedError.{BoundedError}
 use Rattle.eviction.specs.declared.error.BoundedError.TheVariants as bounded

@@ -18,12 +18,12 @@ use Rattle.action_cache.specs.References.{Reference, Reader}
 -- ---- a result
 
 module _ {X : Type 0} (path : X → List (List ℕ)) where
-  -- with one more, before the first whose path is a greater text
+  -- a list with one more, before the first whose path is a greater text
   abbrev pub placed : X → List X → List X
   placed x [] = x ∷ []
   placed x (y ∷ ys) = if is_lt (text_cmp (path x) (path y)) then x ∷ y ∷ ys else y ∷ placed x ys
 
-  -- in the order of the texts of their paths
+  -- a list in the order of the texts of its paths
   abbrev pub by_path : List X → List X
   by_path [] = []
   by_path (x ∷ xs) = placed x (by_path xs)
@@ -78,7 +78,7 @@ references_in bytes = referred_in (said_result bytes)
 abbrev pub digests_of_files : List FileNodeValue → List DigestValue
 digests_of_files files = map (λ f. f.digest) files
 
--- those of the files in all these directories, in order
+-- the digests of the files in all these directories, in order
 abbrev pub files_below : List DirectoryValue → List DigestValue
 files_below [] = []
 files_below (d ∷ ds) = digests_of_files d.files ++ files_below ds
@@ -87,7 +87,7 @@ files_below (d ∷ ds) = digests_of_files d.files ++ files_below ds
 abbrev pub files_in_tree : TreeValue → List DigestValue
 files_in_tree t = files_below (t.root ∷ t.children)
 
--- those of a Tree, if it is one
+-- the digests of the files of a Tree; nothing where none was read
 abbrev pub files_told : Result TreeValue MessageError → Option (List DigestValue)
 files_told (Ok t) = Some (files_in_tree t)
 files_told (Err e) = None

@@ -36,14 +36,14 @@ module _ (files : DigestValue → Option (List DigestValue)) where
   abbrev pub digests_by : Reference → List DigestValue
   digests_by r = r.digest ∷ (if r.is_tree then unwrap_or (files r.digest) [] else [])
 
-  -- the same of each reference, in order
+  -- the digests of each reference, in order, after a Tree's those of its files
   abbrev pub references_by : List Reference → List DigestValue
   references_by [] = []
   references_by (r ∷ rs) = digests_by r ++ references_by rs
 
 -- found answers the bytes that are stored under a hash
 module _ (found : List ℕ → Option (List ℕ)) where
-  -- the first that isn't held, or the Tree if it doesn't decode
+  -- the first file of a Tree that isn't held, or the Tree if it doesn't decode
   abbrev pub fault_in_tree : DigestValue → Option (List DigestValue) → Option DigestValue
   fault_in_tree d None = Some d
   fault_in_tree d (Some fs) = find (λ f. not (is_held found f)) fs
@@ -56,7 +56,7 @@ module _ (found : List ℕ → Option (List ℕ)) where
         then (if r.is_tree then fault_in_tree r.digest (files r.digest) else None)
         else Some r.digest
 
-    -- the first such fault
+    -- the first fault of some references
     abbrev pub first_fault_by : List Reference → Option DigestValue
     first_fault_by [] = None
     first_fault_by (r ∷ rs) = first_given (fault_by r) (first_fault_by rs)

@@ -38,7 +38,8 @@ abbrev pub IsSurvey : {A : Type 0} → Reader → (List ℕ → Option (List ℕ
 IsSurvey reader found bytes None = is_some (reader.outputs bytes) ≡ false
 IsSurvey reader found bytes (Some s) = Surveys reader found bytes s
 
--- that of the result under a hash: none just where none is held, or its bytes are no result
+-- The survey of the result under a hash. There is none just where no result is held there, or its
+-- bytes are no result.
 abbrev pub IsSurveyUnder : {A : Type 0} → List (List ℕ × Held) → List (List ℕ × Held) → List ℕ
     → Option (Survey A) → Type 0
 IsSurveyUnder blobs results h None =

@@ -29,7 +29,7 @@ pub fn results_refer_to_what_is_read()
         → IsBytes bytes → IsRefusedResult e bytes → references_in bytes ≡ None }
 {}
 
-/// Which files a Tree has. A law: it does nothing.
+/// The files of a Tree. A law: it does nothing.
 pub fn trees_have_the_files_that_are_read()
     // Bytes are read as a Tree where they are its encoding, and give its files.
     ensures read { (t : TreeValue) (bytes : List ℕ)

@@ -18,7 +18,7 @@ use std::collections::BTreeSet;
 pub(crate) struct Survey<A: Allocator> {
     /// All digests to which the result refers, in order.
     pub(crate) references: Vec<Digest, A>,
-    /// Those, each once, without that of no bytes.
+    /// The references, each once, without that of no bytes.
     pub(crate) once: Vec<Digest, A>,
     /// The first that isn't held, or the first Tree that doesn't decode.
     pub(crate) fault: Option<Digest>,

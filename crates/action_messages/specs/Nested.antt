@@ -26,7 +26,7 @@ SaysEach Says (a ∷ others) [] = ⊥
 SaysEach Says (a ∷ others) (bytes ∷ payloads) =
     SaysBytes Says a bytes × SaysEach Says others payloads
 
--- the same messages in another order
+-- the messages of a repeated field, in any order of its payloads
 pub record SaysSorted {A : Type 0} (Says : A → List Record → Type 0)
     (sorted : List A) (payloads : List (List ℕ)) : Type 0 where
   pub read : List A

@@ -68,6 +68,7 @@ pub record SaysResult (m : ActionResultValue) (rs : List Record) : Type 0 where
 abbrev pub Reads : ActionResultValue → List ℕ → Type 0
 Reads m bytes = SaysBytes SaysResult m bytes
 
--- the same records of each field, in the same order: those of different fields may change places
+-- Two lists have the same records of each field, in the same order; records of different fields may
+-- change places.
 abbrev pub HaveSameFields : List Record → List Record → Type 0
 HaveSameFields rs ss = (n : ℕ) → column n rs ≡ column n ss

@@ -324,7 +324,7 @@ impl<A: Allocator + Copy> Message<A> for Command<A> {
 }
 
 impl<A: Allocator + Copy> Command<A> {
-    /// The same command, over another allocator.
+    /// A copy of the command, over another allocator.
     pub fn copy_of<B: Allocator>(alloc: A, command: &Command<B>) -> Result<Command<A>, AllocError>
         ensures { IfOk result (λ c. c ≡ command.now) }
     {

@@ -5,7 +5,7 @@ use crate::setting::Setting;
 use messages::Path;
 use std::alloc::{AllocError, Allocator};
 
-/// The same texts, over another allocator.
+/// A copy of the texts, over another allocator.
 pub(crate) fn copy_texts<A: Allocator + Copy, B: Allocator>(
     alloc: A,
     texts: &[String<B>],
@@ -21,7 +21,7 @@ pub(crate) fn copy_texts<A: Allocator + Copy, B: Allocator>(
     Ok(copies)
 }
 
-/// The same settings, over another allocator.
+/// A copy of the settings, over another allocator.
 pub(crate) fn copy_settings<A: Allocator + Copy, B: Allocator>(
     alloc: A,
     settings: &[Setting<B>],
@@ -36,7 +36,7 @@ pub(crate) fn copy_settings<A: Allocator + Copy, B: Allocator>(
     Ok(copies)
 }
 
-/// The same paths, over another allocator.
+/// A copy of the paths, over another allocator.
 pub(crate) fn copy_paths<A: Allocator + Copy, B: Allocator>(
     alloc: A,
     paths: &[Path<B>],
@@ -51,7 +51,7 @@ pub(crate) fn copy_paths<A: Allocator + Copy, B: Allocator>(
     Ok(copies)
 }
 
-/// The same path, if there is one, over another allocator.
+/// A copy of the path, if there is one, over another allocator.
 pub(crate) fn copy_directory<A: Allocator, B: Allocator>(
     alloc: A,
     path: &Option<Path<B>>,

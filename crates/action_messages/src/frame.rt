@@ -114,7 +114,7 @@ impl<A: Allocator> Frame<A> {
 }
 
 impl<A: Allocator + Copy> Frame<A> {
-    /// The same frame, over another allocator.
+    /// A copy of the frame, over another allocator.
     pub fn copy_of<B: Allocator>(alloc: A, frame: &Frame<B>) -> Result<Frame<A>, AllocError>
         ensures { IfOk result (λ f. f ≡ frame.now) }
     {

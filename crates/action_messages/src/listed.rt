@@ -15,7 +15,7 @@ pub trait Listed {
     ghost use Rattle.std.specs.Prelude.{◌≡◌, ℕ, List};
     ghost use Rattle.messages.specs.Path.{IsPath, path_text};
 
-    /// Its path.
+    /// The path of a value.
     ghost path_in: { Self → List (List ℕ) };
 
     /// The rules of its values.

@@ -78,7 +78,7 @@ impl<A: Allocator> Platform<A> {
 }
 
 impl<A: Allocator + Copy> Platform<A> {
-    /// The same platform, over another allocator.
+    /// A copy of the platform, over another allocator.
     pub(crate) fn copy_of<B: Allocator>(
         alloc: A,
         platform: &Platform<B>,

@@ -102,7 +102,8 @@ fn behind_first<T>(items: &[T]) -> &[T]
 }
 
 impl<A: Allocator + Copy> ActionResult<A> {
-    /// Its outputs of all kinds, by the texts of their paths, in one walk over the three lists.
+    /// The result's outputs of all kinds, by the texts of their paths, in one walk over the three
+    /// lists.
     pub fn outputs(&self, alloc: A) -> Result<Vec<RecordedOutput<'_, A>, A>, AllocError>
         ensures { IfOk result (λ v. AreOutputs self.now (recorded_values v.items)) }
     {

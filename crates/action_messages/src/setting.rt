@@ -87,7 +87,7 @@ impl<A: Allocator> Named for Setting<A> {
 }
 
 impl<A: Allocator + Copy> Setting<A> {
-    /// The same setting, over another allocator.
+    /// A copy of the setting, over another allocator.
     pub(crate) fn copy_of<B: Allocator>(
         alloc: A,
         setting: &Setting<B>,

@@ -186,7 +186,7 @@ longer n m p q e (inr (inl under)) = inr (inl (under.0, under.1, (λ i. e i ∷ 
 longer n m p q e (inr (inr under)) = inr (inr (under.0, under.1, (λ i. sym e i ∷ under.2 i)))
 
 -- two beginnings of one path overlap
-beginnings : (a b q r : List (List ℕ)) → a ++ q ≡ b ++ r → Overlap a b
+pub beginnings : (a b q r : List (List ℕ)) → a ++ q ≡ b ++ r → Overlap a b
 beginnings [] [] q r e = inl refl
 beginnings [] (n ∷ b) q r e = inr (inr (n, b, refl))
 beginnings (n ∷ a) [] q r e = inr (inl (n, a, refl))
@@ -195,11 +195,11 @@ beginnings (n ∷ a) (m ∷ b) q r e =
     let tails : a ++ q ≡ b ++ r = cc in
     longer n m a b heads (beginnings a b q r tails)
 
-same_rest : (a q r : List (List ℕ)) → a ++ q ≡ a ++ r → q ≡ r
+pub same_rest : (a q r : List (List ℕ)) → a ++ q ≡ a ++ r → q ≡ r
 same_rest [] q r e = e
 same_rest (n ∷ a) q r e = let tails : a ++ q ≡ a ++ r = cc in same_rest a q r tails
 
-one_output : (es : List (List (List ℕ) × OutputValue)) (e f : List (List ℕ) × OutputValue) → AreApart (paths_of_outputs es) → Contains es e → Contains es f → Overlap e.0 f.0 → e ≡ f
+pub one_output : (es : List (List (List ℕ) × OutputValue)) (e f : List (List ℕ) × OutputValue) → AreApart (paths_of_outputs es) → Contains es e → Contains es f → Overlap e.0 f.0 → e ≡ f
 one_output [] e f apart (k, lt, is) g o = absurd (omega arith)
 one_output (x ∷ es) e f apart (zero, lt, is) (zero, mt, at) o = sym is ∙ at
 one_output (x ∷ es) e f apart (zero, lt, is) (suc j, mt, at) o =

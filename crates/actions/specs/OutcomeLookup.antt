@@ -50,7 +50,7 @@ abbrev pub within_output : OutputValue → WithinValue
 within_output (Tree t) = in_tree t
 within_output x = in_source
 
--- where those below a path are read: as those of the output that is at or above it
+-- where the Directories below a path are read: as those of the output that is at or above it
 abbrev pub LiesWithin : OutcomeValue → List (List ℕ) → WithinValue → Type 0
 LiesWithin o path within =
     (e : List (List ℕ) × OutputValue) × Contains o.outputs e × StandsOver e.0 path
@@ -68,7 +68,7 @@ TakesMemory (Link target) names = names ≡ []
 TakesMemory (Tree t) [] = Unit {0}
 TakesMemory (Tree t) (name ∷ names) = NamesLink t (name ∷ names)
 
--- so does what is below the output that is at or above a path
+-- what is below the output that is at or above a path takes memory
 abbrev pub LooksWithMemory : OutcomeValue → List (List ℕ) → Type 0
 LooksWithMemory o path = (e : List (List ℕ) × OutputValue) × Contains o.outputs e
     × (names : List (List ℕ)) × (path ≡ e.0 ++ names) × TakesMemory e.1 names

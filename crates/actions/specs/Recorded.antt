@@ -18,7 +18,7 @@ StandsFor blobs (directory d) x =
     (t : TreeValue) × IsTold IsTree tree_bytes blobs d.tree t × (x ≡ Tree t)
 StandsFor blobs (link l) x = x ≡ Link l.target
 
--- each at its path, in the same order
+-- the outputs of a result stand for those of an outcome, each at its path, in the same order
 abbrev pub StandForAll : Blobs → List RecordedValue → List (List (List ℕ) × OutputValue) → Type 0
 StandForAll blobs [] outputs = outputs ≡ []
 StandForAll blobs (x ∷ xs) [] = ⊥

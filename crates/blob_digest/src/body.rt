@@ -94,7 +94,7 @@ impl<A: Allocator> Body<A> {
 }
 
 impl<A: Allocator> Sealed<A> {
-    /// These bytes, hashed. There may be more of them than a [`Body`] takes.
+    /// The given bytes, hashed. There may be more of them than a [`Body`] takes.
     pub fn of(bytes: Vec<u8, A>) -> Sealed<A>
         ensures { result ≡ bytes.items }
     {

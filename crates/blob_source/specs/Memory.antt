@@ -9,7 +9,8 @@ use Rattle.blob_source.specs.Source.{Blobs, Telling, bytes_of}
 abbrev pub told_by : {A : Type 0} → BTreeMap DigestValue (Vec ℕ A) → Blobs
 told_by m d = bytes_of (get digest_cmp m d)
 
--- It never fails: its count of failures stays at 0, and a failure would raise it.
+-- What a source in memory tells. It never fails: its count of failures stays at 0, and a failure
+-- would raise it.
 abbrev pub telling_of : {A : Type 0} → MemorySource A → Telling
 telling_of s = record {
   blobs = told_by s.blobs;
@@ -27,7 +28,7 @@ pub record TellsNothing (t : Telling) : Type 0 where
   pub calls : t.calls ≡ 0
   pub puts : t.puts ≡ []
 
--- these bytes stand under the digest, and all else is as it was
+-- the bytes stand under the digest, and all else is as it was
 pub record HoldsBlob (old new : Telling) (d : DigestValue) (bytes : List ℕ) : Type 0 where
   pub held : new.blobs d ≡ Some bytes
   pub others : (e : DigestValue) → e ≢ d → new.blobs e ≡ old.blobs e

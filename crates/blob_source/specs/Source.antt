@@ -61,7 +61,7 @@ pub record AsksSome (old new : Telling) : Type 0 where
   pub failures : old.failures ≤ new.failures
   pub risen : old.calls ≤ new.calls
 
--- at most so many
+-- some calls, one after another, and at most so many
 pub record Asks (most : ℕ) (old new : Telling) : Type 0 where
   pub some : AsksSome old new
   pub most_calls : new.calls ≤ old.calls + most

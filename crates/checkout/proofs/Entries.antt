@@ -16,7 +16,7 @@ use Rattle.checkout.specs.declared.error.CheckoutError.{CheckoutError}
 use Rattle.checkout.specs.Refused.{Refuses, FailsOneEntry, FailsEntries, FailsCheckout}
 use Rattle.checkout.specs.Refused.FailsOneEntry.{untried, refused}
 use Rattle.checkout.specs.Refused.FailsCheckout.{in_tree, in_folder, in_entries}
-use Rattle.checkout.specs.Folder.{FolderWorks, FolderValue, Written, Tried, Tries, with_written}
+use Rattle.checkout.specs.Folder.{FolderValue, Has, Written, Tried, Tries, with_written}
 use Rattle.checkout.specs.Folder.Written.{a_folder, a_file, a_link}
 use Rattle.checkout.specs.Written.{place_below, places_of, IsWrittenFor, AreWritten, IsGained, MakesEntry, MakesEntries, EntryLooksAt, contents_at, AsksContents, Reach}
 use Rattle.checkout.specs.Written.Reach.{of_tree, of_entries}
@@ -63,10 +63,10 @@ one_tried {place = place} by (refused one why) = refused (by (place ∷ []) one)
 
 -- ---- the entries before those that are left are written, each by one call
 
-pub record SoFar {F : Type 0} (works : FolderWorks F) (tries : Tried) (told tells : Telling) (old now : F) (folder : List ℕ) (all left : FlatValue) : Type 0 where
+pub record SoFar {F : Type 0} (has : Has F) (tries : Tried) (told tells : Telling) (old now : F) (folder : List ℕ) (all left : FlatValue) : Type 0 where
   pub done : FlatValue
   pub split : all ≡ done ++ left
-  pub made : MakesEntries works tells.blobs old now folder done
+  pub made : MakesEntries has tells.blobs old now folder done
   pub calls : tries (places_of folder done)
   pub asked : AsksContents told tells done
 
@@ -75,27 +75,27 @@ none_left [] h = refl
 none_left (x ∷ xs) h = absurd (omega (arith, h))
 
 -- those that are left, said otherwise
-left_is : {A F : Type 0} {works : FolderWorks F} {tries : Tried} {told tells : Telling} {old now : F} {folder : List ℕ} {all : FlatValue} {es fs : List (List Name × FlatEntry A)}
-    → es ≡ fs → SoFar works tries told tells old now folder all (path_values es) → SoFar works tries told tells old now folder all (path_values fs)
-left_is {works = works} {tries} {told} {tells} {old} {now} {folder} {all} is so_far = subst (λ es. SoFar works tries told tells old now folder all (path_values es)) is so_far
+left_is : {A F : Type 0} {has : Has F} {tries : Tried} {told tells : Telling} {old now : F} {folder : List ℕ} {all : FlatValue} {es fs : List (List Name × FlatEntry A)}
+    → es ≡ fs → SoFar has tries told tells old now folder all (path_values es) → SoFar has tries told tells old now folder all (path_values fs)
+left_is {has = has} {tries} {told} {tells} {old} {now} {folder} {all} is so_far = subst (λ es. SoFar has tries told tells old now folder all (path_values es)) is so_far
 
-module _ {F W : Type 0} (works : FolderWorks F) (tried : W → Tried) (first : W) (folder : List ℕ) (all : FlatValue) where
-  pub none_yet : (told : Telling) (old : F) → SoFar works (Tries tried first first) told told old old folder all all
+module _ {F W : Type 0} (has : Has F) (tried : W → Tried) (first : W) (folder : List ℕ) (all : FlatValue) where
+  pub none_yet : (told : Telling) (old : F) → SoFar has (Tries tried first first) told told old old folder all all
   none_yet told old = record {
     done = [];
     split = refl;
     made = record {
       written = [];
       of_entries = refl;
-      gains = λ v h. subst (λ ws. works.has old (record v { written = ws })) (sym (append-nil v.written)) h;
+      gains = λ v h. subst (λ ws. has old (record v { written = ws })) (sym (append-nil v.written)) h;
     };
     calls = tries_none tried first;
     asked = contents_none told;
   }
 
   pub next_one : {A : Type 0} {told m n : Telling} {es left : List (List Name × FlatEntry A)} {p : List Name} {x : FlatEntry A} (old mid new : F) (before after : W) (place : List ℕ) → es ≡ (p, x) ∷ left → Grows m.blobs n.blobs
-      → place ≡ place_below folder (path_text p) → SoFar works (Tries tried first before) told m old mid folder all (path_values es) → MakesEntry works n.blobs mid new place (entry_value x) → Tries tried before after (place ∷ [])
-      → n.calls ≤ m.calls + contents_at (entry_value x) → AsksNoOther (EntryLooksAt (entry_value x)) m n → SoFar works (Tries tried first after) told n old new folder all (path_values left)
+      → place ≡ place_below folder (path_text p) → SoFar has (Tries tried first before) told m old mid folder all (path_values es) → MakesEntry has n.blobs mid new place (entry_value x) → Tries tried before after (place ∷ [])
+      → n.calls ≤ m.calls + contents_at (entry_value x) → AsksNoOther (EntryLooksAt (entry_value x)) m n → SoFar has (Tries tried first after) told n old new folder all (path_values left)
   next_one {told = told} {m} {n} {left = left} {p} {x} old mid new before after place steps grows at yet one call few only =
       let s = entry_value x in
       let so_far = left_is steps yet in
@@ -108,8 +108,8 @@ module _ {F W : Type 0} (works : FolderWorks F) (tried : W → Tried) (first : W
           written = ws ++ (place_below folder (path_text p), one.written) ∷ [];
           of_entries = one_more n.blobs folder done ws p s one.written (all_still grows folder done ws so_far.made.of_entries) one.of_entry;
           gains = λ v h.
-              subst (λ q. works.has new (record v { written = v.written ++ (ws ++ (q, one.written) ∷ []) })) at
-              (subst (λ vs. works.has new (record v { written = vs })) (append_assoc v.written ws ((place, one.written) ∷ []))
+              subst (λ q. has new (record v { written = v.written ++ (ws ++ (q, one.written) ∷ []) })) at
+              (subst (λ vs. has new (record v { written = vs })) (append_assoc v.written ws ((place, one.written) ∷ []))
               (one.gains (with_written ws v) (so_far.made.gains v h)));
         };
         calls = subst (Tries tried first after)
@@ -120,8 +120,8 @@ module _ {F W : Type 0} (works : FolderWorks F) (tried : W → Tried) (first : W
 
   -- the next one isn't written
   pub next_fails : {A : Type 0} {told m n : Telling} {es left : List (List Name × FlatEntry A)} {p : List Name} {x : FlatEntry A} (refuses : Refuses) (old mid : F) (before after : W) (place : List ℕ) (e : CheckoutError A) → es ≡ (p, x) ∷ left → Grows m.blobs n.blobs
-      → place ≡ place_below folder (path_text p) → SoFar works (Tries tried first before) told m old mid folder all (path_values es) → FailsOneEntry refuses (Tries tried before after) n.blobs place (entry_value x) e
-      → n.calls ≤ m.calls + contents_at (entry_value x) → AsksNoOther (EntryLooksAt (entry_value x)) m n → FailsEntries (IsGained works old) refuses (Tries tried first after) (AsksContents told n) n.blobs folder all e
+      → place ≡ place_below folder (path_text p) → SoFar has (Tries tried first before) told m old mid folder all (path_values es) → FailsOneEntry refuses (Tries tried before after) n.blobs place (entry_value x) e
+      → n.calls ≤ m.calls + contents_at (entry_value x) → AsksNoOther (EntryLooksAt (entry_value x)) m n → FailsEntries (IsGained has old) refuses (Tries tried first after) (AsksContents told n) n.blobs folder all e
   next_fails {told = told} {m} {n} {left = left} {p} {x} refuses old mid before after place e steps grows at yet fails few only =
       let so_far = left_is steps yet in
       record {
@@ -139,12 +139,12 @@ module _ {F W : Type 0} (works : FolderWorks F) (tried : W → Tried) (first : W
       }
 
   -- none is left
-  pub all_done : {A : Type 0} {told tells : Telling} {tries : Tried} (es : List (List Name × FlatEntry A)) (old now : F) → length es ≡ 0 → SoFar works tries told tells old now folder all (path_values es)
-      → MakesEntries works tells.blobs old now folder all × tries (places_of folder all) × AsksContents told tells all
+  pub all_done : {A : Type 0} {told tells : Telling} {tries : Tried} (es : List (List Name × FlatEntry A)) (old now : F) → length es ≡ 0 → SoFar has tries told tells old now folder all (path_values es)
+      → MakesEntries has tells.blobs old now folder all × tries (places_of folder all) × AsksContents told tells all
   all_done {told = told} {tells} {tries} es old now none yet =
       let so_far = left_is (none_left es none) yet in
       let is = sym (so_far.split ∙ append-nil so_far.done) in
-      (subst (MakesEntries works tells.blobs old now folder) is so_far.made, subst (λ fs. tries (places_of folder fs)) is so_far.calls, subst (AsksContents told tells) is so_far.asked)
+      (subst (MakesEntries has tells.blobs old now folder) is so_far.made, subst (λ fs. tries (places_of folder fs)) is so_far.calls, subst (AsksContents told tells) is so_far.asked)
 
 -- ---- what a folder has, and what was tried, when an entry isn't written, said otherwise
 

@@ -1,6 +1,5 @@
 -- A folder that was empty, and what was written into it since.
 use Rattle.std.specs.Prelude.{ℕ, List, [], ◌++◌, Bool}
-use Rattle.std.specs.declared.io.Error.{Error}
 
 -- what was written at a path: a folder, a file with its bytes and whether it is a program, or a
 -- link with its target
@@ -22,37 +21,24 @@ empty_folder path = record { path = path; written = [] }
 abbrev pub with_written : List (List ℕ × Written) → FolderValue → FolderValue
 with_written more v = record v { written = v.written ++ more }
 
--- What was done, and what was told. Only the calls that did it and were told it say so.
-pub record FolderWorks (Folder : Type 0) : Type 1 where
-  -- the folder has this and nothing else
-  pub has : Folder → FolderValue → Type 0
-  -- nothing could be made at the path, for this
-  pub refuses : List ℕ → Error → Type 0
+-- what a folder has, and nothing else
+abbrev pub Has : Type 0 → Type 1
+Has Folder = Folder → FolderValue → Type 0
 
 -- some folder has this and nothing else
-abbrev pub IsHad : {F : Type 0} → FolderWorks F → FolderValue → Type 0
-IsHad {F} works v = (folder : F) × works.has folder v
+abbrev pub IsHad : {F : Type 0} → Has F → FolderValue → Type 0
+IsHad {F} has v = (folder : F) × has folder v
 
 -- what the old folder has the new one has, and this besides
-abbrev pub Gains : {F : Type 0} → FolderWorks F → F → F → List (List ℕ × Written) → Type 0
-Gains works old new more =
-    (v : FolderValue) → works.has old v → works.has new (with_written more v)
+abbrev pub Gains : {F : Type 0} → Has F → F → F → List (List ℕ × Written) → Type 0
+Gains has old new more = (v : FolderValue) → has old v → has new (with_written more v)
 
 -- ---- calls, made or refused
 
--- for which paths a writer was called, in this order, and for nothing else
+-- the paths for which a writer was called, in this order, and for nothing else
 abbrev pub Tried : Type 1
 Tried = List (List ℕ) → Type 0
 
--- it was called for these besides
+-- the writer was called for these paths besides
 abbrev pub Tries : {W : Type 0} → (W → Tried) → W → W → Tried
 Tries tried old new more = (paths : List (List ℕ)) → tried old paths → tried new (paths ++ more)
-
--- ---- the system
-
--- nothing is known of what was done and told
-abbrev pub nothing_known : {F : Type 0} → FolderWorks F
-nothing_known = record { has = λ _ _. Unit {0}; refuses = λ _ _. Unit {0} }
-
-abbrev pub unknown_calls : {W : Type 0} → W → Tried
-unknown_calls writer paths = Unit {0}

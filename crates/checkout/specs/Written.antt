@@ -12,14 +12,14 @@ use Rattle.tree.specs.Tree.{Name, Standing, a_leaf, a_directory}
 use Rattle.tree.specs.Form.{NodeValue}
 use Rattle.tree.specs.FlatTree.{FlatValue}
 use Rattle.tree.specs.Unfolded.{AsksDirectories, IsUnfolded, directories_in}
-use Rattle.checkout.specs.Folder.{FolderWorks, FolderValue, Gains, Tried, Written}
+use Rattle.checkout.specs.Folder.{FolderValue, Gains, Has, Tried, Written}
 use Rattle.checkout.specs.Folder.Written.{a_folder, a_file, a_link}
 
 -- the text of a path below a folder
 abbrev pub place_below : List ℕ → List ℕ → List ℕ
 place_below folder path = folder ++ 47 ∷ path
 
--- and those of entries
+-- the texts of the paths of entries below a folder
 abbrev pub places_of : List ℕ → FlatValue → List (List ℕ)
 places_of folder entries = map (λ e. place_below folder (path_text e.0)) entries
 
@@ -68,7 +68,7 @@ abbrev pub EntriesLookAt : FlatValue → Asked → Type 0
 EntriesLookAt entries a =
     (e : List Name × Standing NodeValue) × Contains entries e × EntryLooksAt e.1 a
 
--- for a tree: its Directories, and the contents of its files where it is told
+-- what is looked at for a tree: its Directories, and the contents of its files where it is told
 abbrev pub CheckoutLooksAt : Blobs → DigestValue → Asked → Type 0
 CheckoutLooksAt B d a = UnfoldLooksAt B d a
     ⊎ ((entries : FlatValue) × IsUnfolded B d entries × EntriesLookAt entries a)
@@ -119,19 +119,19 @@ asked_somehow reach = Unit {0}
 -- ---- entry by entry
 
 -- one entry was written
-pub record MakesEntry {F : Type 0} (works : FolderWorks F) (B : Blobs) (old new : F)
+pub record MakesEntry {F : Type 0} (has : Has F) (B : Blobs) (old new : F)
     (place : List ℕ) (s : Standing NodeValue) : Type 0 where
   pub written : Written
   pub of_entry : IsWrittenFor B s written
-  pub gains : Gains works old new ((place, written) ∷ [])
+  pub gains : Gains has old new ((place, written) ∷ [])
 
 -- some folder has what the old one has, and this besides
-abbrev pub IsGained : {F : Type 0} → FolderWorks F → F → List (List ℕ × Written) → Type 0
-IsGained {F} works old written = (new : F) × Gains works old new written
+abbrev pub IsGained : {F : Type 0} → Has F → F → List (List ℕ × Written) → Type 0
+IsGained {F} has old written = (new : F) × Gains has old new written
 
 -- entries were, below a folder
-pub record MakesEntries {F : Type 0} (works : FolderWorks F) (B : Blobs) (old new : F)
+pub record MakesEntries {F : Type 0} (has : Has F) (B : Blobs) (old new : F)
     (folder : List ℕ) (entries : FlatValue) : Type 0 where
   pub written : List (List ℕ × Written)
   pub of_entries : AreWritten B folder entries written
-  pub gains : Gains works old new written
+  pub gains : Gains has old new written

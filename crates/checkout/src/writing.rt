@@ -122,13 +122,13 @@ fn write_entry<A: Allocator + Copy, S: BlobSource<A>, W: FolderWriter>(
     entry: &FlatEntry<A>,
     source: &mut S,
 ) -> Result<(), CheckoutError<A>>
-    ensures made { OnOk result (MakesEntry W.works (S.tells source.new).blobs folder.old
+    ensures made { OnOk result (MakesEntry W.has (S.tells source.new).blobs folder.old
         folder.new (string_bytes place) (entry_value entry.now)) }
     ensures tried { OnOk result
         (Tries W.tried writer.old writer.new (string_bytes place ∷ [])) }
     ensures few { (S.tells source.new).calls
         ≤ (S.tells source.old).calls + contents_at (entry_value entry.now) }
-    ensures refused { IfErr result (FailsOneEntry W.works.refuses
+    ensures refused { IfErr result (FailsOneEntry (W.refuses writer.new)
         (Tries W.tried writer.old writer.new) (S.tells source.new).blobs
         (string_bytes place) (entry_value entry.now)) }
     ensures called { Called (S.tells source.old) (S.tells source.new)
@@ -162,13 +162,13 @@ fn write_entries<A: Allocator + Copy, S: BlobSource<A>, W: FolderWriter>(
     entries: Vec<(Path<A>, FlatEntry<A>), A>,
     source: &mut S,
 ) -> Result<(), CheckoutError<A>>
-    ensures made { OnOk result (MakesEntries W.works (S.tells source.new).blobs folder.old
+    ensures made { OnOk result (MakesEntries W.has (S.tells source.new).blobs folder.old
         folder.new path.now (path_values entries.items)) }
     ensures tried { OnOk result (Tries W.tried writer.old writer.new
         (places_of path.now (path_values entries.items))) }
     ensures asked { OnOk result (AsksContents (S.tells source.old) (S.tells source.new)
         (path_values entries.items)) }
-    ensures refused { IfErr result (FailsEntries (IsGained W.works folder.old) W.works.refuses
+    ensures refused { IfErr result (FailsEntries (IsGained W.has folder.old) (W.refuses writer.new)
         (Tries W.tried writer.old writer.new)
         (AsksContents (S.tells source.old) (S.tells source.new))
         (S.tells source.new).blobs path.now (path_values entries.items)) }
@@ -196,7 +196,7 @@ pub fn check_out<A: Allocator + Copy, S: BlobSource<A>, W: FolderWriter>(
     source: &mut S,
 ) -> Result<W::Folder, CheckoutError<A>>
     ensures written { IfOk result (λ folder.
-        HoldsTree (W.works.has folder) (S.tells source.new).blobs root.now path.now) }
+        HoldsTree (W.has folder) (S.tells source.new).blobs root.now path.now) }
     ensures tried { OnOk result (TriesTree (Tries W.tried writer.old writer.new)
         (S.tells source.new).blobs root.now path.now) }
     // Until the tree is told no folder is taken: the writer is as it was.
@@ -205,7 +205,7 @@ pub fn check_out<A: Allocator + Copy, S: BlobSource<A>, W: FolderWriter>(
     ensures few { AsksEachOnce root.now (S.tells source.old) (S.tells source.new) }
     // Once something isn't told, taken or written, nothing more is tried, and nothing behind it is
     // asked for.
-    ensures refused { IfErr result (FailsCheckout (IsHad W.works) W.works.refuses
+    ensures refused { IfErr result (FailsCheckout (IsHad W.has) (W.refuses writer.new)
         (Tries W.tried writer.old writer.new)
         (AsksUpTo root.now (S.tells source.old) (S.tells source.new))
         (S.tells source.new).blobs root.now path.now) }

@@ -42,18 +42,21 @@ verify_knows = record {
     (
       knows (built_in_program verify_line) false (codes "store") refl refl refl (λ t. refl) refl (λ t. refl),
       (
-        knows (built_in_program verify_line) false (codes "prefix") refl refl refl (λ t. refl) refl (λ t. refl),
+        knows (built_in_program verify_line) false (codes "results") refl refl refl (λ t. refl) refl (λ t. refl),
         (
-          knows (built_in_program verify_line) false (codes "timeout") refl refl refl (λ t. refl) refl (λ t. refl),
+          knows (built_in_program verify_line) false (codes "prefix") refl refl refl (λ t. refl) refl (λ t. refl),
           (
-            knows (built_in_program verify_line) true (codes "sources") refl refl refl (λ t. refl) refl (λ t. refl),
+            knows (built_in_program verify_line) false (codes "timeout") refl refl refl (λ t. refl) refl (λ t. refl),
             (
-              knows (built_in_program verify_line) true (codes "plan") refl refl refl (λ t. refl) refl (λ t. refl),
+              knows (built_in_program verify_line) true (codes "sources") refl refl refl (λ t. refl) refl (λ t. refl),
               (
-                knows (built_in_program verify_line) true (codes "record") refl refl refl (λ t. refl) refl (λ t. refl),
+                knows (built_in_program verify_line) true (codes "plan") refl refl refl (λ t. refl) refl (λ t. refl),
                 (
-                  knows (built_in_program verify_line) true (codes "claim") refl refl refl (λ t. refl) refl (λ t. refl),
-                  tt,
+                  knows (built_in_program verify_line) true (codes "record") refl refl refl (λ t. refl) refl (λ t. refl),
+                  (
+                    knows (built_in_program verify_line) true (codes "claim") refl refl refl (λ t. refl) refl (λ t. refl),
+                    tt,
+                  ),
                 ),
               ),
             ),
@@ -266,12 +269,12 @@ verify_in_two_understood store sources plan noted claim texts =
         known = (
           ((1, omega arith, refl), texts.0),
           (
-            ((4, omega arith, refl), texts.1.0),
+            ((5, omega arith, refl), texts.1.0),
             (
-              ((5, omega arith, refl), texts.1.1.0),
+              ((6, omega arith, refl), texts.1.1.0),
               (
-                ((6, omega arith, refl), texts.1.1.1.0),
-                (((7, omega arith, refl), texts.1.1.1.1.0), tt),
+                ((7, omega arith, refl), texts.1.1.1.0),
+                (((8, omega arith, refl), texts.1.1.1.1.0), tt),
               ),
             ),
           ),

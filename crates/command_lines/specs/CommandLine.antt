@@ -48,9 +48,9 @@ client_line name =
 -- `verify` with the options that say where the recorded build is, and with all
 abbrev pub placed_line : App
 placed_line =
-    may_have
+    may_have (may_have
     (may_have (may_have (may_have (new_app (codes "verify")) (codes "server")) (codes "store"))
-    (codes "prefix")) (codes "timeout")
+    (codes "results")) (codes "prefix")) (codes "timeout")
 
 abbrev pub verify_line : App
 verify_line =
@@ -116,7 +116,7 @@ IsSet options name = first_of name options ≡ Some (codes "true")
 abbrev pub IsAtFault : List Text → ErrorKind → Type 0
 IsAtFault words kind = fault_of program_line words ≡ kind ∷ []
 
--- so it is with the name of any command and these words after it
+-- the words, after the name of any command, are at fault with this kind
 abbrev pub EachIsAtFault : List Text → ErrorKind → Type 0
 EachIsAtFault words kind =
     AllByRecursion (λ (line : App). IsAtFault (line.top.name ∷ words) kind)

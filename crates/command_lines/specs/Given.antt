@@ -9,8 +9,8 @@ use Rattle.clap.specs.Words.{App, Text, first_of}
 use Rattle.clap.specs.declared.error.kind.ErrorKind.TheVariants.{MissingRequiredArgument}
 use Rattle.command_lines.specs.CommandLine.{CallsCommand, IsAtFault, options_of}
 
--- how it is typed: `--store FOLDER`, or `--store=FOLDER`, or a word that stands alone, or a flag as
--- `--verbose`
+-- how a text is typed: `--store FOLDER`, or `--store=FOLDER`, or a word that stands alone, or a
+-- flag as `--verbose`
 pub data Manner : Type 0 where
   in_two_words : Manner
   in_one_word : Manner
@@ -40,12 +40,12 @@ given_text name given = option_map (λ g. g.text) (find (λ g. bytes_eq g.name n
 
 -- ---- what a command can take
 
--- what is done where it is given makes it a flag
+-- an option is a flag by what is done where it is given
 abbrev pub is_flag : Option ArgAction → Bool
 is_flag (Some SetTrue) = true
 is_flag _ = false
 
--- the names of its options, and of its flags
+-- the names of a command's options that have a text; `names_of_flags` has those of its flags
 abbrev pub names_of_options : App → List Text
 names_of_options line =
     map (λ r. r.id) (filter (λ r. is_some r.long && not (is_flag r.action)) line.top.rules)
@@ -53,11 +53,11 @@ names_of_options line =
 abbrev pub names_of_flags : App → List Text
 names_of_flags line = map (λ r. r.id) (filter (λ r. is_flag r.action) line.top.rules)
 
--- the names of its words that stand alone
+-- the names of a command's words that stand alone
 abbrev pub names_of_words : App → List Text
 names_of_words line = map (λ r. r.id) (filter (λ r. not (is_some r.long)) line.top.rules)
 
--- the names of those that it cannot do without
+-- the names of a command's options and words that it can't do without
 abbrev pub needed_names : App → List Text
 needed_names line = map (λ r. r.id) (filter (λ r. r.required) line.top.rules)
 
@@ -82,7 +82,7 @@ pub record HasPlaces (line : App) (given : List Given) : Type 0 where
   pub known : AllByRecursion (λ g. HasPlaceFor line g.manner g.name g.text) given
   pub once : IsDistinct bytes_eq (map (λ g. g.name) given)
 
--- so it is, and all that the command needs is given
+-- the command has a place for each, none is given twice, and all that the command needs is given
 pub record CanTake (line : App) (given : List Given) : Type 0 where
   pub places : HasPlaces line given
   pub whole : AllByRecursion (Contains (map (λ g. g.name) given)) (needed_names line)
@@ -105,7 +105,7 @@ abbrev pub IsUnderstood : App → Type 0
 IsUnderstood line =
     (given : List Given) → CanTake line given → AsksFor (line.top.name ∷ typed given) line given
 
--- where one that the command needs isn't given, its words are at fault with just that
+-- where a text that the command needs isn't given, the words are at fault with just that
 abbrev pub MissesNeeded : App → Type 0
 MissesNeeded line = (given : List Given) (name : Text) → HasPlaces line given
     → Contains (needed_names line) name → given_text name given ≡ None
@@ -119,6 +119,6 @@ verify_in_two store sources plan noted claim =
     codes "verify" ∷ codes "--store" ∷ store ∷ codes "--sources" ∷ sources ∷ codes "--plan" ∷ plan ∷
     codes "--record" ∷ noted ∷ codes "--claim" ∷ claim ∷ []
 
--- each of them can be a word of its own
+-- each text can be a word of its own
 abbrev pub CanBeTexts : List Text → Type 0
 CanBeTexts texts = AllByRecursion (λ text. can_be_text text ≡ true) texts

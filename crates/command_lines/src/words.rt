@@ -59,6 +59,7 @@ fn placed_command<'a>(alloc: Global) -> Result<Command<'a>, AllocError>
     Command::new(alloc, "verify")
         .arg(optional(alloc, "server", "ADDR"))?
         .arg(optional(alloc, "store", "FOLDER"))?
+        .arg(optional(alloc, "results", "FOLDER"))?
         .arg(optional(alloc, "prefix", "P"))?
         .arg(optional(alloc, "timeout", "SECONDS"))
 }

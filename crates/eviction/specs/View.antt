@@ -9,7 +9,7 @@ use Rattle.eviction.specs.Kept.{Held}
 abbrev pub held : {A : Type 0} → Entry A → Held
 held e = record { bytes = e.bytes; pins = e.pins }
 
--- each entry so, under its key
+-- each entry as contracts see it, under its key
 abbrev pub held_all : {K A : Type 0} → List (K × Entry A) → List (K × Held)
 held_all es = map (λ e. (e.0, held e.1)) es
 

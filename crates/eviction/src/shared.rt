@@ -19,7 +19,7 @@ impl<A: Allocator> Model for Shared<A> {
 }
 
 impl<A: Allocator> Shared<A> {
-    /// These bytes, with one holder.
+    /// The given bytes, with one holder.
     pub fn new(alloc: A, bytes: Vec<u8, A>) -> Result<Shared<A>, AllocError>
         ensures { IfOk result (λ s. s ≡ bytes.items) }
     {
@@ -27,8 +27,8 @@ impl<A: Allocator> Shared<A> {
         Ok(Shared { bytes })
     }
 
-    /// The same bytes for one holder more. Nothing is copied. It is refused where the count of
-    /// holders is full, which no clause says.
+    /// The bytes for one holder more. Nothing is copied. It is refused where the count of holders
+    /// is full, which no clause says.
     pub fn share(&self) -> Result<Shared<A>, AllocError>
         ensures { IfOk result (λ s. s ≡ self.now) }
     {

@@ -13,7 +13,7 @@ EndsBlock bytes = (front : List ℕ) × (bytes ≡ front ++ empty_line)
 abbrev pub HasNoBlock : List ℕ → Type 0
 HasNoBlock bytes = (front rest : List ℕ) → bytes ≡ front ++ rest → EndsBlock front → ⊥
 
--- the bytes end so, and no shorter beginning of them does
+-- the bytes end in CR LF CR LF, and no shorter beginning of them does
 pub record IsBlock (bytes : List ℕ) : Type 0 where
   pub ends : EndsBlock bytes
   pub first : (front rest : List ℕ) → bytes ≡ front ++ rest → EndsBlock front → rest ≡ []

@@ -13,7 +13,7 @@ pub record FailStreamValue : Type 0 where
   pub sent : List ℕ
   -- the most bytes that one call gives or takes
   pub most : ℕ
-  -- which call from here on fails, 1 being the next; 0 where none will
+  -- the call from here on that fails, 1 being the next; 0 where none will
   pub until_failure : ℕ
 
 -- the stream with one call counted
@@ -47,7 +47,7 @@ pub record TakesBytes (old new : FailStreamValue) (bytes : List ℕ) (result : R
   pub told : result ≡ Ok count
   pub kept : new ≡ record (with_a_call_counted old) { sent = old.sent ++ take count bytes }
 
--- it took them, unless memory was wanting
+-- the write took a front of the bytes, or failed since memory was wanting
 abbrev pub TakesFront : FailStreamValue → FailStreamValue → List ℕ → Result ℕ Error → Type 0
 TakesFront old new bytes result =
     TakesBytes old new bytes result ⊎ FailsWith OutOfMemory old new result

@@ -15,6 +15,6 @@ abbrev pub is_host_byte : ℕ → Bool
 is_host_byte b =
     is_unreserved b || is_delimiter b || (b == 37 || b == 58 || b == 91 || b == 93)
 
--- one or more such bytes: no blank, no line end, no slash, and no name of a user
+-- a host: one or more of its bytes, so no blank, no line end, no slash, and no name of a user
 abbrev pub is_host : List ℕ → Bool
 is_host text = nat_lt 0 (length text) && list_all is_host_byte text

@@ -25,7 +25,8 @@ PiecesGiveTheWhole =
     (left : Option (List ℕ))
     → Stands old [] [] → FeedsAll old pieces x new → Cuts old.prefix (concat pieces) y left → x ≡ y
 
--- the same bytes in other pieces give the same events, and leave the same session
+-- Pieces make no difference: bytes that are cut in two ways give the same events, and leave the
+-- same session.
 abbrev pub PiecesMakeNoDifference : Type 0
 PiecesMakeNoDifference =
     (old a b : SessionValue) (stream : List ℕ) (before : List EventValue)

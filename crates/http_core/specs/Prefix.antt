@@ -8,7 +8,7 @@ use Rattle.std.specs.List.{list_all, slice_split}
 abbrev pub is_unreserved : ℕ → Bool
 is_unreserved b = is_ascii_alphanumeric b || (b == 45 || b == 46 || b == 95 || b == 126)
 
--- one or more such bytes
+-- a segment of a prefix: one or more letters, digits, or - . _ ~
 abbrev pub is_prefix_segment : List ℕ → Bool
 is_prefix_segment text = nat_lt 0 (length text) && list_all is_unreserved text
 

@@ -23,7 +23,7 @@ pub record SessionValue : Type 0 where
   pub prefix : List ℕ
   pub state : SessionState
 
--- with these bytes of a block, or these of a body
+-- the state of a session at a stage, with these bytes of a block, or these of a body
 abbrev pub session_state : Stage → List ℕ → List ℕ → SessionState
 session_state stages.Block block body = Reading block
 session_state (stages.Body area hash size close) block body = Taking area hash size close body

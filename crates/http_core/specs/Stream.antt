@@ -37,7 +37,7 @@ pub record IsRequest (prefix bytes : List ℕ) (event : EventValue) : Type 0 whe
   pub full : length body ≡ body_length judgement
   pub gives : event ≡ outcome judgement body
 
--- these bytes, and none of them too many, make the event
+-- the bytes, and none of them too many, make the event
 abbrev pub Completes : List ℕ → List ℕ → EventValue → Type 0
 Completes prefix bytes event = IsTooLong bytes event ⊎ IsRequest prefix bytes event
 

@@ -64,7 +64,7 @@ impl<A: Allocator> FailStream<A> {
         &self.output
     }
 
-    /// Which call from here on fails, 1 being the next; 0 where none will.
+    /// The call from here on that fails, 1 being the next; 0 where none will.
     pub fn until_failure(&self) -> u64
         ensures { result ≡ self.now.until_failure }
     {

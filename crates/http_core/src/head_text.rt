@@ -49,7 +49,7 @@ impl HeadText {
         HeadText { text }
     }
 
-    /// Its bytes.
+    /// The bytes of the text.
     pub fn as_bytes(&self) -> &[u8]
         ensures { result.now ≡ self.now }
     {

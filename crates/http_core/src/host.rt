@@ -77,7 +77,7 @@ impl<A: Allocator + Copy> Host<A> {
 }
 
 impl<A: Allocator> Host<A> {
-    /// Its text.
+    /// The text of the host.
     pub fn as_str(&self) -> &str
         ensures { result.now ≡ self.now }
     {

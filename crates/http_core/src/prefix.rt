@@ -93,7 +93,7 @@ impl<A: Allocator + Copy> Prefix<A> {
 }
 
 impl<A: Allocator> Prefix<A> {
-    /// Its bytes.
+    /// The bytes of the prefix.
     pub fn as_bytes(&self) -> &[u8]
         ensures { result.now ≡ self.now }
     {

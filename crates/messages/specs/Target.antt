@@ -13,7 +13,7 @@ pub record IsLink (text : List ℕ) : Type 0 where
   pub short : length text ≤ 4096
   pub no_nul : AllByRecursion (λ b. b ≢ 0) text
 
--- such a text of UTF-8
+-- a target: 1 to 4096 bytes of UTF-8 without NUL
 pub record IsTarget (text : List ℕ) : Type 0 where
   pub utf8 : is_utf8 text ≡ true
   pub link : IsLink text

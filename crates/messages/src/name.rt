@@ -136,7 +136,7 @@ impl<A: Allocator> Name<A> {
         })
     }
 
-    /// The same name, over another allocator.
+    /// A copy of the name, over another allocator.
     pub fn copy_of<B: Allocator>(alloc: A, name: &Name<B>) -> Result<Name<A>, AllocError>
         ensures { IfOk result (λ n. n ≡ name.now) }
     {

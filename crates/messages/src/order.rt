@@ -10,7 +10,7 @@ use std::cmp::Ordering;
 
 /// What stands in a list by its name.
 pub trait Named {
-    /// Its name.
+    /// The name of a value.
     ghost name_in: { Self → List ℕ };
 
     /// The rules of its values.

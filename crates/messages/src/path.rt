@@ -80,7 +80,7 @@ impl<A: Allocator> Path<A> {
         read_path(alloc, text)
     }
 
-    /// The same path, over another allocator.
+    /// A copy of the path, over another allocator.
     pub fn copy_of<B: Allocator>(alloc: A, path: &Path<B>) -> Result<Path<A>, AllocError>
         ensures { IfOk result (λ p. p ≡ path.now) }
     {

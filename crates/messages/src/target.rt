@@ -78,7 +78,7 @@ impl<A: Allocator> Target<A> {
         read_target(alloc, text)
     }
 
-    /// The same target, over another allocator.
+    /// A copy of the target, over another allocator.
     pub fn copy_of<B: Allocator>(alloc: A, target: &Target<B>) -> Result<Target<A>, AllocError>
         ensures { IfOk result (λ t. t ≡ target.now) }
     {

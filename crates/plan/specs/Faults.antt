@@ -27,7 +27,7 @@ pub data Beginning : Type 0 where
   in_step : List StepValue → StepValue → Beginning
   in_root : List StepValue → List LineValue → Beginning
 
--- nothing in it is at fault in the version
+-- nothing in a beginning of a plan is at fault in the version
 abbrev pub IsBeginning : Version → Beginning → Type 0
 IsBeginning version at_start = Unit {0}
 IsBeginning version (in_step earlier step) =
@@ -76,7 +76,7 @@ abbrev pub HasStep : List StepValue → List ℕ → Type 0
 HasStep [] name = ⊥
 HasStep (step ∷ steps) name = (step.name ≡ name) ⊎ HasStep steps name
 
--- it names a step, and none of these
+-- an origin names a step, and none of these
 abbrev pub IsLater : List StepValue → WrittenOrigin → Type 0
 IsLater steps (from_source path) = ⊥
 IsLater steps (from_step name path) = ¬ HasStep steps name

@@ -21,7 +21,7 @@ pub data WrittenLine : Type 0 where
   root_line : WrittenLine
   in_line : List (List ℕ) → WrittenOrigin → WrittenLine
 
--- its parts are valid
+-- the parts of an origin are valid
 abbrev pub IsWrittenOrigin : WrittenOrigin → Type 0
 IsWrittenOrigin (from_source path) = (path ≡ []) ⊎ IsPath path
 IsWrittenOrigin (from_step name path) = IsStepName name × IsPath path

@@ -9,7 +9,7 @@ abbrev pub FaultyUnlessMemory : (PlanError → Type 0) → ReadError → Type 0
 FaultyUnlessMemory P (Faulty e) = P e
 FaultyUnlessMemory P Memory = Unit {0}
 
--- this is answered, unless memory ran out
+-- the value is read, unless memory ran out
 abbrev pub ReadsUnlessMemory : {X : Type 0} → Result X ReadError → X → Type 0
 ReadsUnlessMemory (Ok x) y = x ≡ y
 ReadsUnlessMemory (Err Memory) y = Unit {0}

@@ -33,6 +33,6 @@ TakesIn Two taken path old new = (taken ≡ true) × (new ≡ old)
 abbrev pub names_cmp : List (List ℕ) → List (List ℕ) → Ordering
 names_cmp = slice_cmp (slice_cmp nat_cmp)
 
--- the other path, or one above it
+-- a path is another, or lies below it
 abbrev pub IsAtOrBelow : List (List ℕ) → List (List ℕ) → Type 0
 IsAtOrBelow path above = (rest : List (List ℕ)) × (path ≡ above ++ rest)

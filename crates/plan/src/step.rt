@@ -60,7 +60,7 @@ impl<A: Allocator> StepName<A> {
         })
     }
 
-    /// The same name, over another allocator.
+    /// A copy of the name, over another allocator.
     pub fn copy_of<B: Allocator>(alloc: A, name: &StepName<B>) -> Result<StepName<A>, AllocError>
         ensures { IfOk result (λ n. n ≡ name.now) }
     {

@@ -53,7 +53,7 @@ fn of_one<A: Allocator + Copy>(
     number(global, store.held_bytes())
 }
 
-/// The same of two blobs, or of a blob and a size.
+/// What a row of two blobs, or of a blob and a size, comes to.
 fn of_two<A: Allocator + Copy>(
     global: Global,
     alloc: A,

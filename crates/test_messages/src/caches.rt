@@ -54,7 +54,7 @@ fn of_one<A: Allocator + Copy>(
     number(global, cache.held_bytes())
 }
 
-/// The same of bytes under a name.
+/// What a row of bytes under a name comes to.
 fn of_two<A: Allocator + Copy>(
     global: Global,
     alloc: A,

@@ -41,7 +41,7 @@ pub fn answer<A: Allocator + Copy>(
     }
 }
 
-/// So many bytes.
+/// A value of so many bytes.
 fn bytes<A: Allocator + Copy>(alloc: A, count: u64) -> Result<Vec<u8, A>, AllocError> {
     let mut bytes = Vec::new(alloc);
     for _ in 0..count {

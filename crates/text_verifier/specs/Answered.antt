@@ -25,7 +25,7 @@ pub record TellsVerdict {A : Type 0} (answer : Answer A) (v : Verdict A) : Type 
   pub one : IsOneLine (report_line v)
   pub positive : IsTrue answer.is_yes ↔ IsYes v
 
--- it tells the verdict on the question, and what the source lacks by it
+-- an answer tells the verdict on the question, and what the source lacks by it
 pub record IsAnswer {A : Type 0} (told : Telling) (q : Question) (answer : Answer A) : Type 0 where
   pub verdict : Verdict A
   pub judged : IsJudged told q verdict

@@ -19,7 +19,7 @@ noted_for name (step ∷ steps) (d ∷ digests) =
     if bytes_eq step name then Some d else noted_for name steps digests
 noted_for name steps digests = None
 
--- and for the step of a place
+-- the digest that is noted for the step of a place
 abbrev pub noted_at : {A : Type 0} → Question → Place A → Option DigestValue
 noted_at q (Step name) = noted_for name (names_of q.plan) q.noted.digests
 noted_at q Root = None

@@ -35,7 +35,7 @@ IsNoFault Fetch = Unit {0}
 IsNoFault Memory = Unit {0}
 IsNoFault e = ⊥
 
--- this is answered, unless memory ran out
+-- the value is answered, unless memory ran out
 abbrev pub AnswersUnlessMemory : {X : Type 0} → Result X TextError → X → Type 0
 AnswersUnlessMemory (Ok x) y = x ≡ y
 AnswersUnlessMemory (Err e) y = e ≡ Memory

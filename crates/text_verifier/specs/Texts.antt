@@ -34,7 +34,7 @@ pub record HasRecord (plan : PlanValue) (text : List ℕ) (noted : RecordValue) 
   pub fits : Fits noted plan
   pub text_is : text ≡ build_record_text noted
 
--- These texts ask the question: its digests are spelled, the plan is the one of its text, and so is
+-- The question that texts ask: its digests are spelled, the plan is the one of its text, and so is
 -- the record, which is of that plan.
 pub record HasTexts (sources claim plan noted : List ℕ) (question : Question) : Type 0 where
   pub sources_spelled : IsDigestText sources question.sources

@@ -14,9 +14,9 @@ use std::alloc::Allocator;
 /// The digests that are asked about.
 #[derive(Clone, Copy, Debug)]
 pub struct Digests {
-    /// That of the source tree.
+    /// The digest of the source tree.
     pub sources: Digest,
-    /// That of the root that is claimed.
+    /// The digest of the root that is claimed.
     pub claim: Digest,
 }
 

@@ -57,8 +57,11 @@ pub record IsTwin (S : List ℕ → Type 0) (t : Twin) : Type 0 where
   pub first : (b : List ℕ) → IsBlobIn t.one b → S b
   pub second : (b : List ℕ) → IsBlobIn t.other b → S b
 
+abbrev pub AllTwins : (Twin → Type 0) → Twins → Type 0
+AllTwins P ts = AllByRecursion (λ (t : List Name × Twin). P t.1) ts
+
 abbrev pub AreTwins : (List ℕ → Type 0) → Twins → Type 0
-AreTwins S ts = AllByRecursion (λ (t : List Name × Twin). IsTwin S t.1) ts
+AreTwins S ts = AllTwins (IsTwin S) ts
 
 -- ---- the same is counted
 
@@ -74,11 +77,11 @@ repeated_alike : (es : Twins) (p : List Name) (t : Twin) → is_repeated (firsts
 repeated_alike es [] t = gives_alike t.node es
 repeated_alike es (n ∷ p) t = refl
 
-abbrev kept : Twins → Twins → Twins
+abbrev pub kept : Twins → Twins → Twins
 kept earlier [] = []
 kept earlier (t ∷ ts) = cond (is_repeated (firsts earlier) t.0 (first_of t.1)) (kept earlier ts) (t ∷ kept (earlier ++ t ∷ []) ts)
 
-kept_firsts : (earlier ts : Twins) → firsts (kept earlier ts) ≡ counted (firsts earlier) (firsts ts)
+pub kept_firsts : (earlier ts : Twins) → firsts (kept earlier ts) ≡ counted (firsts earlier) (firsts ts)
 kept_firsts earlier [] = refl
 kept_firsts earlier (t ∷ ts) = elim (is_repeated (firsts earlier) t.0 (first_of t.1)) as (λ b. firsts (cond b (kept earlier ts) (t ∷ kept (earlier ++ t ∷ []) ts)) ≡ cond b (counted (firsts earlier) (firsts ts)) (line ∷ counted (firsts earlier ++ line ∷ []) (firsts ts))) [
   | true ↦ kept_firsts earlier ts
@@ -88,7 +91,7 @@ kept_firsts earlier (t ∷ ts) = elim (is_repeated (firsts earlier) t.0 (first_o
     line : List Name × NodeWithin
     line = (t.0, first_of t.1)
 
-kept_seconds : (earlier ts : Twins) → seconds (kept earlier ts) ≡ counted (seconds earlier) (seconds ts)
+pub kept_seconds : (earlier ts : Twins) → seconds (kept earlier ts) ≡ counted (seconds earlier) (seconds ts)
 kept_seconds earlier [] = refl
 kept_seconds earlier (t ∷ ts) =
     by (is_repeated (firsts earlier) t.0 (first_of t.1)) (kept_seconds earlier ts) (kept_seconds (earlier ++ t ∷ []) ts)
@@ -102,20 +105,20 @@ kept_seconds earlier (t ∷ ts) =
     by true old new = old
     by false old new = ap (λ l. line ∷ l) (new ∙ ap (λ l. counted l (seconds ts)) (map-append {B = List Name × NodeWithin} (λ (t : List Name × Twin). (t.0, second_of t.1)) earlier (t ∷ [])))
 
-all_kept : (S : List ℕ → Type 0) (earlier ts : Twins) → AreTwins S ts → AreTwins S (kept earlier ts)
-all_kept S earlier [] h = tt
-all_kept S earlier (t ∷ ts) h = elim (is_repeated (firsts earlier) t.0 (first_of t.1)) as (λ b. AreTwins S (cond b (kept earlier ts) (t ∷ kept (earlier ++ t ∷ []) ts))) [
-  | true ↦ all_kept S earlier ts h.1
-  | false ↦ (h.0, all_kept S (earlier ++ t ∷ []) ts h.1)
+pub all_kept : (P : Twin → Type 0) (earlier ts : Twins) → AllTwins P ts → AllTwins P (kept earlier ts)
+all_kept P earlier [] h = tt
+all_kept P earlier (t ∷ ts) h = elim (is_repeated (firsts earlier) t.0 (first_of t.1)) as (λ b. AllTwins P (cond b (kept earlier ts) (t ∷ kept (earlier ++ t ∷ []) ts))) [
+  | true ↦ all_kept P earlier ts h.1
+  | false ↦ (h.0, all_kept P (earlier ++ t ∷ []) ts h.1)
 ]
 
 -- ---- the same names, and the same alone
 
-names_along : {X Y : Type 0} (f : X → Y) (ns : List Name) (xs : List (List Name × X)) → names_with ns (map {B = List Name × Y} (λ (x : List Name × X). (x.0, f x.1)) xs) ≡ names_with ns xs
+pub names_along : {X Y : Type 0} (f : X → Y) (ns : List Name) (xs : List (List Name × X)) → names_with ns (map {B = List Name × Y} (λ (x : List Name × X). (x.0, f x.1)) xs) ≡ names_with ns xs
 names_along f ns [] = refl
 names_along f ns (x ∷ xs) = names_along f (add_first x.0 ns) xs
 
-lone_alike : (ts : Twins) → lone (firsts ts) ≡ lone (seconds ts)
+pub lone_alike : (ts : Twins) → lone (firsts ts) ≡ lone (seconds ts)
 lone_alike [] = refl
 lone_alike (t ∷ []) = by t.0
   where
@@ -155,24 +158,24 @@ first_found (x ∷ ms) d there = by (same_digest (digest_of (directory_bytes x))
 
 -- ---- children
 
-abbrev child_twin : WithinValue → WithinValue → Name → NodeValue → List Name × Twin
+abbrev pub child_twin : WithinValue → WithinValue → Name → NodeValue → List Name × Twin
 child_twin w v n x = (n ∷ [], record { node = x; one = w; other = v })
 
-abbrev child_twins : WithinValue → WithinValue → DirectoryValue → Twins
+abbrev pub child_twins : WithinValue → WithinValue → DirectoryValue → Twins
 child_twins w v m =
     map (λ (f : FileNodeValue). child_twin w v f.name (File f.digest f.executable)) m.files
     ++ (map (λ (d : DirectoryNodeValue). child_twin w v d.name (Dir d.digest)) m.directories
     ++ map (λ (l : SymlinkNodeValue). child_twin w v l.name (Link l.target)) m.symlinks)
 
 module _ (w v : WithinValue) (pick : Twin → NodeWithin) (u : WithinValue) (picks : (x : NodeValue) → pick (record { node = x; one = w; other = v }) ≡ record { node = x; within = u }) where
-  abbrev picked : Twins → MergeLines
+  abbrev pub picked : Twins → MergeLines
   picked ts = map {B = List Name × NodeWithin} (λ (t : List Name × Twin). (t.0, pick t.1)) ts
 
   picked_kind : {X : Type 0} (name : X → Name) (node : X → NodeValue) (xs : List X) → picked (map (λ (x : X). child_twin w v (name x) (node x)) xs) ≡ map {B = List Name × NodeWithin} (λ (x : X). (name x ∷ [], record { node = node x; within = u })) xs
   picked_kind name node [] = refl
   picked_kind name node (x ∷ xs) = λ i. (name x ∷ [], picks (node x) i) ∷ picked_kind name node xs i
 
-  picked_children : (m : DirectoryValue) → picked (child_twins w v m) ≡ child_lines u m
+  pub picked_children : (m : DirectoryValue) → picked (child_twins w v m) ≡ child_lines u m
   picked_children m =
       let files = map (λ (f : FileNodeValue). child_twin w v f.name (File f.digest f.executable)) m.files in
       let directories = map (λ (d : DirectoryNodeValue). child_twin w v d.name (Dir d.digest)) m.directories in
@@ -182,16 +185,16 @@ module _ (w v : WithinValue) (pick : Twin → NodeWithin) (u : WithinValue) (pic
       ∙ (λ i. picked_kind (λ (f : FileNodeValue). f.name) (λ (f : FileNodeValue). File f.digest f.executable) m.files i
       ++ (picked_kind (λ (d : DirectoryNodeValue). d.name) (λ (d : DirectoryNodeValue). Dir d.digest) m.directories i ++ picked_kind (λ (l : SymlinkNodeValue). l.name) (λ (l : SymlinkNodeValue). Link l.target) m.symlinks i))
 
-twins_kind : (S : List ℕ → Type 0) (w v : WithinValue) → ((x : NodeValue) → IsTwin S (record { node = x; one = w; other = v })) → {X : Type 0} (name : X → Name) (node : X → NodeValue) (xs : List X)
-    → AreTwins S (map (λ (x : X). child_twin w v (name x) (node x)) xs)
-twins_kind S w v h name node [] = tt
-twins_kind S w v h name node (x ∷ xs) = (h (node x), twins_kind S w v h name node xs)
+twins_kind : (P : Twin → Type 0) (w v : WithinValue) → ((x : NodeValue) → P (record { node = x; one = w; other = v })) → {X : Type 0} (name : X → Name) (node : X → NodeValue) (xs : List X)
+    → AllTwins P (map (λ (x : X). child_twin w v (name x) (node x)) xs)
+twins_kind P w v h name node [] = tt
+twins_kind P w v h name node (x ∷ xs) = (h (node x), twins_kind P w v h name node xs)
 
-twins_children : (S : List ℕ → Type 0) (w v : WithinValue) → ((x : NodeValue) → IsTwin S (record { node = x; one = w; other = v })) → (m : DirectoryValue) → AreTwins S (child_twins w v m)
-twins_children S w v h m =
-    all_join (λ (t : List Name × Twin). IsTwin S t.1) _ _ (twins_kind S w v h (λ (f : FileNodeValue). f.name) (λ (f : FileNodeValue). File f.digest f.executable) m.files)
-    (all_join (λ (t : List Name × Twin). IsTwin S t.1) _ _ (twins_kind S w v h (λ (d : DirectoryNodeValue). d.name) (λ (d : DirectoryNodeValue). Dir d.digest) m.directories)
-    (twins_kind S w v h (λ (l : SymlinkNodeValue). l.name) (λ (l : SymlinkNodeValue). Link l.target) m.symlinks))
+pub twins_children : (P : Twin → Type 0) (w v : WithinValue) → ((x : NodeValue) → P (record { node = x; one = w; other = v })) → (m : DirectoryValue) → AllTwins P (child_twins w v m)
+twins_children P w v h m =
+    all_join (λ (t : List Name × Twin). P t.1) _ _ (twins_kind P w v h (λ (f : FileNodeValue). f.name) (λ (f : FileNodeValue). File f.digest f.executable) m.files)
+    (all_join (λ (t : List Name × Twin). P t.1) _ _ (twins_kind P w v h (λ (d : DirectoryNodeValue). d.name) (λ (d : DirectoryNodeValue). Dir d.digest) m.directories)
+    (twins_kind P w v h (λ (l : SymlinkNodeValue). l.name) (λ (l : SymlinkNodeValue). Link l.target) m.symlinks))
 
 module _ (B : Blobs) (S : List ℕ → Type 0) (apart : NoClash S) (values : (b : List ℕ) → IsValue B b → S b) where
   -- ---- one directory, wherever it is read
@@ -245,7 +248,7 @@ module _ (B : Blobs) (S : List ℕ → Type 0) (apart : NoClash S) (values : (b 
     twins = child_twins w v m;
     gives = picked_children w v first_of w (λ x. refl) m ∙ sym made;
     opens = (m, reads_also (record { node = Dir d; one = w; other = v }) is (is.alike tt) d held_one held_other m read, picked_children w v second_of v (λ x. refl) m);
-    are = twins_children S w v (λ x. record { alike = λ directory. is.alike tt; first = is.first; second = is.second }) m;
+    are = twins_children (IsTwin S) w v (λ x. record { alike = λ directory. is.alike tt; first = is.first; second = is.second }) m;
   }
 
   line_also : (p : List Name) (t : Twin) → IsTwin S t → IsHeldIn t.one t.node → IsHeldIn t.other t.node → (new : MergeLines) → (line_opened B p (first_of t)).passes new → LineOpened p t new
@@ -299,7 +302,7 @@ module _ (B : Blobs) (S : List ℕ → Type 0) (apart : NoClash S) (values : (b 
         where
           on : (x : Option NodeValue) → (stands_or x (met B (merged_in B k path) k path (firsts us))).passes E → (stands_or x (met B (merged_in B k path) k path (seconds us))).passes E
           on (Some v) h = h
-          on None h = met_also k path below us (all_kept S [] ts are) held_first held_second E h
+          on None h = met_also k path below us (all_kept (IsTwin S) [] ts are) held_first held_second E h
 
   module _ (k : ℕ) (path : List Name) (below : Goes k) (ts : Twins) (are : AreTwins S ts) (one : AreHeld (firsts ts)) (other : AreHeld (seconds ts)) where
     abbrev at : Name → MergeLines → Stage MergeFault (Entry NodeValue)

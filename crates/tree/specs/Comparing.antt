@@ -23,7 +23,7 @@ IsEncoding b = (m : DirectoryValue) × IsDirectory m × (b ≡ directory_bytes m
 abbrev pub encodings_in : {A : Type 0} → OwnDirectories A → List (List ℕ)
 encodings_in own = items_of own.encodings.now
 
--- they are encodings of Directories, and beside them stand their digests
+-- a graft's own Directories: their encodings, and beside these their digests
 pub record AreOwn {A : Type 0} (own : OwnDirectories A) : Type 0 where
   pub digests : own.digests.now ≡ map digest_of (encodings_in own)
   pub valid : AllByRecursion IsEncoding (encodings_in own)

@@ -6,23 +6,23 @@ use Rattle.blob_source.specs.declared.source.FetchError.{FetchError}
 use Rattle.blob_source.specs.declared.source.FetchError.TheVariants.{Failed}
 use Rattle.tree.specs.declared.fail_sink.FailSink.{FailSink}
 
--- the other sink
+-- the sink that gets the other calls
 abbrev pub inner_of : {S : Type 0} → FailSink S → S
 inner_of f = f.inner
 
--- which call from here on fails, 1 being the next; 0 where none will
+-- the call from here on that fails, 1 being the next; 0 where none will
 abbrev pub until_failure_of : {S : Type 0} → FailSink S → ℕ
 until_failure_of f = f.until_failure
 
--- how often it failed, be it by itself or since the other did
+-- how often the sink failed, be it by itself or since the inner one did
 abbrev pub failures_of : {S : Type 0} → FailSink S → ℕ
 failures_of f = f.failures
 
--- It tells what the other tells. Its counts of calls and of failures are its own.
+-- What the sink tells: what the inner one does, but for its own counts of calls and of failures.
 abbrev pub telling_of : {S : Type 0} → (S → Telling) → FailSink S → Telling
 telling_of tells f = record (tells f.inner) { calls = f.calls; failures = f.failures }
 
--- it wasn't called yet, and the call of this number fails
+-- the sink wasn't called yet, and the call of this number fails
 pub record IsFreshSink {S : Type 0} (inner : S) (number : ℕ) (f : FailSink S) : Type 0 where
   pub inner_is : inner_of f ≡ inner
   pub number_is : until_failure_of f ≡ number

@@ -21,7 +21,7 @@ tops_below (folder n below rest) = (top below ∷ tops_below below) ++ tops_belo
 abbrev pub visited : Tree NodeValue → List (List ℕ)
 visited t = top t ∷ tops_below t
 
--- each once, where it first stands, but for those that were seen before
+-- each of some encodings once, where it first stands, but for those that were seen before
 abbrev pub unseen : List (List ℕ) → List (List ℕ) → List (List ℕ)
 unseen seen [] = []
 unseen seen (b ∷ bs) =
@@ -62,6 +62,6 @@ pub record IsValidFold {A : Type 0} (t : Tree NodeValue) (f : Folded A) : Type 0
 abbrev pub IsFoldOfValid : {A : Type 0} → Folded A → Type 0
 IsFoldOfValid f = (t : Tree NodeValue) × IsValidFold t f
 
--- the same, of a tree with which a check passes
+-- a fold of a tree with which a check passes, and whose Directories are valid
 abbrev pub IsFoldOfPassed : {A E : Type 0} → Stage E (Tree NodeValue) → Folded A → Type 0
 IsFoldOfPassed check f = (t : Tree NodeValue) × check.passes t × IsValidFold t f

@@ -51,7 +51,7 @@ directory_of (leaf n x rest) = with_child n x (directory_of rest)
 directory_of (folder n below rest) =
     with_child n (Dir (digest_of (directory_bytes (directory_of below)))) (directory_of rest)
 
--- its encoding
+-- the encoding of the Directory of what stands at the top
 abbrev pub top : Tree NodeValue → List ℕ
 top t = directory_bytes (directory_of t)
 

@@ -31,7 +31,7 @@ pub record AsksNoOther (Looks : Asked → Type 0) (old new : Telling) : Type 0 w
 abbrev pub Known : Type 0
 Known = Asked → Option (List ℕ)
 
--- it is what the source told, and each blob has its digest
+-- what is known is what the source told, and each blob has its digest
 pub record IsKnownOf (known : Known) (tells : Telling) : Type 0 where
   pub blobs : (d : DigestValue) (b : List ℕ) → known (blob d) ≡ Some b → IsBlobUnder tells.blobs d b
   pub results : (d : DigestValue) (b : List ℕ) → known (result d) ≡ Some b
@@ -56,7 +56,7 @@ KnowsNothing known = (a : Asked) → known a ≡ None
 abbrev pub IsSame : Known → Known → Type 0
 IsSame old new = (a : Asked) → new a ≡ old a
 
--- these bytes are known too, and all else is as it was
+-- the bytes are known too, and all else is as it was
 pub record KnowsToo (a : Asked) (bytes : List ℕ) (old new : Known) : Type 0 where
   pub held : new a ≡ Some bytes
   pub others : (e : Asked) → e ≢ a → new e ≡ old e

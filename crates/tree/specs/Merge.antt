@@ -17,7 +17,7 @@ gives_at [] e q = standing (below_entry q (Some e))
 gives_at (n ∷ p) e [] = a_directory
 gives_at (n ∷ p) e (m ∷ q) = if eq_by_cmp name_cmp m n then gives_at p e q else nothing
 
--- it gives nothing, or this
+-- what is given is nothing, or just what stands there
 abbrev pub GivesOnly : {L : Type 0} → Standing L → Standing L → Type 0
 GivesOnly given s = (given ≡ nothing) ⊎ (given ≡ s)
 
@@ -74,7 +74,7 @@ joined both n e empty = Some (with_entry n e empty)
 joined both n e (leaf m x rest) = beside both n e m (single x) rest (joined both n e rest)
 joined both n e (folder m t rest) = beside both n e m (whole t) rest (joined both n e rest)
 
--- and with all entries of another
+-- a directory with all entries of another
 abbrev pub joined_with : (Entry Leaf → Entry Leaf → Option (Entry Leaf)) → Tree Leaf → Tree Leaf
     → Option (Tree Leaf)
 joined_with both empty u = Some u

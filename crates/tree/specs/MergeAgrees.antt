@@ -53,7 +53,7 @@ pub record TellsOfMerges (B : Blobs) (ls : MergeLines) : Type 0 where
   pub trees : (es : TreeLines) → AreHeld ls → GiveNodesOf ls es → NoClash (IsOfMerge B ls es)
       → (T : Tree NodeValue) → (merged B ls).passes T
       → (t : Tree Leaf) × IsMergeOf es t × (root (form t) ≡ root T)
-  -- and where there is a conflict they merge into nothing
+  -- entries of lines in conflict merge into nothing
   pub conflicts : (es : TreeLines) → AreHeld ls → GiveNodesOf ls es → NoClash (IsOfMerge B ls es)
       → (p : List Name) → (merged B ls).fails (conflict p)
       → (t : Tree Leaf) → IsMergeOf es t → ⊥

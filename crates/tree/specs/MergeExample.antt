@@ -28,7 +28,7 @@ abbrev pub meeting_entries : TreeLines
 meeting_entries =
     (codes "a" ∷ [], whole empty) ∷ (codes "a" ∷ codes "b" ∷ [], empty_file) ∷ []
 
--- what they come to
+-- the tree that the directory and the file come to
 abbrev pub met_tree : Tree NodeValue
 met_tree = folder (codes "a") (leaf (codes "b") (File (digest_of []) false) empty) empty
 

@@ -117,8 +117,8 @@ pub record IsFirstIn (ms : List DirectoryValue) (d : DigestValue) (m : Directory
   pub right : digest_of (directory_bytes m) ≡ d
   pub first : AllByRecursion (λ other. digest_of (directory_bytes other) ≢ d) before
 
--- In a Tree it is the root where that has the digest, and else the first child that has it. There
--- nothing is missing or wrong.
+-- A Directory as it is read by its digest: from a source, or in a Tree, where it is the root if
+-- that has the digest, and else the first child that has it. In a Tree nothing is missing or wrong.
 abbrev pub ReadsWithin : Blobs → WithinValue → DigestValue → DirectoryValue → Type 0
 ReadsWithin B in_source d m = TellsDirectory B d m
 ReadsWithin B (in_tree t) d m = IsFirstIn (t.root ∷ t.children) d m
@@ -201,7 +201,7 @@ lone [] = None
 lone (l ∷ []) = node_here l.0 l.1
 lone (l ∷ k ∷ ls) = None
 
--- it stands as it is
+-- a lone node as it is, and else what others come to
 abbrev pub stands_or : Option NodeValue → Stage MergeFault (Entry NodeValue)
     → Stage MergeFault (Entry NodeValue)
 stands_or (Some x) others = comes_to (single x)
@@ -223,7 +223,7 @@ abbrev pub entry_merged : Blobs → (MergeLines → Stage MergeFault (Tree NodeV
     → MergeLines → Stage MergeFault (Entry NodeValue)
 entry_merged B below deeper path ls = stands_or (lone ls) (met B below deeper path ls)
 
--- in the directory at a path, below which paths may have `deeper` more names
+-- what lines come to in the directory at a path, below which paths may have `deeper` more names
 abbrev pub merged_in : Blobs → ℕ → List Name → MergeLines → Stage MergeFault (Tree NodeValue)
 merged_in B zero path ls = comes_to empty
 merged_in B (suc deeper) path ls =

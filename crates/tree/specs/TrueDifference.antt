@@ -16,7 +16,7 @@ use Rattle.tree.specs.Tree.{Name, path_cmp}
 abbrev pub LooksBeside : List (List ℕ) → Blobs → DigestValue → List Name → Looked → Type 0
 LooksBeside own B d p r = LooksFrom (ReadsDirectory own B) (FailsToRead own B) p (Some (Dir d)) r
 
--- the same in both, or a directory in both
+-- two look-ups come to one answer, or to a directory each
 abbrev pub AreAlike : Looked → Looked → Type 0
 AreAlike x y = (x ≡ y) ⊎ ((d e : DigestValue) × (x ≡ found (Dir d)) × (y ≡ found (Dir e)))
 
@@ -29,8 +29,8 @@ pub record StandFirst (own : List (List ℕ)) (B : Blobs) (g r : DigestValue) (p
   pub before : (q : List Name) (v w : Looked) → path_cmp q path ≡ Less
       → LooksBeside own B g q v → LooksBeside own B r q w → AreAlike v w
 
--- At a path both come to directories, of which one can't be read: the recorded one, or the graft's
--- where the recorded one can be.
+-- At a path look-ups in the graft and in the recorded directory come to directories, of which one
+-- can't be read: the recorded one, or the graft's where the recorded one can be.
 pub record StandUnread (own : List (List ℕ)) (B : Blobs) (g r : DigestValue) (f : Fault)
     : Type 0 where
   pub path : List Name

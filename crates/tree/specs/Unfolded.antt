@@ -72,12 +72,13 @@ abbrev pub IsFineAt : Blobs → List Name → DigestValue → Type 0
 IsFineAt B path d =
     (m : DirectoryValue) × TellsDirectory B d m × (length path ≡ 64 → m ≡ no_children)
 
--- so it is at each path before this one, in the order of paths; `above` are above the digest
+-- each directory at a path before this one, in the order of paths, is fine; `above` are the names
+-- above the digest
 abbrev pub AreFineBefore : Blobs → DigestValue → List Name → List Name → Type 0
 AreFineBefore B d above path = (q : List Name) (e : DigestValue) → path_cmp q path ≡ Less
     → Looks B d q (found (Dir e)) → IsFineAt B (above ++ q) e
 
--- the first directory of which that isn't so: its Directory isn't told
+-- the first directory that isn't fine: its Directory isn't told
 pub record IsFaultBelow (B : Blobs) (d : DigestValue) (above : List Name) (e : DigestValue)
     (f : Fault) : Type 0 where
   pub path : List Name
@@ -85,7 +86,7 @@ pub record IsFaultBelow (B : Blobs) (d : DigestValue) (above : List Name) (e : D
   pub fault : FailsDirectory B e f
   pub first : AreFineBefore B d above path
 
--- or it has an entry, at a path of 64 names
+-- the first directory that isn't fine: it has an entry, at a path of 64 names
 pub record IsDeep (B : Blobs) (d : DigestValue) (above path : List Name) : Type 0 where
   pub below : List Name
   pub split : path ≡ above ++ below

@@ -16,7 +16,7 @@ pub enum Difference<A: Allocator> {
     Unexplained(Path<A>),
     /// Only the graft has the path.
     Absent(Path<A>),
-    /// Both have it, but not the same there.
+    /// Each has the path, but not the same there.
     Differs(Path<A>),
 }
 

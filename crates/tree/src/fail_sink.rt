@@ -36,14 +36,14 @@ impl<S> FailSink<S> {
         }
     }
 
-    /// The other sink.
+    /// The sink that gets the other calls.
     pub fn inner(&self) -> &S
         ensures { result.now ≡ inner_of self.now }
     {
         &self.inner
     }
 
-    /// Which call from here on fails, 1 being the next; 0 where none will.
+    /// The call from here on that fails, 1 being the next; 0 where none will.
     pub fn until_failure(&self) -> u64
         ensures { result ≡ until_failure_of self.now }
     {

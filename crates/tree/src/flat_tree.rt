@@ -58,7 +58,7 @@ impl<A: Allocator> Model for FlatTree<A> {
     ghost invariant = { λ a. IsFlatTree (flat_value a.entries.entries) };
 }
 
-/// The same names, over memory of their own.
+/// A copy of the names, over memory of their own.
 pub(crate) fn copy_names<A: Allocator + Copy>(
     alloc: A,
     names: &[Name<A>],

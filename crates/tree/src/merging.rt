@@ -390,7 +390,7 @@ fn merge_below<A: Allocator + Copy, S: BlobSource<A>>(
     Ok(children.close(alloc)?)
 }
 
-/// The same node, over memory of its own.
+/// A copy of the node, over memory of its own.
 fn copy_node<A: Allocator + Copy>(alloc: A, node: &Node<A>) -> Result<Node<A>, AllocError>
     ensures copy { IfOk result (λ copy. copy ≡ node.now) }
     ensures valid { IfOk result (λ copy. IsNode (node_value node.now)) }

@@ -56,7 +56,7 @@ varint_by shortest (b ∷ bytes) =
     if nat_lt b 128 then Ok (b, bytes)
     else (groups_by shortest 8 bytes >>= λ high. Ok (b - 128 + 128 * high.0, high.1))
 
--- in the shortest form, and in any
+-- a number at the front of the bytes, in its shortest form; `any_varint_at` takes any form
 abbrev pub varint_at : List ℕ → Result (ℕ × List ℕ) WireError
 varint_at bytes = varint_by true bytes
 

@@ -24,7 +24,7 @@ pub fn read_varint(bytes: &[u8]) -> Result<(u64, usize), WireError>
     scan_varint(bytes, true)
 }
 
-/// The same with the number in its shortest form, or in any.
+/// The number at the front, in its shortest form or in any, and how many bytes it takes.
 pub(crate) fn scan_varint(bytes: &[u8], shortest: bool) -> Result<(u64, usize), WireError>
     ensures exact { Gives (λ found. (found.0, drop found.1 bytes.now)) result
         (varint_by shortest bytes.now) }

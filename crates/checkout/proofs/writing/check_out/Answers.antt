@@ -58,7 +58,7 @@ returns-in_err-folder-clause-refused g c =
     let mid = g.S.BlobSource.tells c.read_tree.new.source in
     rw (p.1, p.2) (in_folder c.in_ok-tree.tree c.in_ok-tree.ensures.told c.take.ensures.tries
     (tree_then (g.S.BlobSource.tells c.args.source.now) mid c.in_ok-tree.tree (λ d b h. h) c.in_ok-tree.ensures.few c.read_tree.ensures.only (contents_none mid))
-    (place_fails g.W.FolderWriter.works.refuses c.args.path.now c.take.result c.in_err-folder.field-0.0
+    (place_fails (g.W.FolderWriter.refuses c.take.new.self) c.args.path.now c.take.result c.in_err-folder.field-0.0
     (subst (λ q. FailsPlace (λ _ fault. c.take.result ≡ Err fault) q c.in_err-folder.field-0.0) c.in_ok-place.ensures.ok c.in_err-folder.ensures.refused) c.take.ensures.refused))
 
 pub returns-in_err-folder-clause-unwritten : goal.returns-in_err-folder-clause-unwritten
@@ -75,14 +75,14 @@ returns-in_err-folder-clause-few g c = asking.in_tree c.read_tree.ensures.once
 pub returns-in_err-write_entries-clause-refused : goal.returns-in_err-write_entries-clause-refused
 returns-in_err-write_entries-clause-refused g c =
     let p = err_from_is_err_and c.from_residual-in_err-write_entries.result c.from_residual-in_err-write_entries.ensures.1 in
-    let works = g.W.FolderWriter.works in
+    let has = g.W.FolderWriter.has in
     let tried = g.W.FolderWriter.tried in
     let path = c.args.path.now in
     let folder = c.in_ok-folder.folder in
-    let taken = subst (λ r. IfOk r (λ f. works.has f (empty_folder path))) c.in_ok-folder.ensures.same c.take.ensures.taken in
+    let taken = subst (λ r. IfOk r (λ f. has f (empty_folder path))) c.in_ok-folder.ensures.same c.take.ensures.taken in
     let mid = g.S.BlobSource.tells c.read_tree.new.source in
     let new = g.S.BlobSource.tells c.write_entries.new.source in
-    let fails = subst (λ es. FailsEntries (IsGained works folder) works.refuses (Tries tried c.take.new.self c.write_entries.new.writer) (AsksContents mid new) new.blobs path es c.in_err-write_entries.field-0.0)
+    let fails = subst (λ es. FailsEntries (IsGained has folder) (g.W.FolderWriter.refuses c.write_entries.new.writer) (Tries tried c.take.new.self c.write_entries.new.writer) (AsksContents mid new) new.blobs path es c.in_err-write_entries.field-0.0)
     c.in_ok-entries.ensures.value c.in_err-write_entries.ensures.refused in
     rw (p.1, p.2) (in_entries c.in_ok-tree.tree (unfolded_still c.write_entries.ensures.called.asked.blobs c.in_ok-tree.ensures.told)
     (fails_had (λ ws h. (h.0, h.1 (empty_folder path) taken)) (λ ps h. tries_then tried c.args.writer.now c.take.new.self c.write_entries.new.writer (path ∷ []) ps c.take.ensures.tries h)
@@ -116,7 +116,7 @@ pub returns-clause-written : goal.returns-clause-written
 returns-clause-written g c =
     let blobs = (g.S.BlobSource.tells c.write_entries.new.source).blobs in
     let made = c.in_ok-write_entries.ensures.made in
-    let taken = subst (λ r. IfOk r (λ folder. g.W.FolderWriter.works.has folder (empty_folder c.args.path.now))) c.in_ok-folder.ensures.same c.take.ensures.taken in
+    let taken = subst (λ r. IfOk r (λ folder. g.W.FolderWriter.has folder (empty_folder c.args.path.now))) c.in_ok-folder.ensures.same c.take.ensures.taken in
     record {
       entries = c.in_ok-tree.tree;
       unfolded = unfolded_still c.write_entries.ensures.called.asked.blobs c.in_ok-tree.ensures.told;

@@ -9,5 +9,5 @@ invariant-loop-below g l =
     let tells = g.S.BlobSource.tells in
     record {
       called : Called (tells l.fn.source) (tells l.source) ⊥;
-      so_far : SoFar g.W.FolderWriter.works (Tries g.W.FolderWriter.tried l.fn.writer l.writer) (tells l.fn.source) (tells l.source) l.fn.folder l.folder l.path (path_values l.fn.entries.items) (path_values l.below-iterator.rest.items);
+      so_far : SoFar g.W.FolderWriter.has (Tries g.W.FolderWriter.tried l.fn.writer l.writer) (tells l.fn.source) (tells l.source) l.fn.folder l.folder l.path (path_values l.fn.entries.items) (path_values l.below-iterator.rest.items);
     }

@@ -13,25 +13,25 @@ use Rattle.checkout.proofs.writing.write_entry.Goals as goal
 
 pub returns-in-Link-clause-made : goal.returns-in-Link-clause-made
 returns-in-Link-clause-made g c =
-    let works = g.W.FolderWriter.works in
+    let has = g.W.FolderWriter.has in
     let B = (g.S.BlobSource.tells c.args.source.now).blobs in
     where_ok c.made_at-in-Link.result c.make_link-made.result c.made_at-in-Link.ensures.same c.make_link-made.ensures.made
-    (λ gains. subst (λ e. MakesEntry works B c.args.folder.now c.make_link-made.new.folder (string_bytes c.args.place) (entry_value e)) (sym c.in-Link.is)
-    (record { written = a_link c.as_str-in-Link-2.result.now; of_entry = c.as_str-in-Link-2.ensures.value; gains = subst (λ q. Gains works c.args.folder.now c.make_link-made.new.folder ((q, a_link c.as_str-in-Link-2.result.now) ∷ [])) c.as_str-in-Link.ensures.value gains }))
+    (λ gains. subst (λ e. MakesEntry has B c.args.folder.now c.make_link-made.new.folder (string_bytes c.args.place) (entry_value e)) (sym c.in-Link.is)
+    (record { written = a_link c.as_str-in-Link-2.result.now; of_entry = c.as_str-in-Link-2.ensures.value; gains = subst (λ q. Gains has c.args.folder.now c.make_link-made.new.folder ((q, a_link c.as_str-in-Link-2.result.now) ∷ [])) c.as_str-in-Link.ensures.value gains }))
 
 pub returns-in_ok-content-in-File-clause-made : goal.returns-in_ok-content-in-File-clause-made
 returns-in_ok-content-in-File-clause-made g c =
-    let works = g.W.FolderWriter.works in
+    let has = g.W.FolderWriter.has in
     let B = (g.S.BlobSource.tells c.read_content.new.source).blobs in
     let old = c.args.folder.now in
     let new = c.write_file-made.new.folder in
     where_ok c.made_at-in-File.result c.write_file-made.result c.made_at-in-File.ensures.same c.write_file-made.ensures.made
-    (λ gains. subst (λ e. MakesEntry works B old new (string_bytes c.args.place) (entry_value e)) (sym c.in-File.is)
+    (λ gains. subst (λ e. MakesEntry has B old new (string_bytes c.args.place) (entry_value e)) (sym c.in-File.is)
     (record {
       written = a_file c.in_ok-content-in-File.content.items c.in-File.executable;
       of_entry = (c.in_ok-content-in-File.ensures.told, refl);
-      gains = subst (λ b. Gains works old new ((string_bytes c.args.place, a_file b c.in-File.executable) ∷ [])) c.deref.ensures.value
-          (subst (λ q. Gains works old new ((q, a_file c.deref.result.now c.in-File.executable) ∷ [])) c.as_str-in-File.ensures.value gains);
+      gains = subst (λ b. Gains has old new ((string_bytes c.args.place, a_file b c.in-File.executable) ∷ [])) c.deref.ensures.value
+          (subst (λ q. Gains has old new ((q, a_file c.deref.result.now c.in-File.executable) ∷ [])) c.as_str-in-File.ensures.value gains);
     }))
 
 pub returns-in-Dir-clause-only : goal.returns-in-Dir-clause-only
@@ -64,15 +64,15 @@ returns-in_ok-content-in-File-clause-few g c =
 
 pub returns-in-Dir-clause-refused : goal.returns-in-Dir-clause-refused
 returns-in-Dir-clause-refused g c =
-    call_fails g.W.FolderWriter.works.refuses _ _ (string_bytes c.args.place) _ c.make_folder-made.result c.made_at.result c.as_str.ensures.value c.make_folder-made.ensures.tries c.made_at.ensures.refused c.make_folder-made.ensures.refused
+    call_fails (g.W.FolderWriter.refuses c.make_folder-made.new.self) _ _ (string_bytes c.args.place) _ c.make_folder-made.result c.made_at.result c.as_str.ensures.value c.make_folder-made.ensures.tries c.made_at.ensures.refused c.make_folder-made.ensures.refused
 
 pub returns-in-Link-clause-refused : goal.returns-in-Link-clause-refused
 returns-in-Link-clause-refused g c =
-    call_fails g.W.FolderWriter.works.refuses _ _ (string_bytes c.args.place) _ c.make_link-made.result c.made_at-in-Link.result c.as_str-in-Link.ensures.value c.make_link-made.ensures.tries c.made_at-in-Link.ensures.refused c.make_link-made.ensures.refused
+    call_fails (g.W.FolderWriter.refuses c.make_link-made.new.self) _ _ (string_bytes c.args.place) _ c.make_link-made.result c.made_at-in-Link.result c.as_str-in-Link.ensures.value c.make_link-made.ensures.tries c.made_at-in-Link.ensures.refused c.make_link-made.ensures.refused
 
 pub returns-in_ok-content-in-File-clause-refused : goal.returns-in_ok-content-in-File-clause-refused
 returns-in_ok-content-in-File-clause-refused g c =
-    call_fails g.W.FolderWriter.works.refuses _ _ (string_bytes c.args.place) _ c.write_file-made.result c.made_at-in-File.result c.as_str-in-File.ensures.value c.write_file-made.ensures.tries c.made_at-in-File.ensures.refused c.write_file-made.ensures.refused
+    call_fails (g.W.FolderWriter.refuses c.write_file-made.new.self) _ _ (string_bytes c.args.place) _ c.write_file-made.result c.made_at-in-File.result c.as_str-in-File.ensures.value c.write_file-made.ensures.tries c.made_at-in-File.ensures.refused c.write_file-made.ensures.refused
 
 pub returns-in_err-content-in-File-clause-refused : goal.returns-in_err-content-in-File-clause-refused
 returns-in_err-content-in-File-clause-refused g c =

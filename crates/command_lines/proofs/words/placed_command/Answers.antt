@@ -8,4 +8,5 @@ returns c =
     let with_1 = c.in_ok-arg.ensures.shape c.optional.ensures.local ∙ ap₂ with_rule c.new.ensures.app c.optional.ensures.rule in
     let with_2 = c.in_ok-arg-2.ensures.shape c.optional-2.ensures.local ∙ ap₂ with_rule with_1 c.optional-2.ensures.rule in
     let with_3 = c.in_ok-arg-3.ensures.shape c.optional-3.ensures.local ∙ ap₂ with_rule with_2 c.optional-3.ensures.rule in
-    IfOk-weaker c.arg-4.result _ _ (λ r h. h.shape c.optional-4.ensures.local ∙ ap₂ with_rule with_3 c.optional-4.ensures.rule) c.arg-4.ensures
+    let with_4 = c.in_ok-arg-4.ensures.shape c.optional-4.ensures.local ∙ ap₂ with_rule with_3 c.optional-4.ensures.rule in
+    IfOk-weaker c.arg-5.result _ _ (λ r h. h.shape c.optional-5.ensures.local ∙ ap₂ with_rule with_4 c.optional-5.ensures.rule) c.arg-5.ensures
