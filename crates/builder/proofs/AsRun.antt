@@ -12,11 +12,11 @@ use Rattle.plan.specs.Values.{PlanValue}
 use Rattle.tree.specs.Tree.{Tree, Leaf}
 use Rattle.tree.specs.Lookup.{IsValue}
 use Rattle.verifier.specs.Build.{Meaning, ActionMeaning, action_digest, Outcome, Event, start, finish, lose, State, opening, job_of, MeaningFits, happens, Obeys, IsRun}
-use Rattle.verifier.specs.Headline.{IsBlobOfMeaning, IsConcerned}
+use Rattle.verifier.specs.Headline.{IsConcerned}
 use Rattle.verifier.proofs.FreshRuns.{one_answer}
 use Rattle.runs.specs.Calls.{IsStarted, IsFinished, IsOpened, without_job}
 use Rattle.runs.specs.Engine.{FinishedValue, JobValue, EngineValue, IsEngine, finished_in, job_in}
-use Rattle.runs.specs.Mirrors.{Mirrors, IsConcernedIn, IsMirrored, nothing_told}
+use Rattle.runs.specs.Mirrors.{Mirrors, IsBlobOfMeaning, IsConcernedIn, IsMirrored, nothing_told}
 use Rattle.runs.specs.declared.starting.Job.{Job}
 use Rattle.runs.proofs.Finishes.{finished_is_engine, finish_event}
 use Rattle.runs.proofs.Lost.{lost_engine, job_there, lost_event}
@@ -85,7 +85,8 @@ module _ (A : Type 0) (y : Yields) (told : Telling) where
       mirrors : Mirrors e t meaning state
 
     concerned : (B : Blobs) (e : EngineValue) (es : List Event) → ((b : List ℕ) → IsValue B b → IsValue told.blobs b) → e.plan ≡ plan → Grown e last → (b : List ℕ) → IsConcernedIn B e meaning t es b → IsConcernedIn told.blobs last meaning t es b
-    concerned B e es more same grown b (inr (i, f, at, p, m, inside, directory, among, spelled)) = inr (i, f, grown i f at, p, m, inside, directory, among, spelled)
+    concerned B e es more same grown b (inr (inr (i, f, at, p, m, inside, directory, among, spelled))) = inr (inr (i, f, grown i f at, p, m, inside, directory, among, spelled))
+    concerned B e es more same grown b (inr (inl h)) = inr (inl h)
     concerned B e es more same grown b (inl h) = inl (subst (λ p. IsConcerned told.blobs p meaning t [] es b) (same ∙ sym last_plan) (by h))
       where
         by : IsConcerned B e.plan meaning t [] es b → IsConcerned told.blobs e.plan meaning t [] es b
@@ -172,7 +173,7 @@ module _ (A : Type 0) (y : Yields) (told : Telling) where
       where
         of : (b : List ℕ) → IsValue told.blobs b ⊎ IsBlobOfMeaning meaning b → IsConcernedIn told.blobs last meaning t [] b
         of b (inl value) = inl (inl (inl value))
-        of b (inr m) = inl (inr (inl (inr m)))
+        of b (inr m) = inr (inl (inl m))
 
 pub as_run : (A : Type 0) (y : Yields) (plan : PlanValue) (sources : DigestValue) (before told : Telling) (most : ℕ) (first last : EngineValue) → IsPlan plan → IsEngine first → IsOpened before.blobs plan sources first → KeepsRight before.blobs told.blobs
     → (led : IsLed A y told most first last) → (t : Tree Leaf) (meaning : Meaning) (X : List (ActionMeaning × Outcome)) → IsAbout plan sources told.blobs led.calls last t meaning X → IsARun told.blobs last t meaning X

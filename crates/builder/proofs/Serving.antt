@@ -228,7 +228,7 @@ module _ (A : Type 0) (y : Yields) (most : ℕ) (plan : PlanValue) (sources : Di
     S = IsConcernedIn told.blobs last meaning t es
 
     way_from : (p : List Name) (x : NodeValue) → Looks told.blobs last.sources p (found x) → TellsWay told.blobs t p
-    way_from p x look = way_told told.blobs S (told_reads told.blobs S (λ c q. inl (inl (inl q))) k.apart) p (Some (whole t)) x k.ordered (λ c q. inl (inr (inl (inl q))))
+    way_from p x look = way_told told.blobs S (told_reads told.blobs S (λ c q. inl (inl (inl q))) k.apart) p (Some (whole t)) x k.ordered (λ c q. inl (inr (inl q)))
         (subst (λ d. LooksFrom (TellsDirectory told.blobs) (FailsDirectory told.blobs) p (Some (Dir d)) (found x)) (sym k.mirrors.sources) look)
 
     ways_of : (ls : List LineValue) → AreLinesOf last.plan ls → (l : LineValue) → Contains ls l → (p : List Name) → l.origin ≡ source p → TellsWay told.blobs t p

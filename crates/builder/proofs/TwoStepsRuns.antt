@@ -13,12 +13,13 @@ use Rattle.verifier.specs.Build.{ActionMeaning, action_digest, Outcome, Event, S
 use Rattle.verifier.specs.TwoSteps as two
 use Rattle.verifier.proofs.FreshRuns.{found_one}
 use Rattle.verifier.proofs.TwoSteps.{sources_named, fits, table_valid}
-use Rattle.verifier.proofs.TwoStepsEvents.{IsOwnJob, own_end, own_opening, of_events}
+use Rattle.verifier.proofs.TwoStepsEvents.{IsOwnJob, own_end, own_opening, of_starts}
 use Rattle.verifier.proofs.TwoStepsRun.{gen_digest, use_digest}
-use Rattle.verifier.proofs.TwoStepsBlobs.{all_blobs, none_clash, in_tree, of_nothing, of_meaning}
+use Rattle.verifier.proofs.TwoStepsBlobs.{all_blobs, none_clash, in_tree, of_nothing}
 use Rattle.runs.specs.Engine.{FinishedValue, finished_in}
 use Rattle.runs.specs.Mirrors.{IsFormOf, IsConcernedIn}
 use Rattle.runs.specs.TwoSteps as example
+use Rattle.runs.proofs.TwoStepsEnds.{of_meaning, of_ends}
 use Rattle.runs.proofs.TwoStepsServed.{in_engine, gen_form, use_form}
 use Rattle.worker.specs.Calls.{Call, ran, taken}
 use Rattle.worker.specs.Stored.{IsToldOrTree}
@@ -32,11 +33,12 @@ use Rattle.builder.proofs.TwoStepsOpened.{kept_value, tree_value}
 concerned : (b : List ℕ) (es : List Event) (s : State) → IsRun two.table two.plan two.meaning two.tree opening es s → IsConcernedIn store.telling.blobs worked.last two.meaning two.tree es b → Contains all_blobs b
 concerned b es s run (inl (inl (inl v))) = kept_value b v
 concerned b es s run (inl (inl (inr h))) = tree_value b h
-concerned b es s run (inl (inr (inl (inl h)))) = of_nothing b h
-concerned b es s run (inl (inr (inl (inr h)))) = of_meaning b h
+concerned b es s run (inl (inr (inl h))) = of_nothing b h
 concerned b es s run (inl (inr (inr (inl (pair, (k, lt, e), h))))) = absurd (omega (arith, lt))
-concerned b es s run (inl (inr (inr (inr h)))) = of_events b opening es s own_opening run h
-concerned b es s run (inr h) = in_tree b (in_engine b h)
+concerned b es s run (inl (inr (inr (inr h)))) = of_starts b opening es s own_opening run h
+concerned b es s run (inr (inl (inl h))) = of_meaning b h
+concerned b es s run (inr (inl (inr h))) = of_ends b opening es s run h
+concerned b es s run (inr (inr h)) = in_tree b (in_engine b h)
 
 -- ---- what its jobs finished with
 

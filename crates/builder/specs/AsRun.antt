@@ -1,4 +1,4 @@
--- That a build is a run, by its list of calls.
+-- How a build is a run, by its list of calls.
 use Rattle.std.specs.Prelude.{◌≡◌, ◌⊎◌, ℕ, List, Some, Contains}
 use Rattle.blob_digest.specs.Digest.{DigestValue, NoClash}
 use Rattle.blob_source.specs.Source.{Blobs}

@@ -133,7 +133,7 @@ module _ (A : Type 0) (yields : Yields) (most : ℕ) (plan : PlanValue) (sources
     pub answered : IsAnsweredYes A new.store last b
     pub unfailed : new.failed ≡ old.failed
 
-  -- in turns each step has finished, and the root is refused
+  -- a build came to no root: in turns each step has finished, and the root is refused
   pub record RefusesRoot (first last : EngineValue) (ran : Ran first last) (error : RunsError A)
       : Type 0 where
     pub all : ran.led.built.led.calls ≡ ran.whole
@@ -164,9 +164,9 @@ module _ (A : Type 0) (yields : Yields) (most : ℕ) (plan : PlanValue) (sources
   Builds came = (first : EngineValue) × (last : EngineValue) × (ran : Ran first last)
       × EndsWith first last ran came
 
--- What is so whatever is answered. Each child that was started was waited for, and what the store
--- had under its own digest stays told. The store failed exactly where that is told, and the runner
--- at least there, and there alone where one job runs at once.
+-- What holds whatever a build answers. Each child that was started was waited for, and what the
+-- store had under its own digest stays told. The store failed exactly where that is told, and the
+-- runner at least there, and there alone where one job runs at once.
 pub record EndsInOrder {T A : Type 0} (most : ℕ) (old new : Seen)
     (result : Result T (BuildPlanError A)) : Type 0 where
   pub alive : new.alive ≡ old.alive

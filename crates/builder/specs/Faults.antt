@@ -78,7 +78,7 @@ fault_of (errors.Opening error) = of_opening error
 fault_of (errors.Step error) = of_refusal (Step error.step) error.refusal
 fault_of (errors.Root error) = of_runs Root error
 
--- it is no refusal with a number: the store or the runner failed, or memory ran out
+-- a fault is no refusal with a number: the store or the runner failed, or memory ran out
 abbrev pub HasNoNumber : Fault → Type 0
 HasNoNumber (Refused place number) = ⊥
 HasNoNumber _ = Unit {0}

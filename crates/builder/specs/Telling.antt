@@ -55,7 +55,7 @@ Tells plan (Ok (Failed line why)) (Err error) =
 Tells plan (Err error) came = HasNoLine came error
 Tells plan told came = ⊥
 
--- it is told of what came of this plan
+-- a build of the plan, and what is told of what came of it
 pub record IsBuildTold {A : Type 0} (yields : Yields) (most : ℕ) (plan : PlanValue)
     (sources : DigestValue) (old new : Seen) (told : Result (Told A) (BuildPlanError A))
     : Type 0 where

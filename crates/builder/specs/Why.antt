@@ -27,7 +27,7 @@ use Rattle.builder.specs.Lines.{place_text}
 abbrev pub about_blob : DigestValue → List ℕ → List ℕ
 about_blob digest fault = codes "blob " ++ (digest_text digest ++ 32 ∷ fault)
 
--- or with what is at a path
+-- what is wrong with what stands at a path, after the word for its kind
 abbrev pub about_path : List ℕ → List (List ℕ) → List ℕ → List ℕ
 about_path kind path fault = kind ++ 32 ∷ (escaped_path path ++ 32 ∷ fault)
 

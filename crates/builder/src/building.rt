@@ -2,6 +2,7 @@ ghost use Rattle.std.specs.Prelude.{◌≡◌, ◌<◌, IfErr, IfOk, IsErrOf};
 ghost use Rattle.blob_source.specs.Called.{Called};
 ghost use Rattle.builder.specs.Built.{AsksRootOnce, Builds, ComesInOrder, IsEnd, seen};
 ghost use Rattle.runs.specs.Calls.{HaveAllFinished, IsRootFault};
+ghost use Rattle.worker.specs.Values.{SaysNoMore};
 
 use crate::error::BuildPlanError;
 use blob_digest::Digest;
@@ -81,7 +82,7 @@ pub fn build_plan<A: Allocator + Copy, S: BlobSink<A>, N: Runner<A>, W: Watcher>
         (N.failures runner.old) (W.told watcher.old))
         (seen (S.tells sink.new) (N.starts runner.new) (N.alive runner.new)
         (N.failures runner.new) (W.told watcher.new)) result }
-    ensures below { N.work runner.new ≡ N.work runner.old }
+    ensures no_more { SaysNoMore (N.ran runner.new) (N.ran runner.old) }
 {
     let mut engine = Engine::new(alloc, plan, sources, sink)?;
     build(alloc, &mut engine, sink, runner, watcher, jobs)?;

@@ -1,6 +1,7 @@
 ghost use Rattle.std.specs.Prelude.{◌≡◌, ◌<◌, IfOk, Ok};
 ghost use Rattle.builder.specs.Built.{ComesInOrder, seen};
 ghost use Rattle.builder.specs.Telling.{IsBuildTold, Tells};
+ghost use Rattle.worker.specs.Values.{SaysNoMore};
 
 use crate::building::{Built, build_plan};
 use crate::error::BuildPlanError;
@@ -16,7 +17,7 @@ use worker::{Runner, Watcher};
 /// What a build tells, with its line.
 #[derive(Drop)]
 pub enum Told<A: Allocator> {
-    /// It came to its root.
+    /// The build came to its root.
     Built {
         line: String<A>,
         record_text: Vec<u8, A>,
@@ -73,7 +74,7 @@ pub fn tell_build<A: Allocator + Copy, S: BlobSink<A>, N: Runner<A>, W: Watcher>
         (N.failures runner.old) (W.told watcher.old))
         (seen (S.tells sink.new) (N.starts runner.new) (N.alive runner.new)
         (N.failures runner.new) (W.told watcher.new)) result }
-    ensures below { N.work runner.new ≡ N.work runner.old }
+    ensures no_more { SaysNoMore (N.ran runner.new) (N.ran runner.old) }
 {
     let error = match build_plan(alloc, *sources, plan, sink, runner, watcher, jobs) {
         Ok(built) => return Ok(tell_root(alloc, plan, built)?),

@@ -161,7 +161,7 @@ WasCollected works ended folder q =
     ⊎ ((o : OutputValue) × (blobs : List (List ℕ))
     × IsOutputAt works ended (place_in folder (path_text q)) o blobs)
 
--- This is so at one of the paths below a folder, and at each before it nothing stood, or an output.
+-- At a path of the list this is so, and at each before it nothing stood, or an output.
 pub record IsFirstPath {R C E : Type 0} (works : Works R C E) (ended : E) (folder : List ℕ)
     (paths : List (List (List ℕ))) (Is : List ℕ → Type 0) (path : List (List ℕ)) : Type 0 where
   pub before : List (List (List ℕ))

@@ -1,13 +1,13 @@
 -- Where a job's files stand, and what is made before its process starts.
 use Rattle.std.specs.Prelude.{◌≡◌, ◌⊎◌, ℕ, List, [], ◌∷◌, ◌++◌, Option, Some, None, decimal, map}
-use Rattle.std.specs.IoError.{error_kind}
+use Rattle.std.specs.IoError.{error_kind, raw_os_error}
 use Rattle.std.specs.declared.io.Error.{Error}
-use Rattle.std.specs.declared.io.ErrorKind.TheVariants.{OutOfMemory}
+use Rattle.std.specs.declared.io.ErrorKind.TheVariants.{OutOfMemory, QuotaExceeded}
 use Rattle.std.specs.Path.{path_parent}
 use Rattle.messages.specs.Path.{path_text}
 use Rattle.action_messages.specs.Command.{CommandValue}
 use Rattle.worker.specs.Values.{LayoutValue}
-use Rattle.processes.specs.Workshop.{Works, RoomValue}
+use Rattle.processes.specs.Workshop.{RoomValue}
 
 -- the text of a path below a folder
 abbrev pub place_in : List ℕ → List ℕ → List ℕ
@@ -63,5 +63,11 @@ room_of_job folder l c = record (room_of_layout folder l) {
 
 -- the error by which a child isn't started: a call of the workshop was refused by it, or it is lack
 -- of memory
-abbrev pub IsUnstarted : {R C E : Type 0} → Works R C E → Error → Type 0
-IsUnstarted works error = works.unstarted error ⊎ (error_kind error ≡ OutOfMemory)
+abbrev pub IsUnstarted : (Error → Type 0) → Error → Type 0
+IsUnstarted unstarted error = unstarted error ⊎ (error_kind error ≡ OutOfMemory)
+
+-- the error of a runner that has run out, which isn't the system's: no number is left for a folder,
+-- or its count of children is full
+pub record IsRunOut (error : Error) : Type 0 where
+  pub kind : error_kind error ≡ QuotaExceeded
+  pub own : raw_os_error error ≡ None

@@ -1,7 +1,8 @@
 -- Jobs in a workshop, and what may come of them.
-use Rattle.std.specs.Prelude.{suc, ◌≡◌, ◌≤◌, ℕ, ℤ, List, [], ◌∷◌, Result, Ok, Err}
+use Rattle.std.specs.Prelude.{suc, ◌≡◌, ◌⊎◌, ◌≤◌, ℕ, ℤ, List, [], ◌∷◌, Result, Ok, Err}
 use Rattle.std.specs.Prelude.{string_bytes}
 use Rattle.action_messages.specs.Command.{CommandValue}
+use Rattle.blob_source.specs.Source.{greatest_count}
 use Rattle.std.specs.declared.io.Error.{Error}
 use Rattle.worker.specs.Values.{LayoutValue, ProducedValue, EndValue, made, bad_at, failed}
 use Rattle.worker.specs.Values.{StartValue, IsAbsolute, program_of}
@@ -18,7 +19,7 @@ use Rattle.processes.specs.declared.workshop.Exit.{Exit}
 use Rattle.processes.specs.declared.workshop.Exit.TheVariants.{Code}
 use Rattle.processes.specs.declared.workshop.Exit.TheVariants as exits
 use Rattle.processes.specs.Workshop.{Works}
-use Rattle.processes.specs.Laying.{folder_of, start_of, room_of_job}
+use Rattle.processes.specs.Laying.{folder_of, start_of, room_of_job, IsRunOut}
 use Rattle.processes.specs.Collected.{AreCollected, IsFirstBad, IsUnread}
 
 -- how many children haven't been waited for yet
@@ -45,6 +46,10 @@ work_of r = string_bytes r.work
 
 abbrev pub next_of : {W A : Type 0} → ProcessRunner W A → ℕ
 next_of r = r.next
+
+-- no number is left for a folder, or the count of children is full
+abbrev pub HasRunOut : {W A : Type 0} → ProcessRunner W A → Type 0
+HasRunOut r = (next_of r ≡ greatest_count) ⊎ (alive_of r ≡ greatest_count)
 
 -- what is done with the errors of processes
 abbrev pub errors_of : {R : Type 0} → Disk R → ChildErrors
@@ -103,6 +108,10 @@ HaveStartedFrom {R} {C} works work first next (s ∷ ss) =
 abbrev pub HaveStarted : {R C E : Type 0} → Works R C E → List ℕ → ℕ → List StartValue → Type 0
 HaveStarted works work next = HaveStartedFrom works work 0 next
 
+-- children were started, each in a folder with a number below the next one
+abbrev pub HaveRun : {R C E : Type 0} → Works R C E → List ℕ → List StartValue → Type 0
+HaveRun works work started = (next : ℕ) × HaveStarted works work next started
+
 -- The command names its program from the root. A child was started so, in a numbered folder, and
 -- came to this.
 pub record IsJobRun {R C E : Type 0} (works : Works R C E) (work : List ℕ) (l : LayoutValue)
@@ -115,12 +124,26 @@ pub record IsJobRun {R C E : Type 0} (works : Works R C E) (work : List ℕ) (l 
   pub came : CameOf works child (program_of c) start c.output_paths e
 
 -- What may come of a layout and a command: a child was started and came to this; or none was, as a
--- call that makes its room or starts it was refused by this error.
-abbrev pub may_yield : {R C E : Type 0} → Works R C E → List ℕ → LayoutValue → CommandValue
-    → EndValue → Type 0
-may_yield works work l c (failed program (Unstarted error)) =
-    IsAbsolute c × (program ≡ program_of c) × works.unstarted error
-may_yield works work l c e = IsJobRun works work l c e
+-- call that makes its room or starts it was refused by this error, or as the runner has run out.
+abbrev pub may_yield : {R C E : Type 0} → Works R C E → (Error → Type 0) → List ℕ → LayoutValue
+    → CommandValue → EndValue → Type 0
+may_yield works unstarted work l c (failed program (Unstarted error)) =
+    IsAbsolute c × (program ≡ program_of c) × (unstarted error ⊎ IsRunOut error)
+may_yield works unstarted work l c e = IsJobRun works work l c e
+
+-- why a start fails: a call of the workshop was refused by this error, or the runner has run out
+abbrev pub TellsUnstarted : {W A B : Type 0} → (W → Error → Type 0) → ProcessRunner W A
+    → RunError B → Type 0
+TellsUnstarted unstarted r (children.Device program (Unstarted error)) =
+    unstarted (workshop_of r) error ⊎ (IsRunOut error × HasRunOut r)
+TellsUnstarted unstarted r (children.Device program cause) = ⊥
+TellsUnstarted unstarted r e = Unit {0}
+
+-- the error tells that the runner has run out, or of lack of memory
+abbrev pub TellsRunOut : {A : Type 0} → RunError A → Type 0
+TellsRunOut (children.Device program (Unstarted error)) = IsRunOut error
+TellsRunOut children.Memory = Unit {0}
+TellsRunOut e = ⊥
 
 -- the process of a job, and the folder that it started in
 abbrev pub process_in : {C A : Type 0} → ProcessJob C A → C

@@ -88,7 +88,7 @@ abbrev pub AreOfNone : List (List ℕ) → Type 0
 AreOfNone bs = (ds : List DirectoryValue) → AllByRecursion IsDirectory ds
     → map directory_bytes ds ≡ bs → ⊥
 
--- or the Directories of no Tree
+-- the bytes are the encodings of the Directories of no Tree
 abbrev pub AreOfNoTree : List (List ℕ) → Type 0
 AreOfNoTree bs = (m : TreeValue) → IsTree m → directories_of m ≡ bs → ⊥
 

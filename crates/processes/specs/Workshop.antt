@@ -33,17 +33,16 @@ pub record Works (Room Child Ended : Type 0) : Type 1 where
   pub waited : Child → Type 0
   -- the child has ended so
   pub ended : Child → Ended → Exit → Type 0
-  -- after that this was found at the path, links being followed
+  -- after the child's end this was found at the path, links being followed
   pub stands : Ended → List ℕ → Standing → Type 0
-  -- after that these names were found in the folder at the path, or that one is no text
+  -- after the child's end these names were found in the folder at the path, or that one is no text
   pub lists : Ended → List ℕ → Option (List (List ℕ)) → Type 0
-  -- after that the file at the path was read, and had these bytes, or more than a blob has
+  -- after the child's end the file at the path was read, and had these bytes, or more than a blob
+  -- has
   pub holds : Ended → List ℕ → Option (List ℕ) → Type 0
-  -- a call that makes a room or something in it, or starts a child there, was refused by this error
-  pub unstarted : Error → Type 0
-  -- the call that waits for the child was
+  -- the call that waits for the child was refused by this error
   pub unwaited : Child → Error → Type 0
-  -- after its end a call that looks at the path was
+  -- after the child's end a call that looks at the path was refused by this error
   pub unread : Ended → List ℕ → Error → Type 0
 
 -- what the room has becomes this
@@ -65,7 +64,6 @@ unknown_works = record {
   stands = λ _ _ _. Unit {0};
   lists = λ _ _ _. Unit {0};
   holds = λ _ _ _. Unit {0};
-  unstarted = λ _. Unit {0};
   unwaited = λ _ _. Unit {0};
   unread = λ _ _ _. Unit {0};
 }

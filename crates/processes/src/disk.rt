@@ -98,6 +98,8 @@ impl<'r, R: Files + Processes + Alloc + Clone + Drop> Workshop for Disk<'r, R> {
 
     ghost works = { unknown_works };
 
+    ghost unstarted = { λ _ _. Unit {0} };
+
     fn make_new(&self, path: &str) -> io::Result<NewFolder> {
         fs::create_dir(self.rt, path)?;
         Ok(NewFolder)

@@ -35,7 +35,7 @@ fn make_folders<A: Allocator + Copy, W: Workshop>(
 ) -> io::Result<()>
     ensures made { OnOk result
         (Becomes W.works room.old room.new (with_folders (folders_below folder.now paths.now))) }
-    ensures failed { IfErr result (IsUnstarted W.works) }
+    ensures failed { IfErr result (IsUnstarted (W.unstarted workshop.now)) }
 {
     for path in paths {
         let place = place_in(alloc, folder, path.as_str())?;
@@ -54,7 +54,7 @@ fn write_files<A: Allocator + Copy, W: Workshop>(
 ) -> io::Result<()>
     ensures written { OnOk result (Becomes W.works room.old room.new
         (with_files (files_placed folder.now (contents_of files.now)))) }
-    ensures failed { IfErr result (IsUnstarted W.works) }
+    ensures failed { IfErr result (IsUnstarted (W.unstarted workshop.now)) }
 {
     for file in files {
         let place = place_in(alloc, folder, file.0.as_str())?;
@@ -71,7 +71,7 @@ pub(crate) fn lay_out<A: Allocator + Copy, W: Workshop>(
     layout: &Layout<A>,
 ) -> io::Result<W::Room>
     ensures laid { IfOk result (λ room. W.works.has room (room_of_layout folder.now layout.now)) }
-    ensures failed { IfErr result (IsUnstarted W.works) }
+    ensures failed { IfErr result (IsUnstarted (W.unstarted workshop.now)) }
 {
     let mut room = workshop.make_new(folder)?;
     make_folders(alloc, workshop, &mut room, folder, &layout.folders)?;
@@ -92,7 +92,7 @@ pub(crate) fn make_start<A: Allocator, W: Workshop>(
         (λ start. string_bytes start ≡ start_of folder.now command.now.working_directory) }
     ensures made { OnOk result (Becomes W.works room.old room.new
         (with_folders (working_folders folder.now command.now.working_directory))) }
-    ensures failed { IfErr result (IsUnstarted W.works) }
+    ensures failed { IfErr result (IsUnstarted (W.unstarted workshop.now)) }
 {
     match command.working_directory() {
         Some(path) => {
@@ -114,7 +114,7 @@ fn make_parent<A: Allocator, W: Workshop>(
 ) -> io::Result<()>
     ensures made { OnOk result (Becomes W.works room.old room.new
         (with_folders (above_in start.now (path_parent (path_text path.now))))) }
-    ensures failed { IfErr result (IsUnstarted W.works) }
+    ensures failed { IfErr result (IsUnstarted (W.unstarted workshop.now)) }
 {
     match std::path::Path::new(path.as_str()).parent() {
         Some(above) => {
@@ -136,7 +136,7 @@ pub(crate) fn make_parents<A: Allocator + Copy, W: Workshop>(
 ) -> io::Result<()>
     ensures made { OnOk result
         (Becomes W.works room.old room.new (with_folders (folders_above start.now outputs.now))) }
-    ensures failed { IfErr result (IsUnstarted W.works) }
+    ensures failed { IfErr result (IsUnstarted (W.unstarted workshop.now)) }
 {
     for path in outputs {
         make_parent(alloc, workshop, room, start, path)?;

@@ -1,26 +1,30 @@
-ghost use Rattle.std.specs.Prelude.{◌≡◌, ◌↔◌, ◌+◌, ◌-◌, ◌<◌, ◌≤◌, ℕ, List, IfErr, IfOk, IsErrOf};
-ghost use Rattle.std.specs.Prelude.{IsTrue, OnErr, OnOk, string_bytes};
+ghost use Rattle.std.specs.Prelude.{◌≡◌, ◌⊎◌, ◌↔◌, ◌+◌, ◌-◌, ◌<◌, ◌≤◌, ℕ, List, IfErr, IfOk};
+ghost use Rattle.std.specs.Prelude.{IsErrOf, IsTrue, OnErr, OnOk, string_bytes};
+ghost use Rattle.std.specs.IoError.{error_kind};
 ghost use Rattle.std.specs.Result.{IsErrAnd};
 ghost use Rattle.blob_source.specs.Source.{greatest_count};
 ghost use Rattle.worker.specs.Counted.{Counts, IsFailure, TellsRunFailure};
 ghost use Rattle.worker.specs.Outcomes.{YieldsFor, YieldsNoMore};
-ghost use Rattle.worker.specs.Values.{EndValue, IsAbsolute, StartsNone, StartsOne, bad_at, made};
+ghost use Rattle.worker.specs.Values.{EndValue, IsAbsolute, SaysNoMore, StartsNone, StartsOne};
+ghost use Rattle.worker.specs.Values.{bad_at, made};
 ghost use Rattle.worker.specs.declared.failure.FailureCause.TheVariants.{Signal};
 ghost use Rattle.messages.specs.Path.{begins_with_slash};
-ghost use Rattle.processes.specs.Laying.{IsUnstarted, folder_of};
-ghost use Rattle.processes.specs.Running.{CameOf, HaveStarted, IsEnded, IsJobLaunched, TellsCame};
+ghost use Rattle.processes.specs.Laying.{IsRunOut, IsUnstarted, folder_of};
+ghost use Rattle.processes.specs.Running.{CameOf, HasRunOut, HaveRun, HaveStarted, IsEnded};
+ghost use Rattle.processes.specs.Running.{IsJobLaunched, TellsCame, TellsRunOut, TellsUnstarted};
 ghost use Rattle.processes.specs.Running.{alive_of, process_in, failures_of, may_come, may_yield};
 ghost use Rattle.processes.specs.Running.{next_of, start_in, work_of, workshop_of};
 
 use crate::collecting::collect;
 use crate::laying::{lay_out, make_parents, make_start};
-use crate::tally::Tally;
+use crate::tally::{Tally, run_out};
 use crate::trouble::failed_by;
 use crate::workshop::{Exit, Left, Workshop};
 use actions::Command;
 use messages::Path;
 use std::alloc::{AllocError, Allocator};
 use std::io;
+use std::io::ErrorKind;
 use worker::{FailureCause, Layout, Produced, RunError, Runner, program_of};
 
 /// Runs jobs as processes, each in a new folder of its own, which is named by a number.
@@ -98,9 +102,9 @@ fn copy_paths<A: Allocator + Copy>(
 }
 
 impl<W: Workshop, A: Allocator + Copy> ProcessRunner<W, A> {
-    /// The folder of the next job. Each number is used once, whether or not a child is started.
-    /// That there is none left is lack of memory.
-    fn next_folder(&mut self, alloc: A) -> Result<String<A>, AllocError>
+    /// The folder of the next job. Each number is used once, whether or not a child is started, and
+    /// the greatest isn't used.
+    fn next_folder(&mut self, alloc: A) -> io::Result<String<A>>
         ensures folder { IfOk result
             (λ folder. string_bytes folder ≡ folder_of (work_of self.old) (next_of self.old)) }
         ensures used { next_of self.old < greatest_count
@@ -108,17 +112,21 @@ impl<W: Workshop, A: Allocator + Copy> ProcessRunner<W, A> {
         ensures left { OnOk result (next_of self.old < greatest_count) }
         ensures risen { next_of self.old ≤ next_of self.new }
         ensures most { next_of self.new ≤ next_of self.old + 1 }
+        ensures failed { IfErr result (λ error. (error_kind error ≡ ErrorKind.OutOfMemory)
+            ⊎ (IsRunOut error × (next_of self.old ≡ greatest_count))) }
+        ensures last { next_of self.old ≡ greatest_count → IsErrAnd result IsRunOut }
         ensures work { work_of self.new ≡ work_of self.old }
+        ensures workshop { workshop_of self.new ≡ workshop_of self.old }
         ensures alive { alive_of self.new ≡ alive_of self.old }
         ensures failures { failures_of self.new ≡ failures_of self.old }
     {
         let number = self.next;
         let Some(next) = number.checked_add(1) else {
-            return Err(AllocError);
+            return Err(run_out("no number is left for its folder"));
         };
         self.next = next;
         let work = self.work.as_str();
-        format!(in alloc; "{work}/{number}")
+        Ok(format!(in alloc; "{work}/{number}")?)
     }
 
     /// Starts a child for a command in a new folder, where the layout was made.
@@ -137,8 +145,12 @@ impl<W: Workshop, A: Allocator + Copy> ProcessRunner<W, A> {
         ensures risen { next_of self.old ≤ next_of self.new }
         ensures most { next_of self.new ≤ next_of self.old + 1 }
         ensures outputs { IfOk result (λ s. s.outputs.items ≡ command.now.output_paths) }
-        ensures failed { IfErr result (IsUnstarted W.works) }
+        ensures failed { IfErr result
+            (λ error. IsUnstarted (W.unstarted (workshop_of self.old)) error
+            ⊎ (IsRunOut error × HasRunOut self.old)) }
+        ensures last { next_of self.old ≡ greatest_count → IsErrAnd result IsRunOut }
         ensures work { work_of self.new ≡ work_of self.old }
+        ensures workshop { workshop_of self.new ≡ workshop_of self.old }
         ensures opened { OnOk result (alive_of self.new ≡ alive_of self.old + 1) }
         ensures unopened { OnErr result (alive_of self.new ≡ alive_of self.old) }
         ensures failures { failures_of self.new ≡ failures_of self.old }
@@ -202,10 +214,10 @@ fn come_to<A: Allocator + Copy, W: Workshop>(
 impl<W: Workshop + Drop, A: Allocator + Copy> Runner<A> for ProcessRunner<W, A> {
     type Job = ProcessJob<W::Child, A>;
 
-    ghost use Rattle.processes.specs.Running.{HaveStarted, alive_of, failures_of, may_come};
-    ghost use Rattle.processes.specs.Running.{may_yield, next_of, work_of};
+    ghost use Rattle.processes.specs.Running.{HaveRun, HaveStarted, alive_of, failures_of};
+    ghost use Rattle.processes.specs.Running.{may_come, may_yield, next_of, work_of, workshop_of};
 
-    ghost yields = { λ r. may_yield W.works (work_of r) };
+    ghost yields = { λ r. may_yield W.works (W.unstarted (workshop_of r)) (work_of r) };
 
     ghost may_give = { λ job e. may_come W.works job e };
 
@@ -215,7 +227,7 @@ impl<W: Workshop + Drop, A: Allocator + Copy> Runner<A> for ProcessRunner<W, A> 
 
     ghost failures = { failures_of };
 
-    ghost work = { work_of };
+    ghost ran = { λ r. HaveRun W.works (work_of r) };
 
     fn start(
         &mut self,
@@ -223,10 +235,12 @@ impl<W: Workshop + Drop, A: Allocator + Copy> Runner<A> for ProcessRunner<W, A> 
         layout: &Layout<A>,
         command: &Command<A>,
     ) -> Result<ProcessJob<W::Child, A>, RunError<A>>
-        ensures gives { IfOk result (λ job. (e : EndValue) → may_come W.works job e
-            → YieldsFor (may_yield W.works (work_of self.new)) layout.now command.now e) }
-        ensures same { YieldsNoMore (may_yield W.works (work_of self.new))
-            (may_yield W.works (work_of self.old)) }
+        ensures gives { IfOk result (λ job. (e : EndValue) → may_come W.works job e → YieldsFor
+            (may_yield W.works (W.unstarted (workshop_of self.new)) (work_of self.new))
+            layout.now command.now e) }
+        ensures same { YieldsNoMore
+            (may_yield W.works (W.unstarted (workshop_of self.new)) (work_of self.new))
+            (may_yield W.works (W.unstarted (workshop_of self.old)) (work_of self.old)) }
         ensures listed { OnOk result (StartsOne
             (HaveStarted W.works (work_of self.old) (next_of self.old))
             (HaveStarted W.works (work_of self.new) (next_of self.new))
@@ -236,11 +250,15 @@ impl<W: Workshop + Drop, A: Allocator + Copy> Runner<A> for ProcessRunner<W, A> 
             (HaveStarted W.works (work_of self.new) (next_of self.new))) }
         ensures opened { OnOk result (alive_of self.new ≡ alive_of self.old + 1) }
         ensures unopened { OnErr result (alive_of self.new ≡ alive_of self.old) }
+        ensures no_more { SaysNoMore (HaveRun W.works (work_of self.new))
+            (HaveRun W.works (work_of self.old)) }
         ensures below { work_of self.new ≡ work_of self.old }
+        ensures workshop { workshop_of self.new ≡ workshop_of self.old }
         ensures refused { IsErrOf result RunError.NotAbsolute → IsAbsolute command.now → ⊥ }
         ensures bad { (path : List (List ℕ)) → IsErrOf result (RunError.BadOutput path) → ⊥ }
-        ensures device { IfErr result (TellsRunFailure
-            (YieldsFor (may_yield W.works (work_of self.new)) layout.now command.now)) }
+        ensures device { IfErr result (TellsRunFailure (YieldsFor
+            (may_yield W.works (W.unstarted (workshop_of self.new)) (work_of self.new))
+            layout.now command.now)) }
         ensures counted { Counts (failures_of self.old) (failures_of self.new)
             (IsErrAnd result IsFailure) }
         // A program that isn't named from the root is refused first, and uses no number.
@@ -253,6 +271,11 @@ impl<W: Workshop + Drop, A: Allocator + Copy> Runner<A> for ProcessRunner<W, A> 
         ensures used { OnOk result (next_of self.new ≡ next_of self.old + 1) }
         ensures passed { IsErrAnd result IsFailure → next_of self.old < greatest_count
             → next_of self.new ≡ next_of self.old + 1 }
+        // A failure is by an error that the workshop told, or the runner has run out: that it tells
+        // at the last number, unless memory lacks for it.
+        ensures why { IfErr result (TellsUnstarted W.unstarted self.old) }
+        ensures last { next_of self.old ≡ greatest_count → IsAbsolute command.now
+            → IsErrAnd result TellsRunOut }
         // No more than one number is used, whatever is answered.
         ensures risen { next_of self.old ≤ next_of self.new }
         ensures most { next_of self.new ≤ next_of self.old + 1 }
@@ -274,13 +297,17 @@ impl<W: Workshop + Drop, A: Allocator + Copy> Runner<A> for ProcessRunner<W, A> 
         ensures gave { IfOk result (λ p. may_come W.works job (made p)) }
         ensures bad { (path : List (List ℕ)) → IsErrOf result (RunError.BadOutput path)
             → may_come W.works job (bad_at path) }
-        ensures same { YieldsNoMore (may_yield W.works (work_of self.new))
-            (may_yield W.works (work_of self.old)) }
+        ensures same { YieldsNoMore
+            (may_yield W.works (W.unstarted (workshop_of self.new)) (work_of self.new))
+            (may_yield W.works (W.unstarted (workshop_of self.old)) (work_of self.old)) }
         ensures unlisted { StartsNone
             (HaveStarted W.works (work_of self.old) (next_of self.old))
             (HaveStarted W.works (work_of self.new) (next_of self.new)) }
         ensures closed { alive_of self.new ≡ alive_of self.old - 1 }
+        ensures no_more { SaysNoMore (HaveRun W.works (work_of self.new))
+            (HaveRun W.works (work_of self.old)) }
         ensures below { work_of self.new ≡ work_of self.old }
+        ensures workshop { workshop_of self.new ≡ workshop_of self.old }
         ensures absolute { IsErrOf result RunError.NotAbsolute → ⊥ }
         ensures device { IfErr result (TellsRunFailure (may_come W.works job)) }
         ensures counted { Counts (failures_of self.old) (failures_of self.new)

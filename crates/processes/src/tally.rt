@@ -1,7 +1,8 @@
 ghost use Rattle.std.specs.Prelude.{◌≡◌, ◌⊎◌, ◌+◌, ◌-◌, ◌<◌, IfErr, IfOk, OnErr, OnOk};
 ghost use Rattle.blob_source.specs.Source.{greatest_count};
+ghost use Rattle.std.specs.Result.{IsErrAnd};
 ghost use Rattle.worker.specs.Counted.{Counts, IsFailure};
-ghost use Rattle.processes.specs.Laying.{IsUnstarted};
+ghost use Rattle.processes.specs.Laying.{IsRunOut, IsUnstarted};
 ghost use Rattle.processes.specs.Workshop.{StartsIn};
 ghost use Rattle.processes.specs.Running.{alive_in, failures_in};
 
@@ -20,6 +21,13 @@ pub(crate) struct Tally {
     failures: u64,
 }
 
+/// The error of a runner that has run out.
+pub(crate) fn run_out(text: &'static str) -> io::Error
+    ensures { IsRunOut result }
+{
+    io::Error::new(ErrorKind::QuotaExceeded, text)
+}
+
 impl Tally {
     /// No child and no failure yet.
     pub(crate) fn new() -> Tally
@@ -32,7 +40,7 @@ impl Tally {
         }
     }
 
-    /// Starts a child in a room, and counts it.
+    /// Starts a child in a room, and counts it. None is started where the count is full.
     pub(crate) fn start<A: Allocator + Copy, W: Workshop>(
         &mut self,
         alloc: A,
@@ -44,11 +52,13 @@ impl Tally {
         ensures runs { IfOk result (StartsIn W.works room command.now folder.now) }
         ensures opened { OnOk result (alive_in self.new ≡ alive_in self.old + 1) }
         ensures unopened { OnErr result (alive_in self.new ≡ alive_in self.old) }
-        ensures failed { IfErr result (IsUnstarted W.works) }
+        ensures failed { IfErr result (λ error. IsUnstarted (W.unstarted workshop.now) error
+            ⊎ (IsRunOut error × (alive_in self.old ≡ greatest_count))) }
+        ensures full { alive_in self.old ≡ greatest_count → IsErrAnd result IsRunOut }
         ensures failures { failures_in self.new ≡ failures_in self.old }
     {
         let Some(more) = self.alive.checked_add(1) else {
-            return Err(io::Error::from(ErrorKind::OutOfMemory));
+            return Err(run_out("too many processes run"));
         };
         let child = workshop.spawn(alloc, room, command, folder)?;
         self.alive = more;

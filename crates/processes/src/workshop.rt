@@ -33,28 +33,33 @@ pub trait Workshop {
     /// That a process has ended. What it left is looked at only with this.
     type Ended: Drop;
 
+    ghost use Rattle.std.specs.declared.io.Error.{Error};
     ghost use Rattle.processes.specs.Workshop.{Works, Becomes, StartsIn};
     ghost use Rattle.processes.specs.Workshop.{empty_room, with_folders, with_files};
 
-    /// What may be said of what it did and told.
+    /// What may be said of its rooms and its children.
     ghost works: { Works Self.Room Self.Child Self.Ended };
+
+    /// That a call which makes a room or something in it, or starts a child there, was refused by
+    /// this error.
+    ghost unstarted: { Self → Error → Type 0 };
 
     /// Makes a folder where nothing stands.
     fn make_new(&self, path: &str) -> io::Result<Self::Room>
         ensures made { IfOk result (λ room. works.has room (empty_room path.now)) }
-        ensures failed { IfErr result works.unstarted };
+        ensures failed { IfErr result (unstarted self.now) };
 
     /// Makes a folder of a room, and those above it, so far as they aren't there.
     fn make_all(&self, room: &mut Self::Room, path: &str) -> io::Result<()>
         ensures made { OnOk result
             (Becomes works room.old room.new (with_folders (path.now ∷ []))) }
-        ensures failed { IfErr result works.unstarted };
+        ensures failed { IfErr result (unstarted self.now) };
 
     /// Writes a file of a room.
     fn write(&self, room: &mut Self::Room, path: &str, bytes: &[u8]) -> io::Result<()>
         ensures written { OnOk result
             (Becomes works room.old room.new (with_files ((path.now, bytes.now) ∷ []))) }
-        ensures failed { IfErr result works.unstarted };
+        ensures failed { IfErr result (unstarted self.now) };
 
     /// Starts a process in a folder of a room, with exactly the command's arguments and
     /// environment. It has no input, and what it writes to its standard output is thrown away.
@@ -66,7 +71,7 @@ pub trait Workshop {
         folder: &str,
     ) -> io::Result<Self::Child>
         ensures runs { IfOk result (StartsIn works room command.now folder.now) }
-        ensures failed { IfErr result works.unstarted };
+        ensures failed { IfErr result (unstarted self.now) };
 
     /// Waits for a process, and answers how it ended.
     fn wait(&self, child: Self::Child) -> io::Result<(Self::Ended, Exit)>

@@ -15,16 +15,16 @@ pub record Flow : Type 0 where
   pub sent : Option (List ℕ)
   -- whether the other side hasn't closed it
   pub is_open : Option Bool
-  -- whether it can be opened anew at all
+  -- whether the stream can be opened anew at all
   pub is_renewable : Option Bool
-  -- how often it was opened anew
+  -- how often the stream was opened anew
   pub openings : Option ℕ
-  -- how often it couldn't be opened anew
+  -- how often the stream couldn't be opened anew
   pub refusals : Option ℕ
   -- whether the last read or write moved no byte
   pub has_stopped : Option Bool
 
--- so it is, where that is known
+-- the last read or write moved no byte, or that isn't known
 abbrev pub MayHaveStopped : Flow → Type 0
 MayHaveStopped flow = IfSome flow.has_stopped (λ has. has ≡ true)
 
@@ -41,32 +41,33 @@ abbrev pub IsOneMore : Option ℕ → Option ℕ → Type 0
 IsOneMore None new = new ≡ None
 IsOneMore (Some n) new = new ≡ Some (n + 1)
 
--- it is the first of these later streams
+-- the stream is the first of these later ones
 abbrev pub IsFirstLater : Option (List (List ℕ)) → Flow → Type 0
 IsFirstLater None new = new.later ≡ None
 IsFirstLater (Some []) new = ⊥
 IsFirstLater (Some (bytes ∷ rest)) new = (new.coming ≡ Some bytes) × (new.later ≡ Some rest)
 
--- it was opened anew, once more than before, and what is to come is what was to come over it
+-- the stream was opened anew, once more than before, and what is to come is what was to come over
+-- it
 pub record IsOpenedAnew (old new : Flow) : Type 0 where
   pub once : IsOneMore old.openings new.openings
   pub next : IsFirstLater old.later new
   pub refusals : new.refusals ≡ old.refusals
   pub is_renewable : new.is_renewable ≡ old.is_renewable
 
--- it couldn't be opened anew, and all else is as it was
+-- the stream couldn't be opened anew, and all else is as it was
 pub record StaysClosed (old new : Flow) : Type 0 where
   pub once : IsOneMore old.refusals new.refusals
   pub others : new ≡ record old { refusals = new.refusals }
 
--- opening it anew wasn't tried
+-- opening the stream anew wasn't tried
 pub record IsSameStream (old new : Flow) : Type 0 where
   pub openings : new.openings ≡ old.openings
   pub refusals : new.refusals ≡ old.refusals
   pub later : new.later ≡ old.later
   pub is_renewable : new.is_renewable ≡ old.is_renewable
 
--- these bytes were sent over the stream, and nothing was read
+-- the bytes were sent over the stream, and nothing was read
 pub record Sends (old new : Flow) (bytes : List ℕ) : Type 0 where
   pub sent : Appends old.sent new.sent bytes
   pub coming : new.coming ≡ old.coming
@@ -79,7 +80,7 @@ pub record SendsFront (old new : Flow) (bytes : List ℕ) : Type 0 where
   pub whole : bytes ≡ front ++ rest
   pub sent : Appends old.sent new.sent front
 
--- these bytes were sent but for some at their end, of which none was taken, and nothing was read
+-- the bytes were sent but for some at their end, of which none was taken, and nothing was read
 pub record SendsPart (old new : Flow) (bytes : List ℕ) : Type 0 where
   pub front : List ℕ
   pub rest : List ℕ
@@ -88,7 +89,7 @@ pub record SendsPart (old new : Flow) (bytes : List ℕ) : Type 0 where
   pub sends : Sends old new front
   pub stopped : MayHaveStopped new
 
--- these bytes came over the stream, and nothing was sent
+-- the bytes came over the stream, and nothing was sent
 pub record Receives (old new : Flow) (bytes : List ℕ) : Type 0 where
   pub coming : Consumes old.coming new.coming bytes
   pub sent : new.sent ≡ old.sent

@@ -97,6 +97,10 @@ telling_of s = record {
   puts = [];
 }
 
+-- by what the files are read
+abbrev pub files_of : {R A : Type 0} → FolderSource R A → R
+files_of s = s.folder.files.now
+
 -- the folder, and the error of the last failure
 abbrev pub place_of : {R A : Type 0} → FolderSource R A → List ℕ
 place_of s = string_bytes s.folder.place

@@ -1,4 +1,5 @@
 pub mod Fault
+pub mod Files
 pub mod Flow
 pub mod Folder
 pub mod Line

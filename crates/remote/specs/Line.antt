@@ -75,11 +75,11 @@ MayBeOpen line = (line.shut ≡ false) × (line.flow.is_open ≢ Some false)
 abbrev pub MayStayShut : ConnectionValue → Type 0
 MayStayShut line = (line.shut ≡ true) × (line.flow.is_renewable ≢ Some true)
 
--- no reply closed it, or it isn't known that it can't be opened anew
+-- no reply closed the stream, or it isn't known that this can't be opened anew
 abbrev pub MayBeRenewed : ConnectionValue → Type 0
 MayBeRenewed line = (line.shut ≡ false) ⊎ (line.flow.is_renewable ≢ Some false)
 
--- it couldn't be opened anew where the server may have closed it
+-- the stream couldn't be opened anew, where the server may have closed it
 pub record IsUnopened (line : ConnectionValue) (stream : Flow) : Type 0 where
   pub closed : MayBeClosed line
   pub tried : MayBeRenewed line

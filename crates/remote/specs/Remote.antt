@@ -16,7 +16,7 @@ use Rattle.remote.specs.Line.{ConnectionValue, ExplainsMemory, Gets, Puts, Refus
 use Rattle.remote.specs.Line.{line_value, put}
 use Rattle.remote.specs.Table.{HasAnswer, IsSameBut, KeepsAnswers, told_by}
 
--- what it kept, how often it failed and was called, and the list of results put
+-- what a remote source kept, how often it failed and was called, and the list of results put
 abbrev pub telling_of : {S A : Type 0} → Remote S A → Telling
 telling_of r = record {
   blobs = told_by r.blobs;
@@ -26,7 +26,7 @@ telling_of r = record {
   puts = r.puts.items;
 }
 
--- its connection
+-- the connection of a remote source
 abbrev pub connection_of : {S A : Type 0} → (S → Flow) → Remote S A → ConnectionValue
 connection_of flow r = line_value flow r.line
 

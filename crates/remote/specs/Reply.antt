@@ -14,8 +14,8 @@ pub record ReceivedReply : Type 0 where
 abbrev pub reply_value : {A : Type 0} → Reply A → ReceivedReply
 reply_value r = record { status = r.status; body = r.body.items; close = r.close }
 
--- These bytes, and none of them too many, are the reply: a block, whose head is valid, and a body
--- of the length that it says.
+-- The bytes, and none of them too many, are the reply: a block, whose head is valid, and a body of
+-- the length that it says.
 pub record IsReply (bytes : List ℕ) (reply : ReceivedReply) : Type 0 where
   pub block : List ℕ
   pub whole : bytes ≡ block ++ reply.body

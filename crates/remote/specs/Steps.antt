@@ -113,7 +113,7 @@ pub record Starves (old new : ConnectionValue) (e : FetchError) : Type 0 where
 
 -- ---- tables
 
--- this answer is kept under the digest, and under the others what was
+-- the answer is kept under the digest, and under the others what was
 pub record KeepsAnswer {A : Type 0}
     (old new : Table A) (d : DigestValue) (answer : Option (List ℕ)) : Type 0 where
   pub kept : HasAnswer new d

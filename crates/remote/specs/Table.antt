@@ -23,7 +23,7 @@ told_by t d = bytes_kept (answers t d)
 abbrev pub HasAnswer : {A : Type 0} → Table A → DigestValue → Type 0
 HasAnswer t d = answers t d ≢ None
 
--- it is kept that nothing is there
+-- the answer that nothing is there is kept
 abbrev pub KeepsNone : {A : Type 0} → Table A → DigestValue → Type 0
 KeepsNone t d = answers t d ≡ Some None
 
@@ -31,6 +31,6 @@ KeepsNone t d = answers t d ≡ Some None
 abbrev pub IsSameBut : {A : Type 0} → DigestValue → Table A → Table A → Type 0
 IsSameBut d old new = (e : DigestValue) → e ≢ d → answers new e ≡ answers old e
 
--- the same is kept
+-- under each digest is kept what was
 pub record KeepsAnswers {A : Type 0} (old new : Table A) : Type 0 where
   pub same : (e : DigestValue) → answers new e ≡ answers old e

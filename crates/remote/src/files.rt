@@ -2,6 +2,7 @@ ghost use Rattle.std.specs.Prelude.{◌≡◌, ◌⊎◌, ◌<◌, ◌≤◌, �
 ghost use Rattle.std.specs.Prelude.{◌≢◌, IfErr, IfOk, IfSome, IsErrAnd, IsOk};
 ghost use Rattle.std.specs.declared.string.String.{String};
 ghost use Rattle.std.specs.IoError.{error_kind};
+ghost use Rattle.remote.specs.Files.{IsUnread, IsWholeFile};
 ghost use Rattle.remote.specs.Folder.{IsErrorOf, IsNotThere, ComesOfSystem, IsReadable, TellsFault};
 ghost use Rattle.remote.specs.Folder.{TellsOpenFault, TellsUnreadable};
 
@@ -45,44 +46,93 @@ pub trait FileReader<A: Allocator> {
     ghost use Rattle.remote.specs.declared.files.FileError.{FileError};
 
     /// The file at the path was read, and had these bytes.
-    ghost reads: { List ℕ → List ℕ → Type 0 };
+    ghost reads: { Self → List ℕ → List ℕ → Type 0 };
 
-    /// It couldn't be read, for this.
-    ghost fails: { List ℕ → FileError A → Type 0 };
+    /// The file at the path couldn't be read, for this.
+    ghost fails: { Self → List ℕ → FileError A → Type 0 };
 
     /// The bytes of the file there.
     fn read_at(&self, alloc: A, path: &str) -> Result<Vec<u8, A>, FileError<A>>
-        ensures read { IfOk result (λ bytes. reads path.now bytes.items) }
+        ensures read { IfOk result (λ bytes. reads self.now path.now bytes.items) }
         ensures error { IfErr result (IsErrorOf path.now) }
-        ensures fault { IfErr result (fails path.now) };
+        ensures fault { IfErr result (fails self.now path.now) };
+}
+
+/// What finds files by their paths, and opens them. Links are followed.
+pub trait FileOpener {
+    ghost use Rattle.std.specs.declared.fs.Metadata.{Metadata};
+    ghost use Rattle.std.specs.declared.io.Error.{Error};
+
+    type File: Read + Drop;
+
+    /// What stands at the path has this metadata.
+    ghost looked: { Self → List ℕ → Metadata → Type 0 };
+
+    /// The file at the path was opened, and stood so as it was.
+    ghost opened: { Self → List ℕ → Self.File → Type 0 };
+
+    /// What stands at the path couldn't be looked at or opened, for this.
+    ghost failed: { Self → List ℕ → Error → Type 0 };
+
+    /// The metadata of what stands there.
+    fn look(&self, path: &str) -> io::Result<fs::Metadata>
+        ensures looked { IfOk result (looked self.now path.now) }
+        ensures fault { IfErr result (failed self.now path.now) };
+
+    /// The file there, to be read from its start.
+    fn open(&self, path: &str) -> io::Result<Self::File>
+        ensures opened { IfOk result (opened self.now path.now) }
+        ensures fault { IfErr result (failed self.now path.now) };
 }
 
 /// The files of the system, of which nothing is known.
 #[derive(Drop)]
 pub struct SystemFiles<'r, R>(pub &'r R);
 
-impl<'r, R: Files + Alloc<A = A>, A: Allocator + Copy> FileReader<A> for SystemFiles<'r, R> {
-    ghost reads = { λ _ _. Unit {0} };
+impl<R: Files> FileOpener for SystemFiles<'_, R> {
+    type File = R::File;
 
-    ghost fails = { λ _ _. Unit {0} };
+    ghost looked = { λ _ _ _. Unit {0} };
 
-    fn read_at(&self, _alloc: A, path: &str) -> Result<Vec<u8, A>, FileError<A>> {
-        read_file(self.0, path)
+    ghost opened = { λ _ _ _. Unit {0} };
+
+    ghost failed = { λ _ _ _. Unit {0} };
+
+    fn look(&self, path: &str) -> io::Result<fs::Metadata> {
+        fs::metadata(self.0, path)
+    }
+
+    fn open(&self, path: &str) -> io::Result<R::File> {
+        fs::open(self.0, path)
     }
 }
 
-/// The bytes of the file there. Links are followed; what is no file isn't opened.
-pub fn read_file<R: Files + Alloc<A = A>, A: Allocator + Copy>(
-    rt: &R,
+impl<R: Files, A: Allocator + Copy> FileReader<A> for SystemFiles<'_, R> {
+    ghost reads = { λ _ _ _. Unit {0} };
+
+    ghost fails = { λ _ _ _. Unit {0} };
+
+    fn read_at(&self, alloc: A, path: &str) -> Result<Vec<u8, A>, FileError<A>> {
+        read_file(alloc, self, path)
+    }
+}
+
+/// The bytes of the file there, to its end. What is no file isn't opened.
+pub fn read_file<O: FileOpener, A: Allocator + Copy>(
+    alloc: A,
+    files: &O,
     path: &str,
 ) -> Result<Vec<u8, A>, FileError<A>>
+    ensures read { IfOk result (λ bytes. IsWholeFile O.File.remaining
+        (O.looked files.now path.now) (O.opened files.now path.now) bytes.items) }
     ensures few { IfOk result (λ bytes. vec_len bytes ≤ GREATEST_FILE) }
-    ensures error { IfErr result (IsErrorOf path.now) }
+    ensures fault { IfErr result (IsUnread O.File.remaining (O.looked files.now path.now)
+        (O.opened files.now path.now) (O.failed files.now path.now) path.now) }
 {
-    let metadata = answered(rt.alloc(), path, fs::metadata(rt, path))?;
-    check_metadata(rt.alloc(), path, &metadata)?;
-    let file = answered(rt.alloc(), path, fs::open(rt, path))?;
-    read_whole(rt.alloc(), path, file, &metadata)
+    let metadata = answered(alloc, path, files.look(path))?;
+    check_metadata(alloc, path, &metadata)?;
+    let file = answered(alloc, path, files.open(path))?;
+    read_whole(alloc, path, file, &metadata)
 }
 
 /// The bytes of an open file that just had this metadata: with room for all of them at once, and

@@ -3,8 +3,8 @@ ghost use Rattle.std.specs.Prelude.{codes, string_bytes};
 ghost use Rattle.blob_source.specs.Called.{Calls};
 ghost use Rattle.blob_source.specs.Source.{AsksBlob, AsksResult, GrowsAt, bytes_of, greatest_count};
 ghost use Rattle.remote.specs.Folder.{IsFreshFolder, IsNotThere, IsReadAs, LooksInFolder};
-ghost use Rattle.remote.specs.Folder.{blobs_of, entry_path, error_of, place_of, results_of};
-ghost use Rattle.remote.specs.Folder.{telling_of};
+ghost use Rattle.remote.specs.Folder.{blobs_of, entry_path, error_of, files_of, place_of};
+ghost use Rattle.remote.specs.Folder.{results_of, telling_of};
 ghost use Rattle.remote.specs.Table.{KeepsNone, told_by};
 ghost use Rattle.remote.specs.declared.files.FileError.TheVariants as errors;
 
@@ -39,7 +39,8 @@ pub struct FolderSource<'r, F, A: Allocator> {
 impl<'r, F: FileReader<A>, A: Allocator + Copy> FolderSource<'r, F, A> {
     /// The store in this folder.
     pub fn new(alloc: A, files: &'r F, place: String<A>) -> FolderSource<'r, F, A>
-        ensures { IsFreshFolder (string_bytes place) result }
+        ensures fresh { IsFreshFolder (string_bytes place) result }
+        ensures files { files_of result ≡ files.now }
     {
         FolderSource {
             blobs: Table::new(alloc),
@@ -88,6 +89,7 @@ impl<'r, F: FileReader<A>, A: Allocator + Copy> Folder<'r, F, A> {
         ensures bounded { self.new.failures ≤ greatest_count }
         ensures unfailed { (result ≡ FetchError.Failed → ⊥) → self.new ≡ self.old }
         ensures placed { self.new.place ≡ self.old.place }
+        ensures same_files { self.new.files.now ≡ self.old.files.now }
     {
         let _count = self.failures;
         if matches!(error, FileError::Memory) || self.failures == u64::MAX {
@@ -108,13 +110,14 @@ impl<'r, F: FileReader<A>, A: Allocator + Copy> Folder<'r, F, A> {
     ) -> Result<Option<Vec<u8, A>>, FetchError>
         ensures told { IfOk result (λ answer. bytes_of answer ≡ told_by table.new digest.now) }
         ensures grows { GrowsAt digest.now (told_by table.old) (told_by table.new) }
-        ensures looked { LooksInFolder F.reads F.fails
+        ensures looked { LooksInFolder (F.reads self.old.files.now) (F.fails self.old.files.now)
             (entry_path (string_bytes self.old.place) part.now digest.now) digest.now
             self.old.error self.new.error table.old table.new result }
         ensures counted { IsErrOf result FetchError.Failed
             → self.new.failures ≡ self.old.failures + 1 }
         ensures unfailed { (IsErrOf result FetchError.Failed → ⊥) → self.new ≡ self.old }
         ensures placed { self.new.place ≡ self.old.place }
+        ensures same_files { self.new.files.now ≡ self.old.files.now }
         ensures risen { self.old.failures ≤ self.new.failures }
         ensures bounded { self.new.failures ≤ greatest_count }
     {
@@ -183,11 +186,12 @@ impl<'r, F: FileReader<A>, A: Allocator + Copy> BlobSource<A> for FolderSource<'
             (λ answer. bytes_of answer ≡ (telling_of self.new).blobs digest.now) }
         ensures called { Calls (AsksBlob digest.now) (telling_of self.old) (telling_of self.new)
             (IsErrOf result FetchError.Failed) }
-        ensures looked { LooksInFolder F.reads F.fails
+        ensures looked { LooksInFolder (F.reads (files_of self.old)) (F.fails (files_of self.old))
             (entry_path (place_of self.old) (codes "cas") digest.now) digest.now
             (error_of self.old) (error_of self.new) (blobs_of self.old) (blobs_of self.new) result }
         ensures untouched { results_of self.new ≡ results_of self.old }
         ensures placed { place_of self.new ≡ place_of self.old }
+        ensures same_files { files_of self.new ≡ files_of self.old }
     {
         self.calls = self.calls.saturating_add(1);
         self.folder.look_up(alloc, &mut self.blobs, "cas", digest)
@@ -198,12 +202,13 @@ impl<'r, F: FileReader<A>, A: Allocator + Copy> BlobSource<A> for FolderSource<'
             (λ answer. bytes_of answer ≡ (telling_of self.new).results digest.now) }
         ensures called { Calls (AsksResult digest.now) (telling_of self.old) (telling_of self.new)
             (IsErrOf result FetchError.Failed) }
-        ensures looked { LooksInFolder F.reads F.fails
+        ensures looked { LooksInFolder (F.reads (files_of self.old)) (F.fails (files_of self.old))
             (entry_path (place_of self.old) (codes "ac") digest.now) digest.now
             (error_of self.old) (error_of self.new)
             (results_of self.old) (results_of self.new) result }
         ensures untouched { blobs_of self.new ≡ blobs_of self.old }
         ensures placed { place_of self.new ≡ place_of self.old }
+        ensures same_files { files_of self.new ≡ files_of self.old }
     {
         self.calls = self.calls.saturating_add(1);
         self.folder.look_up(alloc, &mut self.results, "ac", digest)

@@ -17,7 +17,7 @@ mod stream;
 mod table;
 
 pub use fault::Fault;
-pub use files::{FileError, FileReader, SystemFiles, read_file};
+pub use files::{FileError, FileOpener, FileReader, SystemFiles, read_file};
 pub use folder::FolderSource;
 pub use laws::the_next_reply_is_one;
 pub use remote::Remote;

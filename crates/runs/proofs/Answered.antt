@@ -36,14 +36,15 @@ use Rattle.verifier.specs.AsRecorded.{IsAsRecorded, AreAsRecorded, IsPlanAsRecor
 use Rattle.verifier.specs.Build.{Meaning, ActionMeaning, action_digest, Outcome, output_at, Event, State, origin_at, origins, merge_of, action_of, AreLinesOf}
 use Rattle.verifier.specs.Headline.{IsBlobOfAction, IsBlobOfOutcome, IsConcerned}
 use Rattle.verifier.specs.Holding.{HoldsResult}
-use Rattle.verifier.specs.Recorded.{IsRecordedAs, Agrees}
+use Rattle.verifier.specs.Recorded.{IsRecordedAs, Agrees, HaveOneForm}
 use Rattle.verifier.proofs.HeldOrigins.{source_held, outcome_held}
 use Rattle.verifier.proofs.OutputLookups.{HoldsTree, HoldsOutput}
+use Rattle.verifier.proofs.RecordedSteps.{pushed_at}
 use Rattle.verifier.proofs.Targets.{ArePaths, paths_of}
 use Rattle.verifier.proofs.Looking.{passes_together}
 use Rattle.verifier.proofs.Passing.{recorded_verdict}
 use Rattle.runs.specs.Engine.{FinishedValue, EngineValue, IsEngine, finished_in}
-use Rattle.runs.specs.Calls.{HaveOneForm, kept_digests}
+use Rattle.runs.specs.Calls.{kept_digests}
 use Rattle.runs.specs.Mirrors.{IsFormOf, IsConcernedIn, IsMirrored}
 use Rattle.runs.specs.Looking.{outcomes_in}
 use Rattle.runs.specs.Served.{TellsWay, Serves, IsServedYes}
@@ -58,17 +59,6 @@ use Rattle.verifier.proofs.LinesTold.{valid_tree, tree_blobs}
 use Rattle.runs.proofs.Found.{way_found, outputs_found}
 
 -- ---- lists
-
--- what stands in a list with one more stood there before, or is the new one
-pushed_at : {X : Type 0} (xs : List X) (x y : X) (j : ℕ) → slice_get (xs ++ x ∷ []) j ≡ Some y → (slice_get xs j ≡ Some y) ⊎ ((j ≡ length xs) × (x ≡ y))
-pushed_at [] x y zero h = inr (refl, cc)
-pushed_at [] x y (suc j) h = absurd cc
-pushed_at (z ∷ xs) x y zero h = inl h
-pushed_at (z ∷ xs) x y (suc j) h = by (pushed_at xs x y j h)
-  where
-    by : (slice_get xs j ≡ Some y) ⊎ ((j ≡ length xs) × (x ≡ y)) → (slice_get xs j ≡ Some y) ⊎ ((suc j ≡ suc (length xs)) × (x ≡ y))
-    by (inl k) = inl k
-    by (inr k) = inr (ap suc k.0, k.1)
 
 pushed_length : {X : Type 0} (xs : List X) (x : X) → length (xs ++ x ∷ []) ≡ suc (length xs)
 pushed_length [] x = refl

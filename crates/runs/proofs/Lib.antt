@@ -19,6 +19,7 @@ pub mod OneAction
 pub mod Starts
 pub mod Ended
 pub mod Kept
+pub mod TwoStepsEnds
 pub mod TwoStepsServed
 pub mod FreeNumbers
 pub mod Fetching

@@ -35,7 +35,7 @@ module _ (e : EngineValue) (t : Tree Leaf) (meaning : Meaning) (X : List (Action
       by (Some job) at is = let same : job_form job ≡ j = cc in (job, at, sym same)
 
   pub steady_of : (B : Blobs) (es : List Event) → (k : IsMirrored B e (record { tree = t; meaning = meaning; table = X; events = es; now = s })) → Steady e.plan meaning t X k.table (IsConcernedIn B e meaning t es) s
-  steady_of B es k = run_steady e.plan meaning t X k.table (IsConcernedIn B e meaning t es) s es (λ b h. inl (inr (inr (inr h)))) k.happened
+  steady_of B es k = run_steady e.plan meaning t X k.table (IsConcernedIn B e meaning t es) s es (λ b h. inl (inr (inr (inr h)))) (λ b h. inr (inl (inr h))) k.happened
 
   -- the jobs but one
   pub other_jobs : (B : Blobs) (es : List Event) → IsMirrored B e (record { tree = t; meaning = meaning; table = X; events = es; now = s }) → (w v : ℕ) (j : JobValue) → job_in w e ≡ Some j → at_number (set e.jobs w None) v ≡ option_map job_form (lookup (λ k. k == v) (remove_entry (λ k. k == w) s.jobs))

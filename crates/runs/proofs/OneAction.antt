@@ -44,11 +44,11 @@ module _ (X : List (ActionMeaning × Outcome)) (plan : PlanValue) (meaning : Mea
   run_extends s end [] steady r = subst (Extends s) (sym r) (λ j o h. h)
   run_extends s end (e ∷ es) steady r =
       let first = event_extends s r.1 e steady r.0 r.2 in
-      let rest = run_extends r.1 end es (keeps_event plan meaning t X table Every s r.1 e steady r.0 (λ b h. tt) r.2) r.3 in
+      let rest = run_extends r.1 end es (keeps_event plan meaning t X table Every s r.1 e steady r.0 (λ b h. tt) (λ w o is b h. tt) r.2) r.3 in
       λ j o h. rest j o (first j o h)
 
   stands_after : (es : List Event) (s : State) → IsRun X plan meaning t opening es s → Stands s
-  stands_after es s r = run_steady plan meaning t X table Every s es (λ b h. tt) r
+  stands_after es s r = run_steady plan meaning t X table Every s es (λ b h. tt) (λ b h. tt) r
 
   pub one_action : StepsHaveOneAction X plan meaning t
   one_action = record {

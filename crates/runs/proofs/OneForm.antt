@@ -1,59 +1,27 @@
 -- Outcomes of which one outcome with contents has the form have one form; actions with one digest are one.
-use Rattle.std.proofs.Common.{◌≡◌, ℕ, zero, suc, List, [], ◌∷◌, map, refl, ap, sym, ◌∙◌, subst, arith, inl, inr, Less, Equal}
+use Rattle.std.proofs.Common.{◌≡◌, ℕ, List, [], ◌∷◌, refl, ap, sym, ◌∙◌, subst, arith, inl, inr, Less}
 use Rattle.std.specs.Prelude.{◌⊎◌, Contains}
-use Rattle.std.specs.List.{AllByRecursion}
 use Rattle.blob_digest.specs.Digest.{NoClash}
 use Rattle.messages.specs.Order.{bytes_cmp}
-use Rattle.messages.specs.Path.{path_text}
-use Rattle.messages.proofs.Orders.{itself}
-use Rattle.action_messages.specs.Ascending.{IsAscendingBy}
-use Rattle.action_messages.specs.Overlaps.{texts_of}
 use Rattle.action_messages.specs.Command.{command_bytes}
 use Rattle.action_messages.specs.Frame.{FrameValue}
 use Rattle.action_messages.specs.Action.{ActionValue, with_input, action_bytes}
-use Rattle.actions.specs.Outcome.{OutputValue, OutcomeValue, IsOutcome, outputs_form, paths_of_outputs}
+use Rattle.actions.specs.Outcome.{OutcomeValue, IsOutcome, outputs_form}
 use Rattle.actions.proofs.EncodedOnce.{action_bytes_injective, command_bytes_injective}
 use Rattle.action_messages.proofs.Searches.{bytes_trans}
-use Rattle.tree.specs.Tree.{Name}
-use Rattle.tree.specs.Form.{NodeValue, form, top, root}
+use Rattle.tree.specs.Form.{form, top, root}
 use Rattle.tree.proofs.SameRoot.{same_root}
 use Rattle.tree.proofs.TreeDigests.{IsDigest-digest_of}
 use Rattle.verifier.specs.Build.{ActionMeaning, action_digest, IsActionMeaning, Outcome}
 use Rattle.verifier.specs.Headline.{IsBlobOfAction}
-use Rattle.runs.specs.Calls.{HaveOneForm}
+use Rattle.verifier.specs.Recorded.{HaveOneForm}
+use Rattle.verifier.proofs.SameForms.{Row, text, Sorted, never_less, behind_less, front_or, in_front, further, form_sorted}
 use Rattle.runs.specs.Mirrors.{IsFormOf}
 
 -- ---- lists in a strict order
 
-abbrev Row : Type 0
-Row = List Name × NodeValue
-
-abbrev text : Row → List ℕ
-text e = path_text e.0
-
-abbrev Sorted : List Row → Type 0
-Sorted es = IsAscendingBy bytes_cmp (map text es)
-
-never_less : (e : Row) → bytes_cmp (text e) (text e) ≡ Less → ⊥
-never_less e h = let both : Less ≡ Equal = sym h ∙ itself (text e) in cc
-
 not_both : (e f : Row) → bytes_cmp (text e) (text f) ≡ Less → bytes_cmp (text f) (text e) ≡ Less → ⊥
 not_both e f h k = never_less e (bytes_trans (text e) (text f) (text e) h k)
-
-behind_less : (e : Row) (es : List Row) (f : Row) → AllByRecursion (λ y. bytes_cmp (text e) y ≡ Less) (map text es) → Contains es f → bytes_cmp (text e) (text f) ≡ Less
-behind_less e [] f h (k, lt, is) = absurd (omega arith)
-behind_less e (x ∷ es) f h (zero, lt, is) = subst (λ (y : Row). bytes_cmp (text e) (text y) ≡ Less) is h.0
-behind_less e (x ∷ es) f h (suc k, lt, is) = behind_less e es f h.1 (k, omega (arith, lt), is)
-
-front_or : (e : Row) (es : List Row) (f : Row) → Contains (e ∷ es) f → (e ≡ f) ⊎ Contains es f
-front_or e es f (zero, lt, is) = inl is
-front_or e es f (suc k, lt, is) = inr (k, omega (arith, lt), is)
-
-in_front : (e : Row) (es : List Row) → Contains (e ∷ es) e
-in_front e es = (0, omega arith, refl)
-
-further : (e : Row) (es : List Row) (f : Row) → Contains es f → Contains (e ∷ es) f
-further e es f (k, lt, is) = (suc k, omega (arith, lt), is)
 
 pub same_rows : (es fs : List Row) → Sorted es → Sorted fs → ((e : Row) → Contains es e → Contains fs e) → ((e : Row) → Contains fs e → Contains es e) → es ≡ fs
 same_rows [] [] s r to from = refl
@@ -85,15 +53,11 @@ same_rows (e ∷ es) (f ∷ fs) s r to from =
 
 -- ---- forms
 
-form_texts : (es : List (List Name × OutputValue)) → map text (outputs_form es) ≡ texts_of (paths_of_outputs es)
-form_texts [] = refl
-form_texts (e ∷ es) = ap (λ ts. path_text e.0 ∷ ts) (form_texts es)
-
 pub one_form : (v w : OutcomeValue) (o : Outcome) → IsOutcome v → IsOutcome w → IsFormOf v o → IsFormOf w o → HaveOneForm v w
 one_form v w o valid valid' h k = record {
   exit_code = h.exit_code ∙ sym k.exit_code;
   outputs = same_rows (outputs_form v.outputs) (outputs_form w.outputs)
-      (subst (IsAscendingBy bytes_cmp) (sym (form_texts v.outputs)) valid.ascend) (subst (IsAscendingBy bytes_cmp) (sym (form_texts w.outputs)) valid'.ascend)
+      (form_sorted v valid) (form_sorted w valid')
       (λ e c. (k.outputs e.0 e.1).1 ((h.outputs e.0 e.1).0 c)) (λ e c. (h.outputs e.0 e.1).1 ((k.outputs e.0 e.1).0 c));
 }
 

@@ -12,10 +12,9 @@ use Rattle.plan.specs.Values.{StepValue, PlanValue}
 use Rattle.tree.specs.Lookup.{IsValue}
 use Rattle.blob_source.specs.Source.{Blobs}
 use Rattle.verifier.specs.Build.{Meaning, MeaningFits}
-use Rattle.verifier.specs.Headline.{IsBlobOfMeaning}
 use Rattle.runs.specs.Engine.{EngineValue, FinishedValue, AllStand, IsEngine, at_number}
 use Rattle.runs.specs.Calls.{AreTold, IsOpened}
-use Rattle.runs.specs.Mirrors.{IsFinishedAs}
+use Rattle.runs.specs.Mirrors.{IsBlobOfMeaning, IsFinishedAs}
 use Rattle.verifier.proofs.FreshRuns.{told_bytes}
 use Rattle.runs.specs.Ties.{IsOpening}
 use Rattle.runs.proofs.Places.{has_one}

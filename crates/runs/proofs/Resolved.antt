@@ -47,7 +47,7 @@ module _ (B : Blobs) (e : EngineValue) (t : Tree Leaf) (meaning : Meaning) (X : 
   holds_output i f is (p, outputs.Link target) inside = tt
   holds_output i f is (p, outputs.Tree u) inside = record {
     valid = all_at (λ (x : List Name × OutputValue). IsValidOutput x.1) f.outcome.outputs (p, outputs.Tree u) taken inside;
-    held = λ m c. inr (i, f, is, p, u, inside, m, c, refl);
+    held = λ m c. inr (inr (i, f, is, p, u, inside, m, c, refl));
   }
     where
       taken : AllByRecursion (λ (x : List Name × OutputValue). IsValidOutput x.1) f.outcome.outputs
@@ -57,7 +57,7 @@ module _ (B : Blobs) (e : EngineValue) (t : Tree Leaf) (meaning : Meaning) (X : 
 
   pub origin_agrees : (o : OriginValue) (r : Looked) → LooksUpOrigin B e.sources (outcomes_in e.finished) o r → AgreesWith (option_map entry_node (origin_at t s o)) r
   origin_agrees (source p) r look =
-      looks_from (TellsDirectory B) (FailsDirectory B) S (told_reads B S (λ b q. inl (inl (inl q))) k.apart) p (Some (whole t)) r k.ordered (λ b q. inl (inr (inl (inl q))))
+      looks_from (TellsDirectory B) (FailsDirectory B) S (told_reads B S (λ b q. inl (inl (inl q))) k.apart) p (Some (whole t)) r k.ordered (λ b q. inl (inr (inl q)))
       (subst (λ d. LooksFrom (TellsDirectory B) (FailsDirectory B) p (Some (Dir d)) r) (sym k.mirrors.sources) look)
   origin_agrees (output j p) r look =
       let f = finished_of e.finished j look.0 look.1 in
@@ -79,7 +79,7 @@ module _ (B : Blobs) (e : EngineValue) (t : Tree Leaf) (meaning : Meaning) (X : 
 
   -- the blobs of what stands at an origin
   origin_blobs : (o : OriginValue) (y : Entry Leaf) → origin_at t s o ≡ Some y → (b : List ℕ) → IsBlobOfOne y b → S b
-  origin_blobs (source p) y is b q = inl (inr (inl (inl (blobs_below p (Some (whole t)) y b is q))))
+  origin_blobs (source p) y is b q = inl (inr (inl (blobs_below p (Some (whole t)) y b is q)))
   origin_blobs (output j p) y is b q = by (outcome_of j s) refl is
     where
       by : (q : Option Outcome) → outcome_of j s ≡ q → option_and_then (λ (o : Outcome). output_at o.outputs p) q ≡ Some y → S b

@@ -1,5 +1,5 @@
 -- What every run keeps: each step has one action, which each of its jobs runs and which came to its outcome.
-use Rattle.std.proofs.Common.{◌≡◌, ◌≢◌, ℕ, true, false, List, [], ◌∷◌, Option, Some, None, refl, ap, sym, ◌∙◌, subst, inl, inr}
+use Rattle.std.proofs.Common.{◌≡◌, ◌≢◌, ℕ, suc, true, false, List, [], ◌∷◌, Option, Some, None, refl, ap, sym, ◌∙◌, subst, arith, inl, inr}
 use Rattle.std.specs.Prelude.{◌==◌, ◌⊎◌, option_map, option_and_then, slice_get, Contains}
 use Rattle.std.specs.Map.{lookup, remove_entry}
 use Rattle.std.proofs.lemmas.Bool.Decides.{eqb_tells}
@@ -9,8 +9,9 @@ use Rattle.plan.specs.Values.{OriginValue, source, output, LineValue, StepValue,
 use Rattle.tree.specs.Tree.{Name, Tree, Leaf, Entry}
 use Rattle.tree.specs.Merge.{merge}
 use Rattle.verifier.specs.Build.{Meaning, ActionMeaning, Outcome, output_at, Event, start, finish, lose, State, opening, outcome_of, job_of, origin_at, origins, merge_of, step_action, action_of, started, finished, lost, happens, IsTable, Obeys, IsRun}
-use Rattle.verifier.specs.Headline.{IsBlobOfAction, IsBlobOfOutcome, IsBlobOfEvent, IsBlobOfEvents}
+use Rattle.verifier.specs.Headline.{IsBlobOfAction, IsBlobOfOutcome, IsBlobOfStart, IsBlobOfStarts}
 use Rattle.verifier.proofs.FreshRuns.{one_answer}
+use Rattle.runs.specs.Mirrors.{IsBlobOfEnds}
 use Rattle.runs.proofs.Places.{some_none, AreKeyed, removed_same, removed_other, keyed_removed, first_same, first_other, found_behind}
 
 -- ---- a state in which at least the same has finished
@@ -176,8 +177,8 @@ module _ (plan : PlanValue) (meaning : Meaning) (t : Tree Leaf) where
         by r ext here j p (inl h) = subst (λ i. IsSettled r i p) h.0 (subst (IsSettled r job.0) h.1 (record { action = job.1; is = action_still s r ext job.0 job.1 here.0; in_table = inside; blobs = here.1; own = own }))
         by r ext here j p (inr h) = settled_still s r ext j p (steady.done j p h)
 
-    pub keeps_event : (s mid : State) (e : Event) → Steady s → Obeys X s e → ((b : List ℕ) → IsBlobOfEvent plan meaning t s e b → S b) → happens plan meaning t s e ≡ Some mid → Steady mid
-    keeps_event s mid (start i w) steady obeys blobs is = by (job_of w s) (action_of plan meaning t s i) refl refl is
+    pub keeps_event : (s mid : State) (e : Event) → Steady s → Obeys X s e → ((b : List ℕ) → IsBlobOfStart plan meaning t s e b → S b) → ((w : ℕ) (o : Outcome) → e ≡ finish w o → (b : List ℕ) → IsBlobOfOutcome o b → S b) → happens plan meaning t s e ≡ Some mid → Steady mid
+    keeps_event s mid (start i w) steady obeys blobs ends is = by (job_of w s) (action_of plan meaning t s i) refl refl is
       where
         by : (q : Option (ℕ × ActionMeaning)) (o : Option ActionMeaning) → job_of w s ≡ q → action_of plan meaning t s i ≡ o → started s i w q o ≡ Some mid → Steady mid
         by (Some job) o free e is = absurd cc
@@ -185,14 +186,14 @@ module _ (plan : PlanValue) (meaning : Meaning) (t : Tree Leaf) where
         by None (Some a) free e is =
             let whole_state : ◌≡◌ {A = State} (record s { jobs = (w, (i, a)) ∷ s.jobs }) mid = cc in
             subst Steady whole_state (start_keeps s i w a steady free e (λ b k. blobs b (a, e, k)))
-    keeps_event s mid (finish w o) steady obeys blobs is = by (job_of w s) refl is
+    keeps_event s mid (finish w o) steady obeys blobs ends is = by (job_of w s) refl is
       where
         by : (q : Option (ℕ × ActionMeaning)) → job_of w s ≡ q → finished s w o q ≡ Some mid → Steady mid
         by None e is = absurd cc
         by (Some job) e is =
             let whole_state : ◌≡◌ {A = State} (record { done = (job.0, o) ∷ s.done; jobs = remove_entry (λ k. k == w) s.jobs }) mid = cc in
-            subst Steady whole_state (finish_keeps s w job o steady e (obeys job e) blobs)
-    keeps_event s mid (lose w) steady obeys blobs is = by (job_of w s) is
+            subst Steady whole_state (finish_keeps s w job o steady e (obeys job e) (ends w o refl))
+    keeps_event s mid (lose w) steady obeys blobs ends is = by (job_of w s) is
       where
         by : (q : Option (ℕ × ActionMeaning)) → lost s w q ≡ Some mid → Steady mid
         by None is = absurd cc
@@ -200,9 +201,13 @@ module _ (plan : PlanValue) (meaning : Meaning) (t : Tree Leaf) where
             let whole_state : ◌≡◌ {A = State} (record s { jobs = remove_entry (λ k. k == w) s.jobs }) mid = cc in
             subst Steady whole_state (lose_keeps s w steady)
 
-    keeps_run : (s end : State) (es : List Event) → Steady s → ((b : List ℕ) → IsBlobOfEvents plan meaning t s es b → S b) → IsRun X plan meaning t s es end → Steady end
-    keeps_run s end [] steady blobs r = subst Steady (sym r) steady
-    keeps_run s end (e ∷ es) steady blobs r = keeps_run r.1 end es (keeps_event s r.1 e steady r.0 (λ b k. blobs b (inl k)) r.2) (λ b k. blobs b (inr (r.1, r.2, k))) r.3
+    keeps_run : (s end : State) (es : List Event) → Steady s → ((b : List ℕ) → IsBlobOfStarts plan meaning t s es b → S b) → ((b : List ℕ) → IsBlobOfEnds es b → S b) → IsRun X plan meaning t s es end → Steady end
+    keeps_run s end [] steady blobs ends r = subst Steady (sym r) steady
+    keeps_run s end (e ∷ es) steady blobs ends r =
+        keeps_run r.1 end es (keeps_event s r.1 e steady r.0 (λ b k. blobs b (inl k)) (λ w o is b k. ends b (w, o, (0, omega arith, is), k)) r.2) (λ b k. blobs b (inr (r.1, r.2, k))) later r.3
+      where
+        later : (b : List ℕ) → IsBlobOfEnds es b → S b
+        later b (w, o, (k, lt, is), h) = ends b (w, o, (suc k, omega (arith, lt), is), h)
 
-    pub run_steady : (end : State) (es : List Event) → ((b : List ℕ) → IsBlobOfEvents plan meaning t opening es b → S b) → IsRun X plan meaning t opening es end → Steady end
-    run_steady end es blobs r = keeps_run opening end es steady_opening blobs r
+    pub run_steady : (end : State) (es : List Event) → ((b : List ℕ) → IsBlobOfStarts plan meaning t opening es b → S b) → ((b : List ℕ) → IsBlobOfEnds es b → S b) → IsRun X plan meaning t opening es end → Steady end
+    run_steady end es blobs ends r = keeps_run opening end es steady_opening blobs ends r

@@ -15,18 +15,19 @@ use Rattle.tree.specs.Tree.{Name}
 use Rattle.tree.specs.Form.{NodeValue, form, root}
 use Rattle.tree.specs.Merge.{merge}
 use Rattle.blob_source.specs.Source.{IsBlobUnder}
-use Rattle.verifier.specs.Build.{ActionMeaning, action_digest, StepFits, outcome_of, action_of}
+use Rattle.verifier.specs.Build.{ActionMeaning, action_digest, StepFits, opening, outcome_of, action_of}
 use Rattle.verifier.specs.Headline.{IsConcerned, IsDirectoryInTree}
 use Rattle.verifier.specs.TwoSteps as two
 use Rattle.runs.proofs.VersionOne.{apart_merges}
 use Rattle.verifier.proofs.TwoSteps.{plan_valid, sources_named, input_named, newline_named, gen_tree_valid, fits, table_valid, out_path, res_path}
 use Rattle.verifier.proofs.TwoStepsRecorded.{tree_kept, gen_action_told, use_action_told, gen_command_told, use_command_told, gen_result_held, use_result_held, gen_recorded, use_recorded}
 use Rattle.verifier.proofs.TwoStepsRun.{is_run, gen_digest, use_digest}
-use Rattle.verifier.proofs.TwoStepsBlobs.{no_clash}
+use Rattle.verifier.proofs.TwoStepsBlobs.{all_blobs, none_clash, in_tree, of_nothing, concerned_one}
 use Rattle.runs.specs.Engine.{FinishedValue, AllStand, TakesOutcome, IsEngine, finished_in}
 use Rattle.runs.specs.Mirrors.{IsFormOf, IsFinishedAs, Mirrors, IsDirectoryOfEngine, IsConcernedIn, IsMirrored}
 use Rattle.runs.specs.Served.{IsLineOf, Keeps, Serves}
 use Rattle.runs.specs.TwoSteps as example
+use Rattle.runs.proofs.TwoStepsEnds.{of_meaning, of_ends}
 use Rattle.verifier.proofs.FreshRuns.{one_answer}
 
 -- ---- the engine keeps its rules
@@ -145,12 +146,17 @@ in_engine b (i, f, at, p, t, inside, m, among, is) = by i f at inside
         absurd (no_tree p t (subst (λ (g : FinishedValue). Contains g.outcome.outputs (p, outputs.Tree t)) (sym same) inside))
     by (suc (suc i)) f at inside = absurd cc
 
-concerned : (b : List ℕ) → IsConcernedIn two.blobs example.engine two.meaning two.tree two.events b → IsConcerned two.blobs two.plan two.meaning two.tree two.table two.events b
-concerned b (inl (inl h)) = inl h
-concerned b (inl (inr (inl h))) = inr (inl h)
-concerned b (inl (inr (inr (inl (pair, (k, lt, e), h))))) = absurd (omega (arith, lt))
-concerned b (inl (inr (inr (inr h)))) = inr (inr (inr h))
-concerned b (inr h) = inl (inr (in_engine b h))
+concerned : (b : List ℕ) → IsConcernedIn two.blobs example.engine two.meaning two.tree two.events b → Contains all_blobs b
+concerned b (inl h) = concerned_one two.tree of_nothing b (all_chosen h)
+  where
+    all_chosen : IsConcerned two.blobs two.plan two.meaning two.tree [] two.events b → IsConcerned two.blobs two.plan two.meaning two.tree two.table two.events b
+    all_chosen (inl h) = inl h
+    all_chosen (inr (inl h)) = inr (inl h)
+    all_chosen (inr (inr (inl (pair, (k, lt, e), h)))) = absurd (omega (arith, lt))
+    all_chosen (inr (inr (inr h))) = inr (inr (inr h))
+concerned b (inr (inl (inl h))) = of_meaning b h
+concerned b (inr (inl (inr h))) = of_ends b opening two.events two.end is_run h
+concerned b (inr (inr h)) = in_tree b (in_engine b h)
 
 pub is_mirrored : IsMirrored two.blobs example.engine example.run
 is_mirrored = record {
@@ -159,7 +165,7 @@ is_mirrored = record {
   table = table_valid;
   happened = is_run;
   mirrors = mirrors;
-  apart = λ x y c d e. no_clash x y (concerned x c) (concerned y d) e;
+  apart = λ x y c d e. none_clash x y (concerned x c) (concerned y d) e;
 }
 
 -- ---- its blobs and results serve it

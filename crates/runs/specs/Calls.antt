@@ -7,7 +7,7 @@ use Rattle.blob_digest.specs.Digest.{DigestValue, digest_of}
 use Rattle.action_messages.specs.Action.{action_bytes}
 use Rattle.action_messages.specs.Command.{CommandValue, IsCommand, command_bytes}
 use Rattle.action_messages.specs.Frame.{FrameValue, IsFrame, frame_bytes}
-use Rattle.actions.specs.Outcome.{OutcomeValue, outputs_form, paths_of_outputs}
+use Rattle.actions.specs.Outcome.{OutcomeValue, paths_of_outputs}
 use Rattle.plan.specs.Record.{RecordValue, names_of}
 use Rattle.plan.specs.Values.{StepValue, PlanValue}
 use Rattle.tree.specs.Tree.{Tree}
@@ -25,6 +25,7 @@ use Rattle.runs.specs.declared.starting.Job.{Job}
 use Rattle.runs.specs.Engine.{FinishedValue, JobValue, EngineValue, TakesOutcome, at_number}
 use Rattle.runs.specs.Engine.{finished_in, job_in}
 use Rattle.runs.specs.Looking.{ExplainsRefusal, outcomes_in, together_in}
+use Rattle.verifier.specs.Recorded.{HaveOneForm}
 use Rattle.verifier.specs.Together.{AreThere}
 
 -- ---- opening
@@ -124,11 +125,6 @@ recorded_build e =
 
 -- ---- finishing
 
--- the same exit code, and the same node at each output path
-pub record HaveOneForm (v w : OutcomeValue) : Type 0 where
-  pub exit_code : v.exit_code ≡ w.exit_code
-  pub outputs : outputs_form v.outputs ≡ outputs_form w.outputs
-
 -- what a step came to is another outcome than that of a step with this number and action
 abbrev pub IsOther : Option FinishedValue → ℕ → ℕ → DigestValue → OutcomeValue → Type 0
 IsOther None k i action v = ⊥
@@ -139,7 +135,7 @@ abbrev pub Disagrees : List (Option FinishedValue) → ℕ → DigestValue → O
 Disagrees fs i action v = (k : ℕ) × (o : Option FinishedValue) × (slice_get fs k ≡ Some o)
     × IsOther o k i action v
 
--- there is an outcome to compare with: that of the step, or of one with the same action
+-- an outcome to compare with is there: that of the step, or of one with the same action
 abbrev pub IsCompared : List (Option FinishedValue) → ℕ → DigestValue → Type 0
 IsCompared fs i action = (k : ℕ) × (f : FinishedValue) × (at_number fs k ≡ Some f)
     × ((k ≡ i) ⊎ (f.action ≡ action))

@@ -1,4 +1,4 @@
--- That each step has one action throughout a run.
+-- Each step has one action throughout a run.
 use Rattle.std.specs.Prelude.{◌≡◌, ℕ, List, Some, Contains}
 use Rattle.plan.specs.Values.{PlanValue}
 use Rattle.tree.specs.Tree.{Tree, Leaf}
@@ -14,9 +14,9 @@ pub record RunsItsActions (X : List (ActionMeaning × Outcome)) (plan : PlanValu
   pub outcomes : (i : ℕ) (o : Outcome) → outcome_of i s ≡ Some o → (a : ActionMeaning)
       × (action_of plan meaning t s i ≡ Some a) × Contains X (a, o)
 
--- It is so after every run, and events that follow change neither the action of a step that has
--- one nor what a step came to. So the action that a step has in a state is the one that each of its
--- jobs ran, finished ones too.
+-- In the state after every run each job runs the action that its step has there, and events that
+-- follow change neither the action of a step that has one nor what a step came to. So the action
+-- that a step has in a state is the one that each of its jobs ran, finished ones too.
 pub record StepsHaveOneAction (X : List (ActionMeaning × Outcome)) (plan : PlanValue)
     (meaning : Meaning) (t : Tree Leaf) : Type 0 where
   pub after : (es : List Event) (s : State) → IsRun X plan meaning t opening es s

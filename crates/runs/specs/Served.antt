@@ -19,11 +19,11 @@ use Rattle.verifier.specs.Build.{Meaning, ActionMeaning, action_digest, Outcome,
 use Rattle.verifier.specs.Build.{action_of, AreLinesOf}
 use Rattle.verifier.specs.Headline.{IsConcerned}
 use Rattle.verifier.specs.Holding.{HoldsResult}
-use Rattle.verifier.specs.Recorded.{Agrees}
+use Rattle.verifier.specs.Recorded.{Agrees, HaveOneForm}
 use Rattle.verifier.specs.Verdict.{IsVerdict}
 use Rattle.verifier.specs.declared.verdict.Verdict.TheVariants.{Yes}
 use Rattle.runs.specs.Engine.{FinishedValue, EngineValue, finished_in}
-use Rattle.runs.specs.Calls.{HaveOneForm, kept_digests}
+use Rattle.runs.specs.Calls.{kept_digests}
 use Rattle.verifier.specs.Together.{Resolves}
 use Rattle.runs.specs.Looking.{outcomes_in}
 use Rattle.runs.specs.Mirrors.{IsMirrored, EngineRun}
@@ -82,8 +82,8 @@ pub record IsServedYes (A : Type 0) (told : Blobs) (e : EngineValue)
       → kept_digests e.finished ≡ Some recorded
       → Serves tells.blobs tells.results e run.tree run.meaning run.now
       → IsVerdict {A = A} tells e.sources e.plan recorded claim (Yes claim (length e.plan.steps))
-  -- And there the table agrees with the record, so that what a yes says of every run is said of
-  -- this one.
+  -- Where the build is served the table agrees with the record, so that what a yes says of every
+  -- run is said of this one.
   pub agrees : (B C : Blobs) (run : EngineRun) (recorded : List DigestValue)
       → IsMirrored B e run → kept_digests e.finished ≡ Some recorded
       → Serves B C e run.tree run.meaning run.now

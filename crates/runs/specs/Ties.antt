@@ -13,12 +13,13 @@ use Rattle.blob_source.specs.Source.{Blobs}
 use Rattle.verifier.specs.Build.{Meaning, ActionMeaning, action_digest, Outcome, Event, start}
 use Rattle.verifier.specs.Build.{finish, State, opening, outcome_of, happens, action_of, origin_at}
 use Rattle.verifier.specs.Build.{merge_of, MeaningFits, Obeys, HasFinishedAll}
-use Rattle.verifier.specs.Headline.{IsBlobOfMeaning, HasFinished}
+use Rattle.verifier.specs.Headline.{HasFinished}
 use Rattle.verifier.specs.Together.{origin_path}
 use Rattle.runs.specs.declared.error.RunsError.{RunsError}
 use Rattle.runs.specs.declared.error.RunsError.TheVariants as errors
 use Rattle.runs.specs.Engine.{EngineValue}
-use Rattle.runs.specs.Mirrors.{Mirrors, IsMirrored, IsFormOf, nothing_told, EngineRun}
+use Rattle.runs.specs.Mirrors.{Mirrors, IsBlobOfMeaning, IsMirrored, IsFormOf, nothing_told}
+use Rattle.runs.specs.Mirrors.{EngineRun}
 
 -- An engine mirrors the opening state, for every tree with the digest of its sources and every
 -- meaning that fits its plan, if no two different blobs that the source has and that are the
@@ -47,7 +48,7 @@ pub record TellsFinished (e : EngineValue) (i : ℕ) (answer : Bool) : Type 0 wh
   pub of_state : (t : Tree Leaf) (meaning : Meaning) (s : State) → Mirrors e t meaning s
       → IsTrue answer ↔ ((o : Outcome) × (outcome_of i s ≡ Some o))
 
--- whether it may start: each step that its lines read has finished
+-- whether a step may start: each step that its lines read has finished
 pub record TellsReady (e : EngineValue) (i : ℕ) (answer : Bool) : Type 0 where
   pub of_state : (t : Tree Leaf) (meaning : Meaning) (s : State) → Mirrors e t meaning s
       → (step : StepValue) → slice_get e.plan.steps i ≡ Some step
@@ -58,12 +59,12 @@ abbrev pub jobs_running : ℕ → List (ℕ × (ℕ × ActionMeaning)) → ℕ
 jobs_running i [] = 0
 jobs_running i (job ∷ jobs) = (if job.1.0 == i then 1 else 0) + jobs_running i jobs
 
--- how many of its jobs run
+-- how many jobs of a step run
 pub record TellsRunning (e : EngineValue) (i : ℕ) (answer : ℕ) : Type 0 where
   pub of_run : (run : EngineRun) → IsMirrored nothing_told e run
       → answer ≡ jobs_running i run.now.jobs
 
--- there is a record exactly where each step has finished, and it has the digests of the actions of
+-- a record is there exactly where each step has finished, and it has the digests of the actions of
 -- the steps
 pub record IsRecordOf (e : EngineValue) (answer : Option RecordValue) : Type 0 where
   pub complete : (t : Tree Leaf) (meaning : Meaning) (s : State) → Mirrors e t meaning s

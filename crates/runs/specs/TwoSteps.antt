@@ -35,7 +35,7 @@ engine = record {
   jobs = [];
 }
 
--- the run that it mirrors
+-- the run that the engine mirrors
 abbrev pub run : EngineRun
 run = record {
   tree = two.tree;

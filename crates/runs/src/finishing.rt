@@ -7,9 +7,10 @@ ghost use Rattle.actions.specs.Outcome.{output_value, output_node, outputs_in, o
 ghost use Rattle.actions.specs.Outcome.{paths_of_outputs};
 ghost use Rattle.runs.specs.Engine.{FinishedValue, TakesOutcome, IsValidOutput, HoldValidTrees};
 ghost use Rattle.runs.specs.Engine.{at_number};
-ghost use Rattle.runs.specs.Calls.{HaveOneForm, IsOther, Disagrees, IsCompared, first_kept};
+ghost use Rattle.runs.specs.Calls.{IsOther, Disagrees, IsCompared, first_kept};
 ghost use Rattle.runs.specs.Calls.{IsUnlisted, IsOutcomeFault, IsFinished, IsFinishFault};
 ghost use Rattle.runs.specs.Ties.{IsFinish, IsForeign};
+ghost use Rattle.verifier.specs.Recorded.{HaveOneForm};
 
 use crate::engine::{Engine, Finished, job_at};
 use crate::error::RunsError;

@@ -18,7 +18,7 @@ use tree::{BlobSource, Folded, Memo, TreeError};
 /// A job that was started.
 #[derive(Drop)]
 pub struct Job<A: Allocator> {
-    /// Its number: the least that wasn't in use.
+    /// The number of the job: the least that wasn't in use.
     pub id: u64,
     pub step: usize,
     pub action: Action<A>,

@@ -15,7 +15,7 @@ pub enum Broken {
     Differs,
     /// A request was refused, and that isn't told.
     Untold,
-    /// It is no row.
+    /// The line is no row.
     NoRow,
 }
 

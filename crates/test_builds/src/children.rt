@@ -17,7 +17,7 @@ use worker::{FailureCause, RunError, StepRefusal};
 /// What came of a build.
 #[derive(Drop)]
 struct Tried {
-    /// Its line and what is told after it; nothing for lack of memory.
+    /// The build's line and what is told after it; nothing for lack of memory.
     told: Option<String>,
     children: Counting,
     steps: Noting,

@@ -13,11 +13,11 @@ use worker::{FailureCause, Layout, Produced, Progress, RunError, Runner, Watcher
 /// What each child comes to.
 #[derive(Clone, Copy)]
 pub enum Came {
-    /// This exit code, and no outputs.
+    /// An exit code, and no outputs.
     Code(i32),
     /// A file at the path, with this content.
     File(&'static str, &'static str),
-    /// This failure: of its start, where the system says so of that.
+    /// A failure: of its start, where the system says so of that.
     Fails(FailureCause),
 }
 
@@ -143,7 +143,7 @@ fn made_file<A: Allocator + Copy>(
 impl<A: Allocator + Copy> Runner<A> for Counting {
     type Job = Counted<A>;
 
-    ghost use Rattle.std.specs.Prelude.{[], string_bytes};
+    ghost use Rattle.std.specs.Prelude.{string_bytes};
     ghost use Rattle.worker.specs.Values.{IsOf};
 
     ghost yields = { λ _ _ _ _. Unit {0} };
@@ -156,7 +156,7 @@ impl<A: Allocator + Copy> Runner<A> for Counting {
 
     ghost failures = { λ r. r.failures };
 
-    ghost work = { λ _. [] };
+    ghost ran = { λ _ _. Unit {0} };
 
     fn start(
         &mut self,

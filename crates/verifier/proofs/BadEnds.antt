@@ -116,11 +116,11 @@ module _ (A : Type 0) (tells : Telling) (sources : DigestValue) (plan : PlanValu
       → ((pair : ActionMeaning × Outcome) → h.command ≡ pair.0.command → IsRecordedAs tells.blobs tells.results k.digest pair.1 → So pair.0 pair.1) → EveryRunEndsStep tells.blobs tells.results sources plan recorded name So
   every_run_ends So name k h so = record {
     of_step = record { index = k.index; step = k.step; digest = k.digest; step_at = k.step_at; digest_at = k.digest_at; named = k.named };
-    of_run = λ t r ordered is runs.
-        let given = as_given valid (steps_before A tells sources plan recorded claim valid c name k (suc k.index) (omega arith)) t r ordered is runs in
+    of_run = λ r runs.
+        let given = as_given valid (steps_before A tells sources plan recorded claim valid c name k (suc k.index) (omega arith)) r runs in
         let at = last_of k.index recorded k.digest k.digest_at in
-        let pair = get_other (take (suc k.index) recorded) r.chosen k.index k.digest (sym runs.agrees.each) at in
-        let facts = runs.agrees.pairs k.index k.digest pair.0 at pair.1 in
+        let pair = get_other (take (suc k.index) recorded) r.chosen k.index k.digest (sym runs.keeps.agrees.each) at in
+        let facts = runs.keeps.agrees.pairs k.index k.digest pair.0 at pair.1 in
         let chosen : IsChosenFor given k.index k.digest pair.0 = record { at = pair.1; in_table = facts.0; digest = facts.1 } in
         let both = runs_chosen given k.index k.step k.step_at k.digest h.own pair.0 chosen in
         let end = so pair.0 (chosen_command given k.index k.digest pair.0 chosen h.own.action h.own.told h.command h.command_told) facts.2 in

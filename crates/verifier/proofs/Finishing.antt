@@ -13,7 +13,7 @@ use Rattle.plan.specs.Values.{OriginValue, source, output, LineValue, StepValue,
 use Rattle.tree.specs.Tree.{Tree, Leaf}
 use Rattle.blob_source.specs.Source.{Blobs}
 use Rattle.verifier.specs.Build.{Meaning, ActionMeaning, Outcome, Event, start, finish, State, job_of, action_of, started, finished, happens, Obeys, IsRun, HasFinishedAll}
-use Rattle.verifier.specs.Headline.{PlanRun, IsBlobOfEvent, IsBlobOfEvents, IsBlobAhead, HasFinished}
+use Rattle.verifier.specs.Headline.{PlanRun, IsBlobOfStart, IsBlobOfStarts, IsBlobAhead, HasFinished}
 use Rattle.verifier.proofs.FreshRuns.{one_answer, IsGiven, Keeps}
 use Rattle.verifier.proofs.KeptRuns.{keeps_event, runs_keep, may_start, nothing_is_stuck}
 
@@ -80,16 +80,16 @@ module _ (X : List (ActionMeaning × Outcome)) (plan : PlanValue) (meaning : Mea
   run_more s (f ∷ es) mid e end (ob, u, hap, rest) obeys next = (ob, u, hap, run_more u es mid e end rest obeys next)
 
   blobs_more : (s : State) (es : List Event) (mid : State) (e : Event) (b : List ℕ)
-      → IsRun X plan meaning t s es mid → IsBlobOfEvent plan meaning t mid e b → IsBlobOfEvents plan meaning t s (es ++ e ∷ []) b
-  blobs_more s [] mid e b same h = inl (subst (λ r. IsBlobOfEvent plan meaning t r e b) same h)
+      → IsRun X plan meaning t s es mid → IsBlobOfStart plan meaning t mid e b → IsBlobOfStarts plan meaning t s (es ++ e ∷ []) b
+  blobs_more s [] mid e b same h = inl (subst (λ r. IsBlobOfStart plan meaning t r e b) same h)
   blobs_more s (f ∷ es) mid e b (ob, u, hap, rest) h = inr (u, hap, blobs_more u es mid e b rest h)
 
 -- ---- all steps
 
-module _ {S : List ℕ → Type 0} {B C : Blobs} {src : DigestValue} {plan : PlanValue} {ds : List DigestValue} {t : Tree Leaf} {run : PlanRun} (given : IsGiven S B C src plan ds t run)
-    (all_first : (i : ℕ) (s : StepValue) → slice_get plan.steps i ≡ Some s → slice_get given.recorded.first i ≡ Some s) (ahead : (b : List ℕ) → IsBlobAhead run.table plan run.meaning t run.now b → S b) where
+module _ {S : List ℕ → Type 0} {B C : Blobs} {src : DigestValue} {plan : PlanValue} {ds : List DigestValue} {run : PlanRun} (given : IsGiven S B C src plan ds run)
+    (all_first : (i : ℕ) (s : StepValue) → slice_get plan.steps i ≡ Some s → slice_get given.recorded.first i ≡ Some s) (ahead : (b : List ℕ) → IsBlobAhead run.table plan run.meaning run.tree run.now b → S b) where
   abbrev IsRunTo : List Event → State → Type 0
-  IsRunTo = IsRun run.table plan run.meaning t run.now
+  IsRunTo = IsRun run.table plan run.meaning run.tree run.now
 
   -- what can be reached with the first steps finished
   record Reached (n : ℕ) : Type 0 where
@@ -100,10 +100,10 @@ module _ {S : List ℕ → Type 0} {B C : Blobs} {src : DigestValue} {plan : Pla
     first : AreFirstDone n end.done
 
   -- one event more is of the set
-  event_ahead : (es : List Event) (mid : State) (e : Event) (end : State) → IsRunTo es mid → Obeys run.table mid e → happens plan run.meaning t mid e ≡ Some end
-      → (b : List ℕ) → IsBlobOfEvent plan run.meaning t mid e b → S b
+  event_ahead : (es : List Event) (mid : State) (e : Event) (end : State) → IsRunTo es mid → Obeys run.table mid e → happens plan run.meaning run.tree mid e ≡ Some end
+      → (b : List ℕ) → IsBlobOfStart plan run.meaning run.tree mid e b → S b
   event_ahead es mid e end led obeys next b k =
-      ahead b (es ++ e ∷ [], end, run_more run.table plan run.meaning t run.now es mid e end led obeys next, blobs_more run.table plan run.meaning t run.now es mid e b led k)
+      ahead b (es ++ e ∷ [], end, run_more run.table plan run.meaning run.tree run.now es mid e end led obeys next, blobs_more run.table plan run.meaning run.tree run.now es mid e b led k)
 
   one_step : (n : ℕ) (step : StepValue) → slice_get plan.steps n ≡ Some step → Reached n → Reached (suc n)
   one_step n step at r =
@@ -115,19 +115,19 @@ module _ {S : List ℕ → Type 0} {B C : Blobs} {src : DigestValue} {plan : Pla
       let lines = subst (λ n. AllByRecursion (IsLine n) step.lines) none (step_lines [] plan.steps given.rules.steps n step at) in
       let a = may_start given all_first s r.kept n step at (lines_done n s r.first step.lines lines) in
       let mid : State = record s { jobs = (w, (n, a.0)) ∷ s.jobs } in
-      let starts : happens plan run.meaning t s (start n w) ≡ Some mid = ap (λ q. started s n w q (action_of plan run.meaning t s n)) free ∙ ap (started s n w None) a.1 in
+      let starts : happens plan run.meaning run.tree s (start n w) ≡ Some mid = ap (λ q. started s n w q (action_of plan run.meaning run.tree s n)) free ∙ ap (started s n w None) a.1 in
       let started_kept : Keeps given mid = keeps_event given s mid (start n w) r.kept tt (event_ahead r.events s (start n w) mid r.happened tt starts) starts in
-      let led = run_more run.table plan run.meaning t run.now r.events s (start n w) mid r.happened tt starts in
+      let led = run_more run.table plan run.meaning run.tree run.now r.events s (start n w) mid r.happened tt starts in
       let busy : job_of w mid ≡ Some (n, a.0) = own_entry w (n, a.0) s.jobs in
       let comes = (nothing_is_stuck given all_first mid started_kept).finishes w (n, a.0) busy in
       let o = comes.0 in
       let obeys : Obeys run.table mid (finish w o) = λ job is. let same : (n, a.0) ≡ job = one_answer (job_of w mid) (n, a.0) job busy is in subst (λ (j : ℕ × ActionMeaning). Contains run.table (j.1, o)) same comes.1 in
       let end : State = record { done = (n, o) ∷ mid.done; jobs = remove_entry (λ k. k == w) mid.jobs } in
-      let finishes : happens plan run.meaning t mid (finish w o) ≡ Some end = ap (finished mid w o) busy in
+      let finishes : happens plan run.meaning run.tree mid (finish w o) ≡ Some end = ap (finished mid w o) busy in
       record {
         events = (r.events ++ start n w ∷ []) ++ finish w o ∷ [];
         end = end;
-        happened = run_more run.table plan run.meaning t run.now (r.events ++ start n w ∷ []) mid (finish w o) end led obeys finishes;
+        happened = run_more run.table plan run.meaning run.tree run.now (r.events ++ start n w ∷ []) mid (finish w o) end led obeys finishes;
         kept = keeps_event given mid end (finish w o) started_kept obeys (event_ahead (r.events ++ start n w ∷ []) mid (finish w o) end led obeys finishes) finishes;
         first = one_more_done n o s.done r.first;
       }

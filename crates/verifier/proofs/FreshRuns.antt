@@ -37,7 +37,7 @@ use Rattle.verifier.specs.Together.{LooksUpOrigin, StandsAtOrigin, Resolves, Lin
 use Rattle.verifier.specs.AsRecorded.{AreAsRecorded}
 use Rattle.verifier.specs.Holding.{HoldsResult}
 use Rattle.verifier.specs.Build.{ActionMeaning, action_digest, Outcome, output_at, State, outcome_of, origin_at, origins, merge_of}
-use Rattle.verifier.specs.Headline.{PlanRun, IsConcerned, RunsFrom, IsBlobOfEntry, IsBlobOfOutcome, IsBlobOfChosen, HasFinished}
+use Rattle.verifier.specs.Headline.{PlanRun, IsConcerned, IsRunOf, IsBlobOfEntry, IsBlobOfOutcome, IsBlobOfChosen, HasFinished}
 use Rattle.verifier.specs.Recorded.{IsRecordedAs, RecordsAt}
 use Rattle.verifier.proofs.HeldOrigins.{source_held, outcome_held}
 use Rattle.verifier.proofs.LinesTold.{valid_tree, tree_blobs, IsRead, LinesTell, no_lines, one_more, told_graft, no_graft_told}
@@ -96,12 +96,12 @@ pub record FirstAsRecorded (B C : Blobs) (src : DigestValue) (plan : PlanValue) 
 -- ---- what is given of a run
 
 -- It keeps the premises of a yes, the first steps of the plan are as recorded, and no two different blobs of a set that has all those concerned share a digest.
-pub record IsGiven (S : List ℕ → Type 0) (B C : Blobs) (src : DigestValue) (plan : PlanValue) (ds : List DigestValue) (t : Tree Leaf) (run : PlanRun) : Type 0 where
+pub record IsGiven (S : List ℕ → Type 0) (B C : Blobs) (src : DigestValue) (plan : PlanValue) (ds : List DigestValue) (run : PlanRun) : Type 0 where
   pub apart : NoClash S
-  pub within : (b : List ℕ) → IsConcerned B plan run.meaning t run.chosen run.events b → S b
-  pub ordered : IsOrdered t
-  pub sources : root (form t) ≡ src
-  pub runs : RunsFrom B C plan ds t run
+  pub within : (b : List ℕ) → IsConcerned B plan run.meaning run.tree run.chosen run.events b → S b
+  pub ordered : IsOrdered run.tree
+  pub sources : root (form run.tree) ≡ src
+  pub runs : IsRunOf B C plan ds run
   pub rules : IsPlan plan
   pub recorded : FirstAsRecorded B C src plan ds
 
@@ -126,7 +126,7 @@ module _ (S : List ℕ → Type 0) (apart : NoClash S) where
       by (inl h) = let none : bytes ≡ [] = (let both : ◌≡◌ {A = Option (List ℕ)} (Some bytes) (Some []) = h.1 in cc) in none ∙ sym (only_empty other (is ∙ h.0))
       by (inr h) = apart bytes other (values bytes (d, sym h.1)) within (told.right ∙ sym is)
 
-module _ {S : List ℕ → Type 0} {B C : Blobs} {src : DigestValue} {plan : PlanValue} {ds : List DigestValue} {t : Tree Leaf} {run : PlanRun} (given : IsGiven S B C src plan ds t run) where
+module _ {S : List ℕ → Type 0} {B C : Blobs} {src : DigestValue} {plan : PlanValue} {ds : List DigestValue} {run : PlanRun} (given : IsGiven S B C src plan ds run) where
   -- ---- blobs concerned
 
   pub values : (b : List ℕ) → IsValue B b → S b
@@ -135,8 +135,8 @@ module _ {S : List ℕ → Type 0} {B C : Blobs} {src : DigestValue} {plan : Pla
   pub picked : (b : List ℕ) → IsBlobOfChosen run.chosen b → S b
   picked b q = given.within b (inr (inr (inl q)))
 
-  own : (b : List ℕ) → IsBlobOf t b → S b
-  own b q = given.within b (inr (inl (inl q)))
+  own : (b : List ℕ) → IsBlobOf run.tree b → S b
+  own b q = given.within b (inr (inl q))
 
   -- the Trees of a recorded outcome
   holds_told : (d : DigestValue) (u : TreeValue) → IsTold IsTree tree_bytes B d u → HoldsTree S given.apart u
@@ -220,21 +220,21 @@ module _ {S : List ℕ → Type 0} {B C : Blobs} {src : DigestValue} {plan : Pla
   origin_step j v e = get_other given.recorded.outcomes given.recorded.first j v (as_many B C src given.recorded.first ds given.recorded.outcomes given.recorded.steps) e
 
   -- an origin has what was looked up
-  origin_tells : (s : State) → Keeps s → (o : OriginValue) (r : Looked) → LooksUpOrigin B src (slice_get given.recorded.outcomes) o r → HasFinished s o → AgreesWith (option_map entry_node (origin_at t s o)) r
+  origin_tells : (s : State) → Keeps s → (o : OriginValue) (r : Looked) → LooksUpOrigin B src (slice_get given.recorded.outcomes) o r → HasFinished s o → AgreesWith (option_map entry_node (origin_at run.tree s o)) r
   origin_tells s keeps (source p) r look done =
-      looks_from (TellsDirectory B) (FailsDirectory B) S (told_reads B S values given.apart) p (Some (whole t)) r given.ordered own
+      looks_from (TellsDirectory B) (FailsDirectory B) S (told_reads B S values given.apart) p (Some (whole run.tree)) r given.ordered own
       (subst (λ d. LooksFrom (TellsDirectory B) (FailsDirectory B) p (Some (Dir d)) r) (sym given.sources) look)
   origin_tells s keeps (output j p) r look done =
       let step = origin_step j look.0 look.1 in
       let c = chosen_at j step.0 step.1 in
       let outcome = one_answer (slice_get given.recorded.outcomes j) look.0 c.kept.outcome look.1 c.kept.outcome_at in
       let is = published s keeps j step.0 step.1 c done.0 done.1 in
-      let at : origin_at t s (output j p) ≡ output_at c.pair.1.outputs p =
+      let at : origin_at run.tree s (output j p) ≡ output_at c.pair.1.outputs p =
       ap (option_and_then (λ (o : Outcome). output_at o.outputs p)) done.1 ∙ ap (λ (o : Outcome). output_at o.outputs p) is in
       subst (λ z. AgreesWith (option_map entry_node z) r) (sym at) (chosen_tells j step.0 c p r (subst (λ v. LooksIn v p r) outcome look.2))
 
-  origin_ordered : (s : State) → Keeps s → (o : OriginValue) (x : NodeValue) → LooksUpOrigin B src (slice_get given.recorded.outcomes) o (found x) → IsOrderedAt (origin_at t s o)
-  origin_ordered s keeps (source p) x look = ordered_at p (Some (whole t)) given.ordered
+  origin_ordered : (s : State) → Keeps s → (o : OriginValue) (x : NodeValue) → LooksUpOrigin B src (slice_get given.recorded.outcomes) o (found x) → IsOrderedAt (origin_at run.tree s o)
+  origin_ordered s keeps (source p) x look = ordered_at p (Some (whole run.tree)) given.ordered
   origin_ordered s keeps (output j p) x look = by (outcome_of j s) refl
     where
       by : (q : Option Outcome) → outcome_of j s ≡ q → IsOrderedAt (option_and_then (λ (o : Outcome). output_at o.outputs p) q)
@@ -248,8 +248,8 @@ module _ {S : List ℕ → Type 0} {B C : Blobs} {src : DigestValue} {plan : Pla
   -- ---- lines and their grafts
 
   -- the blobs of what stands at an origin
-  origin_blobs : (s : State) → Keeps s → (o : OriginValue) (x : NodeValue) → LooksUpOrigin B src (slice_get given.recorded.outcomes) o (found x) → (e : Entry Leaf) → origin_at t s o ≡ Some e → (b : List ℕ) → IsBlobOfOne e b → S b
-  origin_blobs s keeps (source p) x look e is b q = own b (blobs_below p (Some (whole t)) e b is q)
+  origin_blobs : (s : State) → Keeps s → (o : OriginValue) (x : NodeValue) → LooksUpOrigin B src (slice_get given.recorded.outcomes) o (found x) → (e : Entry Leaf) → origin_at run.tree s o ≡ Some e → (b : List ℕ) → IsBlobOfOne e b → S b
+  origin_blobs s keeps (source p) x look e is b q = own b (blobs_below p (Some (whole run.tree)) e b is q)
   origin_blobs s keeps (output j p) x look e is b q = by (outcome_of j s) refl is
     where
       by : (q : Option Outcome) → outcome_of j s ≡ q → option_and_then (λ (o : Outcome). output_at o.outputs p) q ≡ Some e → S b
@@ -283,21 +283,21 @@ module _ {S : List ℕ → Type 0} {B C : Blobs} {src : DigestValue} {plan : Pla
       }
 
   -- what stands at the origins of lines is what was looked up there
-  lines_tell : (s : State) → Keeps s → (ls : List LineValue) → ArePaths ls → (xs : MergeLines) → Resolves B src (slice_get given.recorded.outcomes) ls xs → HaveFinished s ls → LinesTell S t s ls xs
-  lines_tell s keeps [] paths xs r done = subst (LinesTell S t s []) (sym r) (no_lines S t s)
+  lines_tell : (s : State) → Keeps s → (ls : List LineValue) → ArePaths ls → (xs : MergeLines) → Resolves B src (slice_get given.recorded.outcomes) ls xs → HaveFinished s ls → LinesTell S run.tree s ls xs
+  lines_tell s keeps [] paths xs r done = subst (LinesTell S run.tree s []) (sym r) (no_lines S run.tree s)
   lines_tell s keeps (l ∷ ls) paths xs r done =
-      subst (LinesTell S t s (l ∷ ls)) (sym r.4)
-      (one_more S t s l r.0 ls r.2 paths.0 (origin_tells s keeps l.origin (found r.0.node) r.1.node done.0) (origin_ordered s keeps l.origin r.0.node r.1.node) (origin_read l.origin r.0 r.1)
+      subst (LinesTell S run.tree s (l ∷ ls)) (sym r.4)
+      (one_more S run.tree s l r.0 ls r.2 paths.0 (origin_tells s keeps l.origin (found r.0.node) r.1.node done.0) (origin_ordered s keeps l.origin r.0.node r.1.node) (origin_read l.origin r.0 r.1)
       (origin_blobs s keeps l.origin r.0.node r.1.node)
       (lines_tell s keeps ls paths.1 r.2 r.3 done.1))
 
   -- what lines whose steps have finished put together is there, with the digest that was found
   pub grafts : (s : State) → Keeps s → (ls : List LineValue) → ArePaths ls → (xs : MergeLines) → Resolves B src (slice_get given.recorded.outcomes) ls xs → (made : Tree NodeValue) → (merged B xs).passes made → HaveFinished s ls
-      → (g : Tree Leaf) × (merge_of t s ls ≡ Some g) × (root (form g) ≡ root made) × IsOrdered g
-  grafts s keeps ls paths xs r made merges done = told_graft S t s given.apart B values (lines_tell s keeps ls paths xs r done) made merges
+      → (g : Tree Leaf) × (merge_of run.tree s ls ≡ Some g) × (root (form g) ≡ root made) × IsOrdered g
+  grafts s keeps ls paths xs r made merges done = told_graft S run.tree s given.apart B values (lines_tell s keeps ls paths xs r done) made merges
 
   -- where a graft is there, the steps that its lines read have finished
-  origin_finished : (s : State) (o : OriginValue) (e : Entry Leaf) → origin_at t s o ≡ Some e → HasFinished s o
+  origin_finished : (s : State) (o : OriginValue) (e : Entry Leaf) → origin_at run.tree s o ≡ Some e → HasFinished s o
   origin_finished s (source p) e is = tt
   origin_finished s (output j p) e is = by (outcome_of j s) refl is
     where
@@ -305,56 +305,56 @@ module _ {S : List ℕ → Type 0} {B C : Blobs} {src : DigestValue} {plan : Pla
       by None at is = absurd cc
       by (Some o) at is = (o, at)
 
-  origins_finished : (s : State) (ls : List LineValue) (es : List (List Name × Entry Leaf)) → origins t s ls ≡ Some es → HaveFinished s ls
+  origins_finished : (s : State) (ls : List LineValue) (es : List (List Name × Entry Leaf)) → origins run.tree s ls ≡ Some es → HaveFinished s ls
   origins_finished s [] es is = tt
-  origins_finished s (l ∷ ls) es is = by (origin_at t s l.origin) (origins t s ls) refl refl is (origins_finished s ls)
+  origins_finished s (l ∷ ls) es is = by (origin_at run.tree s l.origin) (origins run.tree s ls) refl refl is (origins_finished s ls)
     where
-      by : (o : Option (Entry Leaf)) (q : Option (List (List Name × Entry Leaf))) → origin_at t s l.origin ≡ o → origins t s ls ≡ q → option_and_then (λ e. option_map (λ es. (l.target, e) ∷ es) q) o ≡ Some es
-          → ((es : List (List Name × Entry Leaf)) → origins t s ls ≡ Some es → HaveFinished s ls) → HasFinished s l.origin × HaveFinished s ls
+      by : (o : Option (Entry Leaf)) (q : Option (List (List Name × Entry Leaf))) → origin_at run.tree s l.origin ≡ o → origins run.tree s ls ≡ q → option_and_then (λ e. option_map (λ es. (l.target, e) ∷ es) q) o ≡ Some es
+          → ((es : List (List Name × Entry Leaf)) → origins run.tree s ls ≡ Some es → HaveFinished s ls) → HasFinished s l.origin × HaveFinished s ls
       by None q at those is rest = absurd cc
       by (Some e) None at those is rest = absurd cc
       by (Some e) (Some others) at those is rest = (origin_finished s l.origin e at, rest others those)
 
-  pub graft_finished : (s : State) (ls : List LineValue) (g : Tree Leaf) → merge_of t s ls ≡ Some g → HaveFinished s ls
-  graft_finished s ls g is = by (origins t s ls) refl is
+  pub graft_finished : (s : State) (ls : List LineValue) (g : Tree Leaf) → merge_of run.tree s ls ≡ Some g → HaveFinished s ls
+  graft_finished s ls g is = by (origins run.tree s ls) refl is
     where
-      by : (q : Option (List (List Name × Entry Leaf))) → origins t s ls ≡ q → option_and_then merge q ≡ Some g → HaveFinished s ls
+      by : (q : Option (List (List Name × Entry Leaf))) → origins run.tree s ls ≡ q → option_and_then merge q ≡ Some g → HaveFinished s ls
       by None those is = absurd cc
       by (Some es) those is = origins_finished s ls es those
 
   -- where lines have a fault, other than a Directory that isn't told, they put nothing together
-  missing : (s : State) → Keeps s → (why : LinesFault) → ((f : Fault) → why ≢ not_read f) → (o : OriginValue) (r : Looked) → LooksUpOrigin B src (slice_get given.recorded.outcomes) o r → IsFaultOfLook o r why → origin_at t s o ≡ None
+  missing : (s : State) → Keeps s → (why : LinesFault) → ((f : Fault) → why ≢ not_read f) → (o : OriginValue) (r : Looked) → LooksUpOrigin B src (slice_get given.recorded.outcomes) o r → IsFaultOfLook o r why → origin_at run.tree s o ≡ None
   missing s keeps why told o (fault f) look is = absurd (told f is)
   missing s keeps why told o (found x) look is = absurd is
-  missing s keeps why told o nothing look is = by (origin_at t s o) refl
+  missing s keeps why told o nothing look is = by (origin_at run.tree s o) refl
     where
-      by : (q : Option (Entry Leaf)) → origin_at t s o ≡ q → origin_at t s o ≡ None
+      by : (q : Option (Entry Leaf)) → origin_at run.tree s o ≡ q → origin_at run.tree s o ≡ None
       by None at = at
       by (Some e) at =
-          let none : option_map entry_node (origin_at t s o) ≡ None = origin_tells s keeps o nothing look (origin_finished s o e at) in
+          let none : option_map entry_node (origin_at run.tree s o) ≡ None = origin_tells s keeps o nothing look (origin_finished s o e at) in
           let clash : ◌≡◌ {A = Option NodeValue} (Some (entry_node e)) None = sym (ap (option_map entry_node) at) ∙ none in
           absurd cc
 
-  first_missing : (s : State) → Keeps s → (why : LinesFault) → ((f : Fault) → why ≢ not_read f) → (ls : List LineValue) → FirstFault B src (slice_get given.recorded.outcomes) ls why → origins t s ls ≡ None
+  first_missing : (s : State) → Keeps s → (why : LinesFault) → ((f : Fault) → why ≢ not_read f) → (ls : List LineValue) → FirstFault B src (slice_get given.recorded.outcomes) ls why → origins run.tree s ls ≡ None
   first_missing s keeps why told [] k = absurd k
   first_missing s keeps why told (l ∷ ls) (inl (r, look, is)) =
-      ap (option_and_then (λ e. option_map (λ es. (l.target, e) ∷ es) (origins t s ls))) (missing s keeps why told l.origin r look is)
+      ap (option_and_then (λ e. option_map (λ es. (l.target, e) ∷ es) (origins run.tree s ls))) (missing s keeps why told l.origin r look is)
   first_missing s keeps why told (l ∷ ls) (inr (x, look, rest)) =
-      ap (λ q. option_and_then (λ e. option_map (λ es. (l.target, e) ∷ es) q) (origin_at t s l.origin)) (first_missing s keeps why told ls rest) ∙ none (origin_at t s l.origin)
+      ap (λ q. option_and_then (λ e. option_map (λ es. (l.target, e) ∷ es) q) (origin_at run.tree s l.origin)) (first_missing s keeps why told ls rest) ∙ none (origin_at run.tree s l.origin)
     where
       none : (q : Option (Entry Leaf)) → option_and_then {U = List (List Name × Entry Leaf)} (λ (e : Entry Leaf). option_map (λ (es : List (List Name × Entry Leaf)). (l.target, e) ∷ es) None) q ≡ None
       none None = refl
       none (Some e) = refl
 
-  pub put_nothing : (s : State) → Keeps s → (ls : List LineValue) → ArePaths ls → IsLinesFault B src given.recorded.outcomes ls → merge_of t s ls ≡ None
+  pub put_nothing : (s : State) → Keeps s → (ls : List LineValue) → ArePaths ls → IsLinesFault B src given.recorded.outcomes ls → merge_of run.tree s ls ≡ None
   unfolding ◌and_then◌
   put_nothing s keeps ls paths lacks = by lacks.fails
     where
-      none : (p : List Name) (xs : MergeLines) → Resolves B src (slice_get given.recorded.outcomes) ls xs → (merged B xs).fails (conflict p) → (q : Option (Tree Leaf)) → merge_of t s ls ≡ q → merge_of t s ls ≡ None
+      none : (p : List Name) (xs : MergeLines) → Resolves B src (slice_get given.recorded.outcomes) ls xs → (merged B xs).fails (conflict p) → (q : Option (Tree Leaf)) → merge_of run.tree s ls ≡ q → merge_of run.tree s ls ≡ None
       none p xs r fails None at = at
-      none p xs r fails (Some g) at = no_graft_told S t s given.apart B values (lines_tell s keeps ls paths xs r (graft_finished s ls g at)) p fails
+      none p xs r fails (Some g) at = no_graft_told S run.tree s given.apart B values (lines_tell s keeps ls paths xs r (graft_finished s ls g at)) p fails
 
-      by : (put_together B src (slice_get given.recorded.outcomes) ls).fails lacks.why → merge_of t s ls ≡ None
+      by : (put_together B src (slice_get given.recorded.outcomes) ls).fails lacks.why → merge_of run.tree s ls ≡ None
       by (inl k) = ap (option_and_then merge) (first_missing s keeps lacks.why lacks.told ls k)
       by (inr (xs, r, (unreadable f, fails, is))) = absurd (lacks.told f is)
-      by (inr (xs, r, (conflict p, fails, is))) = none p xs r fails (merge_of t s ls) refl
+      by (inr (xs, r, (conflict p, fails, is))) = none p xs r fails (merge_of run.tree s ls) refl

@@ -1,5 +1,5 @@
 -- Stages that have a yes each, built one after another.
-use Rattle.std.proofs.Common.{List, [], ◌∷◌, Option, ◌∙◌, sym, subst}
+use Rattle.std.proofs.Common.{List, [], ◌∷◌, Option, ◌∙◌, ap, sym, subst}
 use Rattle.std.specs.Prelude.{◌≡◌, ◌++◌, Some}
 use Rattle.blob_digest.specs.Digest.{DigestValue}
 use Rattle.tree.specs.Tree.{Tree, Leaf, IsOrdered}
@@ -7,7 +7,7 @@ use Rattle.tree.specs.Form.{form, root}
 use Rattle.verifier.specs.AsRecorded.{IsPlanAsRecorded}
 use Rattle.verifier.specs.Build.{HasFinishedAll, merge_of}
 use Rattle.verifier.specs.BuildStages.{BuildStage, IsYesFrom, AreYes, last_claim, RunsStage, EndsIn, RunInTurn}
-use Rattle.verifier.specs.Headline.{PlanRun, IsNotStuck}
+use Rattle.verifier.specs.Headline.{PlanRun, RunsFrom, IsNotStuck}
 use Rattle.verifier.proofs.Holds.{recorded_tree, recorded_unstuck}
 use Rattle.verifier.proofs.Passing.{yes_recorded}
 
@@ -21,10 +21,13 @@ module _ (A : Type 0) where
     pub ordered : IsOrdered t
     pub same : root (form t) ≡ digest
 
+  stage_runs : (sources : DigestValue) (s : BuildStage) (t : Tree Leaf) → IsStart sources t → (r : PlanRun) → RunsStage t s r → RunsFrom s.tells.blobs s.tells.results sources s.plan s.recorded r
+  stage_runs sources s t at r runs = record { ordered = subst IsOrdered (sym runs.0) at.ordered; from = ap (λ t. root (form t)) runs.0 ∙ at.same; keeps = runs.1 }
+
   ended : (sources : DigestValue) (s : BuildStage) → IsYesFrom A sources s → (t : Tree Leaf) → IsStart sources t → (r : PlanRun) → RunsStage t s r → HasFinishedAll s.plan r.now
-      → (g : Tree Leaf) × (merge_of t r.now s.plan.root_lines ≡ Some g) × (root (form g) ≡ s.claim) × IsOrdered g
+      → (g : Tree Leaf) × (merge_of r.tree r.now s.plan.root_lines ≡ Some g) × (root (form g) ≡ s.claim) × IsOrdered g
   ended sources s y t at r runs all =
-      recorded_tree s.tells.blobs s.tells.results sources s.plan s.recorded s.claim y.planned (as_recorded sources s y) t r at.ordered at.same runs all
+      recorded_tree s.tells.blobs s.tells.results sources s.plan s.recorded s.claim y.planned (as_recorded sources s y) r (stage_runs sources s t at r runs) all
 
   one_tree : (t u : Tree Leaf) → ◌≡◌ {A = Option (Tree Leaf)} (Some t) (Some u) → t ≡ u
   one_tree t u is = cc
@@ -55,12 +58,12 @@ module _ (A : Type 0) where
   starts sources t ordered same = record { ordered = ordered; same = same }
 
   pub never_stuck : (sources : DigestValue) (ss : List BuildStage) (rs : List PlanRun) (t between : Tree Leaf) (s : BuildStage) (r : PlanRun) → AreYes A sources (ss ++ s ∷ [])
-      → IsStart sources t → RunInTurn t ss rs between → RunsStage between s r → IsNotStuck r.table s.plan r.meaning between r.now
+      → IsStart sources t → RunInTurn t ss rs between → RunsStage between s r → IsNotStuck r.table s.plan r.meaning r.tree r.now
   never_stuck sources ss rs t between s r y at before runs =
       let here = ends_in_last sources ss rs t between (before_yes sources ss s y) at before in
       let yes = last_yes sources ss s y in
       (recorded_unstuck s.tells.blobs s.tells.results (last_claim sources ss) s.plan s.recorded s.claim yes.planned (as_recorded (last_claim sources ss) s yes)).of_run
-      between r here.ordered here.same runs
+      r (stage_runs (last_claim sources ss) s between here r runs)
 
   pub is_made : (sources : DigestValue) (ss : List BuildStage) (rs : List PlanRun) (t between : Tree Leaf) (s : BuildStage) (r : PlanRun) → AreYes A sources (ss ++ s ∷ [])
       → IsStart sources t → RunInTurn t ss rs between → RunsStage between s r → HasFinishedAll s.plan r.now → (end : Tree Leaf) × EndsIn between s r end

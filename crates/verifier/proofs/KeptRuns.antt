@@ -22,7 +22,7 @@ use Rattle.tree.proofs.TreeDigests.{IsDigest-digest_of}
 use Rattle.verifier.specs.Together.{LooksUpOrigin, Resolves, put_together}
 use Rattle.verifier.specs.AsRecorded.{IsAccepted}
 use Rattle.verifier.specs.Build.{ActionMeaning, action_digest, Outcome, StepFits, Event, start, finish, lose, State, opening, job_of, merge_of, step_action, action_of, started, finished, lost, happens, Obeys, IsRun, HasFinishedAll}
-use Rattle.verifier.specs.Headline.{IsBlobOfAction, IsBlobOfEvent, IsBlobOfEvents, HasFinished, IsNotStuck, IsAsChosen}
+use Rattle.verifier.specs.Headline.{IsBlobOfAction, IsBlobOfStart, IsBlobOfStarts, HasFinished, IsNotStuck, IsAsChosen}
 use Rattle.verifier.proofs.Targets.{paths_of, step_paths}
 use Rattle.verifier.specs.Headline.{PlanRun}
 use Rattle.verifier.proofs.FreshRuns.{one_answer, found_one, kept_rest, IsGiven, HaveFinished, told_bytes, values, picked, Chosen, chosen_at, pair_in_table, succeeds, IsPublished, IsJob, Keeps, origin_step, grafts, graft_finished}
@@ -36,36 +36,36 @@ pub record IsOwnAction (B : Blobs) (src : DigestValue) (os : List OutcomeValue) 
   pub made : (put_together B src (slice_get os) step.lines).passes tree
   pub input : root tree ≡ action.input
 
-module _ {S : List ℕ → Type 0} {B C : Blobs} {src : DigestValue} {plan : PlanValue} {ds : List DigestValue} {t : Tree Leaf} {run : PlanRun} (given : IsGiven S B C src plan ds t run) where
+module _ {S : List ℕ → Type 0} {B C : Blobs} {src : DigestValue} {plan : PlanValue} {ds : List DigestValue} {run : PlanRun} (given : IsGiven S B C src plan ds run) where
   -- ---- events
 
   -- the action of a step, by its frame and its command
   pub action_made : (s : State) (i : ℕ) (step : StepValue) (at : slice_get plan.steps i ≡ Some step)
-      → action_of plan run.meaning t s i ≡ option_map {U = ActionMeaning} (λ input. record { frame = (given.runs.fits.steps i step at).0; command = (given.runs.fits.steps i step at).1; input = input }) (merge_of t s step.lines)
+      → action_of plan run.meaning run.tree s i ≡ option_map {U = ActionMeaning} (λ input. record { frame = (given.runs.fits.steps i step at).0; command = (given.runs.fits.steps i step at).1; input = input }) (merge_of run.tree s step.lines)
   action_made s i step at =
       let f = given.runs.fits.steps i step at in
-      ap (option_and_then (step_action run.meaning t s i)) at
-      ∙ ap (λ q. option_and_then {U = ActionMeaning} (λ (frame : FrameValue). option_and_then {U = ActionMeaning} (λ (command : CommandValue). option_map {U = ActionMeaning} (λ input. record { frame = frame; command = command; input = input }) (merge_of t s step.lines)) (slice_get run.meaning.commands i)) q) f.2
-      ∙ ap (λ q. option_and_then {U = ActionMeaning} (λ (command : CommandValue). option_map {U = ActionMeaning} (λ input. record { frame = f.0; command = command; input = input }) (merge_of t s step.lines)) q) f.3
+      ap (option_and_then (step_action run.meaning run.tree s i)) at
+      ∙ ap (λ q. option_and_then {U = ActionMeaning} (λ (frame : FrameValue). option_and_then {U = ActionMeaning} (λ (command : CommandValue). option_map {U = ActionMeaning} (λ input. record { frame = frame; command = command; input = input }) (merge_of run.tree s step.lines)) (slice_get run.meaning.commands i)) q) f.2
+      ∙ ap (λ q. option_and_then {U = ActionMeaning} (λ (command : CommandValue). option_map {U = ActionMeaning} (λ input. record { frame = f.0; command = command; input = input }) (merge_of run.tree s step.lines)) q) f.3
 
   -- an action that a step may start with
   pub record IsActionOf (s : State) (i : ℕ) (a : ActionMeaning) : Type 0 where
     pub step : StepValue
     pub at : slice_get plan.steps i ≡ Some step
     pub fit : StepFits step.frame a.frame a.command
-    pub grafted : merge_of t s step.lines ≡ Some a.input
+    pub grafted : merge_of run.tree s step.lines ≡ Some a.input
 
-  pub action_is : (s : State) (i : ℕ) (a : ActionMeaning) → action_of plan run.meaning t s i ≡ Some a → IsActionOf s i a
+  pub action_is : (s : State) (i : ℕ) (a : ActionMeaning) → action_of plan run.meaning run.tree s i ≡ Some a → IsActionOf s i a
   action_is s i a is = by (slice_get plan.steps i) refl
     where
       by : (q : Option StepValue) → slice_get plan.steps i ≡ q → IsActionOf s i a
-      by None at = absurd (let none : ◌≡◌ {A = Option ActionMeaning} None (Some a) = sym (ap (option_and_then (step_action run.meaning t s i)) at) ∙ is in cc)
-      by (Some step) at = made (merge_of t s step.lines) refl (sym (action_made s i step at) ∙ is)
+      by None at = absurd (let none : ◌≡◌ {A = Option ActionMeaning} None (Some a) = sym (ap (option_and_then (step_action run.meaning run.tree s i)) at) ∙ is in cc)
+      by (Some step) at = made (merge_of run.tree s step.lines) refl (sym (action_made s i step at) ∙ is)
         where
           f : (frame : FrameValue) × (command : CommandValue) × (slice_get run.meaning.frames i ≡ Some frame) × (slice_get run.meaning.commands i ≡ Some command) × StepFits step.frame frame command
           f = given.runs.fits.steps i step at
 
-          made : (g : Option (Tree Leaf)) → merge_of t s step.lines ≡ g → option_map {U = ActionMeaning} (λ input. record { frame = f.0; command = f.1; input = input }) g ≡ Some a → IsActionOf s i a
+          made : (g : Option (Tree Leaf)) → merge_of run.tree s step.lines ≡ g → option_map {U = ActionMeaning} (λ input. record { frame = f.0; command = f.1; input = input }) g ≡ Some a → IsActionOf s i a
           made None grafted is = absurd cc
           made (Some g) grafted is =
               let whole_action : ◌≡◌ {A = ActionMeaning} (record { frame = f.0; command = f.1; input = g }) a = cc in
@@ -121,7 +121,7 @@ module _ {S : List ℕ → Type 0} {B C : Blobs} {src : DigestValue} {plan : Pla
       let command = command_bytes_injective a.command A.command p.fit.command_valid valid.command commands in
       -- and what the lines put together is its input
       let g = grafts given s keeps p.step.lines (step_paths [] plan.steps given.rules.steps i p.step p.at) r.made.0 r.made.1 r.tree r.made.2 (graft_finished given s p.step.lines a.input p.grafted) in
-      let same : g.0 ≡ a.input = one_answer (merge_of t s p.step.lines) g.0 a.input g.1 p.grafted in
+      let same : g.0 ≡ a.input = one_answer (merge_of run.tree s p.step.lines) g.0 a.input g.1 p.grafted in
       let roots : root (form a.input) ≡ root (form A.input) = ap (λ u. root (form u)) (sym same) ∙ g.2 ∙ r.input ∙ told_input in
       let input = same_root S given.apart a.input A.input (subst IsOrdered same g.3) valid.input (λ b q. blobs b (inr (inr q))) (λ b q. own b (inr (inr q))) roots in
       λ i. record { frame = frame i; command = command i; input = input i }
@@ -133,10 +133,10 @@ module _ {S : List ℕ → Type 0} {B C : Blobs} {src : DigestValue} {plan : Pla
       takes_chosen s keeps i a p c.kept.digest (record { action = r.action; tree = r.tree; told = r.action_told; frame = r.frame; made = (r.nodes, r.resolved, r.put_together); input = r.input }) c.pair (record { at = c.pair_at; in_table = c.in_table; digest = c.digest })
 
   -- each event keeps it
-  pub keeps_event : (s mid : State) (e : Event) → Keeps given s → Obeys run.table s e → ((b : List ℕ) → IsBlobOfEvent plan run.meaning t s e b → S b) → happens plan run.meaning t s e ≡ Some mid → Keeps given mid
-  keeps_event s mid (start i w) keeps obeys blobs is = by (job_of w s) (action_of plan run.meaning t s i) refl is
+  pub keeps_event : (s mid : State) (e : Event) → Keeps given s → Obeys run.table s e → ((b : List ℕ) → IsBlobOfStart plan run.meaning run.tree s e b → S b) → happens plan run.meaning run.tree s e ≡ Some mid → Keeps given mid
+  keeps_event s mid (start i w) keeps obeys blobs is = by (job_of w s) (action_of plan run.meaning run.tree s i) refl is
     where
-      by : (q : Option (ℕ × ActionMeaning)) (o : Option ActionMeaning) → action_of plan run.meaning t s i ≡ o → started s i w q o ≡ Some mid → Keeps given mid
+      by : (q : Option (ℕ × ActionMeaning)) (o : Option ActionMeaning) → action_of plan run.meaning run.tree s i ≡ o → started s i w q o ≡ Some mid → Keeps given mid
       by (Some job) o e is = absurd cc
       by None None e is = absurd cc
       by None (Some a) e is =
@@ -166,7 +166,7 @@ module _ {S : List ℕ → Type 0} {B C : Blobs} {src : DigestValue} {plan : Pla
           subst (Keeps given) whole_state (record { done = keeps.done; jobs = kept_rest (IsJob given) w s.jobs keeps.jobs })
 
   -- so does a run
-  keeps_run : (s end : State) (es : List Event) → Keeps given s → ((b : List ℕ) → IsBlobOfEvents plan run.meaning t s es b → S b) → IsRun run.table plan run.meaning t s es end → Keeps given end
+  keeps_run : (s end : State) (es : List Event) → Keeps given s → ((b : List ℕ) → IsBlobOfStarts plan run.meaning run.tree s es b → S b) → IsRun run.table plan run.meaning run.tree s es end → Keeps given end
   keeps_run s end [] keeps blobs r = subst (Keeps given) (sym r) keeps
   keeps_run s end (e ∷ es) keeps blobs r = keeps_run r.1 end es (keeps_event s r.1 e keeps r.0 (λ b k. blobs b (inl k)) r.2) (λ b k. blobs b (inr (r.1, r.2, k))) r.3
 
@@ -186,14 +186,14 @@ module _ {S : List ℕ → Type 0} {B C : Blobs} {src : DigestValue} {plan : Pla
 
     -- A complete run ends in a tree with the claim as its digest.
     pub end_tree : (claim : DigestValue) → IsAccepted B src given.recorded.outcomes plan.root_lines claim → HasFinishedAll plan run.now
-        → (g : Tree Leaf) × (merge_of t run.now plan.root_lines ≡ Some g) × (root (form g) ≡ claim) × IsOrdered g
+        → (g : Tree Leaf) × (merge_of run.tree run.now plan.root_lines ≡ Some g) × (root (form g) ≡ claim) × IsOrdered g
     end_tree claim accepted all =
         let paths = paths_of (length plan.steps) plan.root_lines given.rules.root_lines.each in
         let g = grafts given run.now runs_keep plan.root_lines paths accepted.nodes accepted.resolved accepted.tree accepted.put_together (finished_all run.now all plan.root_lines accepted.nodes accepted.resolved) in
         (g.0, g.1, g.2 ∙ accepted.same, g.3)
 
     -- a step whose lines' steps have finished has an action
-    pub may_start : (now : State) → Keeps given now → (i : ℕ) (step : StepValue) → slice_get plan.steps i ≡ Some step → HaveFinished now step.lines → (a : ActionMeaning) × (action_of plan run.meaning t now i ≡ Some a)
+    pub may_start : (now : State) → Keeps given now → (i : ℕ) (step : StepValue) → slice_get plan.steps i ≡ Some step → HaveFinished now step.lines → (a : ActionMeaning) × (action_of plan run.meaning run.tree now i ≡ Some a)
     may_start now keeps i step at done =
         let c = chosen_at given i step (all_first i step at) in
         let f = given.runs.fits.steps i step at in
@@ -203,11 +203,11 @@ module _ {S : List ℕ → Type 0} {B C : Blobs} {src : DigestValue} {plan : Pla
         (a, action_made now i step at ∙ ap (option_map {U = ActionMeaning} (λ input. record { frame = f.0; command = f.1; input = input })) g.1)
 
     -- Nothing is stuck.
-    pub nothing_is_stuck : (now : State) → Keeps given now → IsNotStuck run.table plan run.meaning t now
+    pub nothing_is_stuck : (now : State) → Keeps given now → IsNotStuck run.table plan run.meaning run.tree now
     nothing_is_stuck now keeps = record {
       starts = λ i w step at done free.
           let a = may_start now keeps i step at done in
-          (record now { jobs = (w, (i, a.0)) ∷ now.jobs }, ap (λ q. started now i w q (action_of plan run.meaning t now i)) free ∙ ap (started now i w None) a.1);
+          (record now { jobs = (w, (i, a.0)) ∷ now.jobs }, ap (λ q. started now i w q (action_of plan run.meaning run.tree now i)) free ∙ ap (started now i w None) a.1);
       finishes = λ w job is.
           let j = found_one (IsJob given) w now.jobs job keeps.jobs is in
           let k = j.2 (all_first job.0 j.0 j.1) in

@@ -6,6 +6,7 @@ pub mod TwoStepsRun
 pub mod TwoStepsBlobs
 pub mod TwoStepsEvents
 pub mod TwoStages
+pub mod TwoStepsRerun
 pub mod TwoNoes
 pub mod TwoEnds
 pub mod SourceStep
@@ -18,6 +19,11 @@ pub mod VerdictOnce
 pub mod Passing
 pub mod OutputLookups
 pub mod RecordedSteps
+pub mod MergesOfTwo
+pub mod LinesOfTwo
+pub mod SameForms
+pub mod TwoBuilds
+pub mod Culprits
 pub mod HeldOrigins
 pub mod LinesTold
 pub mod FreshRuns

@@ -5,7 +5,7 @@ use Rattle.actions.specs.Outcome.{OutcomeValue}
 use Rattle.plan.specs.Values.{LineValue, StepValue, PlanValue}
 use Rattle.tree.specs.Form.{root}
 use Rattle.tree.specs.Stage.{◌and_then◌}
-use Rattle.blob_source.specs.Source.{Telling}
+use Rattle.blob_source.specs.Source.{Telling, Grows}
 use Rattle.blob_source.specs.Told.{missing, wrong, malformed}
 use Rattle.verifier.specs.declared.verdict.Verdict.{Verdict}
 use Rattle.verifier.specs.declared.verdict.Verdict.TheVariants.{Yes, No}
@@ -17,6 +17,7 @@ use Rattle.verifier.specs.AsRecorded.{AreAsRecorded, IsPlanAsRecorded, IsAccepte
 use Rattle.verifier.specs.Faults.{cause_of_lines}
 use Rattle.verifier.specs.Together.{LinesFault, no_origin, in_conflict, not_read}
 use Rattle.verifier.specs.Verdict.{root_check, steps_check, IsVerdict, IsYes}
+use Rattle.verifier.proofs.ChecksThen.{IsStable, stable_then, stable_without, stable_together, stable_steps}
 use Rattle.verifier.proofs.StepLaws.{recorded_from, from_recorded}
 use Rattle.verifier.proofs.VerdictOnce.{verdict_once}
 
@@ -102,3 +103,14 @@ module _ (A : Type 0) (t : Telling) (sources : DigestValue) (plan : PlanValue) (
 
   pub recorded_yes : (v : Verdict A) → IsVerdict t sources plan recorded claim v → IsPlanAsRecorded t.blobs t.results sources plan recorded claim → IsYes v
   recorded_yes v h k = subst IsYes (verdict_once A t sources plan recorded claim (Yes claim (length plan.steps)) v (recorded_verdict k) h) tt
+
+-- what is as recorded stays so, whatever more is told
+stable_root : {A : Type 0} (sources : DigestValue) (os : List OutcomeValue) (ls : List LineValue) (claim : DigestValue) → IsStable (λ t. root_check {A = A} t sources os ls claim)
+stable_root sources os ls claim = stable_then (stable_together sources os ls) (λ made. stable_without)
+
+pub recorded_stays : (A : Type 0) (old new : Telling) (sources : DigestValue) (plan : PlanValue) (recorded : List DigestValue) (claim : DigestValue) → Grows old.blobs new.blobs → Grows old.results new.results
+    → IsPlanAsRecorded old.blobs old.results sources plan recorded claim → IsPlanAsRecorded new.blobs new.results sources plan recorded claim
+recorded_stays A old new sources plan recorded claim blobs results h =
+    let steps = (stable_steps {A = A} sources [] plan.steps recorded).still old new blobs results h.outcomes (recorded_steps A old sources [] plan.steps recorded h.outcomes h.steps) in
+    let root = (stable_root {A = A} sources h.outcomes plan.root_lines claim).still old new blobs results tt (accepted_root A old sources h.outcomes plan.root_lines claim h.root) in
+    record { outcomes = h.outcomes; steps = steps_recorded A new sources [] plan.steps recorded h.outcomes steps; root = root_accepted A new sources h.outcomes plan.root_lines claim root }

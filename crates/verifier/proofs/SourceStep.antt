@@ -12,7 +12,7 @@ use Rattle.messages.specs.Tree.{TreeValue, tree_bytes}
 use Rattle.messages.proofs.Paths.{one_name}
 use Rattle.action_messages.specs.Action.{with_input, action_bytes}
 use Rattle.action_messages.specs.Command.{CommandValue, command_bytes}
-use Rattle.action_messages.specs.Frame.{FrameValue, frame_bytes}
+use Rattle.action_messages.specs.Frame.{FrameValue}
 use Rattle.plan.specs.Plan.{IsPlan}
 use Rattle.plan.specs.Values.{source, StepValue}
 use Rattle.tree.specs.Tree.{IsOrdered}
@@ -24,7 +24,7 @@ use Rattle.tree.proofs.TreeDigests.{IsDigest-digest_of}
 use Rattle.blob_source.specs.Told.{TellsDirectory}
 use Rattle.verifier.specs.AsRecorded.{IsAsRecorded, IsPlanAsRecorded}
 use Rattle.verifier.specs.Build.{ActionMeaning, action_digest, Outcome, Event, start, finish, lose, State, opening, action_of, happens, IsTable, StepFits, MeaningFits, IsRun, HasFinishedAll}
-use Rattle.verifier.specs.Headline.{IsBlobOfAction, IsBlobOfOutcome, IsBlobOfEvent, IsBlobOfEvents, IsConcerned, RunsFrom}
+use Rattle.verifier.specs.Headline.{IsBlobOfAction, IsBlobOfOutcome, IsBlobOfStart, IsBlobOfStarts, IsConcerned, RunsFrom}
 use Rattle.verifier.specs.Recorded.{Agrees, IsRecordedAs}
 use Rattle.verifier.specs.TwoSteps as two
 use Rattle.verifier.proofs.FreshRuns.{one_answer}
@@ -202,40 +202,40 @@ kept_one b (suc (suc zero), lt, e) = same_blob (top (form two.data_input)) b (9,
 kept_one b (suc (suc (suc k)), lt, e) = absurd (omega (arith, lt))
 
 -- where the step starts, its action is that of `use`
-starts : (b : List ℕ) (s : State) (w : ℕ) → IsBlobOfEvent two.reading_plan two.reading_run.meaning two.data_input s (start 0 w) b → Contains all_blobs b
+starts : (b : List ℕ) (s : State) (w : ℕ) → IsBlobOfStart two.reading_plan two.reading_run.meaning two.data_input s (start 0 w) b → Contains all_blobs b
 unfolding merge
 starts b s w (a, at, h) =
     let same = one_answer (action_of two.reading_plan two.reading_run.meaning two.data_input s 0) a two.uses.0 at refl in
     of_uses b (subst (λ a. IsBlobOfAction a b) same h)
 
 and_then : (b : List ℕ) (s next : State) (e : Event) (es : List Event) → happens two.reading_plan two.reading_run.meaning two.data_input s e ≡ Some next
-    → (IsBlobOfEvent two.reading_plan two.reading_run.meaning two.data_input s e b → Contains all_blobs b) → (IsBlobOfEvents two.reading_plan two.reading_run.meaning two.data_input next es b → Contains all_blobs b)
-    → IsBlobOfEvents two.reading_plan two.reading_run.meaning two.data_input s (e ∷ es) b → Contains all_blobs b
+    → (IsBlobOfStart two.reading_plan two.reading_run.meaning two.data_input s e b → Contains all_blobs b) → (IsBlobOfStarts two.reading_plan two.reading_run.meaning two.data_input next es b → Contains all_blobs b)
+    → IsBlobOfStarts two.reading_plan two.reading_run.meaning two.data_input s (e ∷ es) b → Contains all_blobs b
 and_then b s next e es is first rest (inl h) = first h
 and_then b s next e es is first rest (inr (mid, at, h)) =
     let same = one_answer (happens two.reading_plan two.reading_run.meaning two.data_input s e) mid next at is in
-    rest (subst (λ s. IsBlobOfEvents two.reading_plan two.reading_run.meaning two.data_input s es b) same h)
+    rest (subst (λ s. IsBlobOfStarts two.reading_plan two.reading_run.meaning two.data_input s es b) same h)
 
-of_run : (b : List ℕ) → IsBlobOfEvents two.reading_plan two.reading_run.meaning two.data_input opening two.reading_run.events b → Contains all_blobs b
+of_run : (b : List ℕ) → IsBlobOfStarts two.reading_plan two.reading_run.meaning two.data_input opening two.reading_run.events b → Contains all_blobs b
 unfolding merge
 of_run b =
     and_then b opening s1 (start 0 0) (start 0 1 ∷ lose 0 ∷ finish 1 two.uses.1 ∷ []) refl (starts b opening 0)
     (and_then b s1 s2 (start 0 1) (lose 0 ∷ finish 1 two.uses.1 ∷ []) refl (starts b s1 1)
     (and_then b s2 s3 (lose 0) (finish 1 two.uses.1 ∷ []) refl (λ none. absurd none)
-    (and_then b s3 two.reading_run.now (finish 1 two.uses.1) [] refl (made_by_uses b) (λ none. absurd none))))
+    (and_then b s3 two.reading_run.now (finish 1 two.uses.1) [] refl (λ none. absurd none) (λ none. absurd none))))
 
 concerned : (b : List ℕ) → IsConcerned two.reading_blobs two.reading_plan two.reading_run.meaning two.data_input (two.uses ∷ []) two.reading_run.events b → Contains all_blobs b
 concerned b (inl (inl (d, is))) = kept_one b (keeping_one two.reading_kept d b is)
 concerned b (inl (inr (t, valid, (d, is), m, inside, at))) = absurd (no_trees t (keeping_one two.reading_kept d (tree_bytes t) is))
-concerned b (inr (inl (inl h))) = of_input b h
-concerned b (inr (inl (inr (inl (f, (zero, lt, at), is))))) = same_blob (frame_bytes two.uses.0.frame) b (6, omega arith, refl) (is ∙ ap frame_bytes (sym at))
-concerned b (inr (inl (inr (inl (f, (suc k, lt, at), is))))) = absurd (omega (arith, lt))
-concerned b (inr (inl (inr (inr (c, (zero, lt, at), is))))) = same_blob (command_bytes two.uses.0.command) b (3, omega arith, refl) (is ∙ ap command_bytes (sym at))
-concerned b (inr (inl (inr (inr (c, (suc k, lt, at), is))))) = absurd (omega (arith, lt))
+concerned b (inr (inl h)) = of_input b h
 concerned b (inr (inr (inl (pair, (zero, lt, at), inl h)))) = of_uses b (subst (λ (z : ActionMeaning × Outcome). IsBlobOfAction z.0 b) (sym at) h)
 concerned b (inr (inr (inl (pair, (zero, lt, at), inr h)))) = made_by_uses b (subst (λ (z : ActionMeaning × Outcome). IsBlobOfOutcome z.1 b) (sym at) h)
 concerned b (inr (inr (inl (pair, (suc k, lt, at), h)))) = absurd (omega (arith, lt))
 concerned b (inr (inr (inr h))) = of_run b h
 
-pub runs : RunsFrom two.reading_blobs two.results two.reading_plan (two.use_action_digest ∷ []) two.data_input two.reading_run
-runs = record { fits = fits; table = table; agrees = agrees; apart = λ x y c d e. none_clash x y (concerned x c) (concerned y d) e; happened = is_run }
+pub runs : RunsFrom two.reading_blobs two.results two.input_digest two.reading_plan (two.use_action_digest ∷ []) two.reading_run
+runs = record {
+  ordered = is_source.0;
+  from = is_source.1;
+  keeps = record { fits = fits; table = table; agrees = agrees; apart = λ x y c d e. none_clash x y (concerned x c) (concerned y d) e; happened = is_run };
+}

@@ -19,7 +19,7 @@ use Rattle.verifier.specs.declared.verdict.Cause.TheVariants.{ExitCode, OutputUn
 use Rattle.verifier.specs.declared.verdict.Place.TheVariants.{Step}
 use Rattle.verifier.specs.declared.verdict.Verdict.TheVariants.{No}
 use Rattle.verifier.specs.Build.{ActionMeaning, action_digest, Outcome, IsActionMeaning, IsTreeOutcome, opening, action_of, IsTable, IsRun}
-use Rattle.verifier.specs.Headline.{IsBlobOfOutcome, IsBlobOfEvents, RunsFrom}
+use Rattle.verifier.specs.Headline.{IsBlobOfOutcome, IsBlobOfStarts, RunsFrom}
 use Rattle.verifier.specs.Holding.{HoldsResult}
 use Rattle.verifier.specs.Recorded.{Agrees, IsRecordedAs, RecordsAt, entries_form}
 use Rattle.verifier.specs.StepChecks.{succeeded, read}
@@ -28,7 +28,7 @@ use Rattle.verifier.specs.Verdict.{IsVerdict}
 use Rattle.verifier.proofs.TwoSteps.{fits, gen_valid, use_valid, gen_frame_named, sources_named}
 use Rattle.verifier.proofs.TwoStepsRecorded.{bytes_fit, nothing_merges, gen_action_told, gen_command_told, use_result_bytes, use_result_valid}
 use Rattle.verifier.proofs.TwoStepsRun.{s1, obeys, gen_digest, use_recorded_as}
-use Rattle.verifier.proofs.TwoStepsBlobs.{all_blobs, made_by_uses, of_meaning}
+use Rattle.verifier.proofs.TwoStepsBlobs.{all_blobs, made_by_uses}
 use Rattle.verifier.proofs.TwoNoes.{no_clash, starts}
 
 -- ---- what was recorded
@@ -133,24 +133,24 @@ module _ (o : Outcome) (valid : IsTreeOutcome o) (made : (b : List ℕ) → IsBl
           subst (λ d. IsPicked d pair) digests (subst (IsPicked two.gen_action_digest) pairs (inside, gen_digest, noted))
       by (suc i) digest pair d p = absurd cc
 
-  of_events : (b : List ℕ) → IsBlobOfEvents two.plan two.meaning empty opening (two.ended_run o).events b → Contains all_blobs b
+  of_starts : (b : List ℕ) → IsBlobOfStarts two.plan two.meaning empty opening (two.ended_run o).events b → Contains all_blobs b
   unfolding merge
-  of_events b (inl (a, at, h)) = starts b (action_of two.plan two.meaning empty opening 0) a refl at h
-  of_events b (inr (mid, at, inl h)) = made b h
-  of_events b (inr (mid, at, inr (next, after, none))) = absurd none
+  of_starts b (inl (a, at, h)) = starts b (action_of two.plan two.meaning empty opening 0) a refl at h
+  of_starts b (inr (mid, at, inl none)) = absurd none
+  of_starts b (inr (mid, at, inr (next, after, none))) = absurd none
 
   happened : IsRun ((two.gen.0, o) ∷ []) two.plan two.meaning empty opening (two.ended_run o).events (two.ended_run o).now
   unfolding merge
   happened = (tt, s1, refl, (obeys ((two.gen.0, o) ∷ []) (two.gen.0, o) s1 0 0 inside refl, (two.ended_run o).now, refl, refl))
 
-  ended_runs : RunsFrom two.blobs (two.recording result).results two.plan (take 1 two.recorded) empty (two.ended_run o)
-  ended_runs = record { fits = fits; table = table; agrees = agrees; apart = no_clash o made two.plan two.meaning (two.ended_run o).events of_meaning of_events; happened = happened }
+  ended_runs : RunsFrom two.blobs (two.recording result).results two.sources two.plan (take 1 two.recorded) (two.ended_run o)
+  ended_runs = record { ordered = tt; from = sources_named; keeps = record { fits = fits; table = table; agrees = agrees; apart = no_clash o made two.plan two.meaning (two.ended_run o).events of_starts; happened = happened } }
 
 nothing_made : (b : List ℕ) → IsBlobOfOutcome two.failed b → Contains all_blobs b
 nothing_made b (e, (k, lt, at), h) = absurd (omega (arith, lt))
 
-pub failed_runs : RunsFrom two.blobs (two.recording two.failed_result).results two.plan (take 1 two.recorded) empty (two.ended_run two.failed)
+pub failed_runs : RunsFrom two.blobs (two.recording two.failed_result).results two.sources two.plan (take 1 two.recorded) (two.ended_run two.failed)
 failed_runs = ended_runs two.failed (record { apart = tt; outputs = tt }) nothing_made two.failed_result failed_as
 
-pub unlisted_runs : RunsFrom two.blobs (two.recording two.use_result).results two.plan (take 1 two.recorded) empty (two.ended_run two.uses.1)
+pub unlisted_runs : RunsFrom two.blobs (two.recording two.use_result).results two.sources two.plan (take 1 two.recorded) (two.ended_run two.uses.1)
 unlisted_runs = ended_runs two.uses.1 use_valid.1 made_by_uses two.use_result (use_recorded_as two.blobs (two.recording two.use_result).results two.gen_action_digest unlisted_held)

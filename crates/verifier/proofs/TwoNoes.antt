@@ -23,7 +23,7 @@ use Rattle.verifier.specs.declared.verdict.Cause.TheVariants.{FrameDiffers, Orig
 use Rattle.verifier.specs.declared.verdict.Place.TheVariants.{Root, Step}
 use Rattle.verifier.specs.declared.verdict.Verdict.TheVariants.{No}
 use Rattle.verifier.specs.Build.{Meaning, ActionMeaning, action_digest, Outcome, StepFits, MeaningFits, Event, opening, action_of, IsRun}
-use Rattle.verifier.specs.Headline.{IsBlobOfMeaning, IsBlobOfAction, IsBlobOfOutcome, IsBlobOfEvents, IsConcerned, RunsFrom}
+use Rattle.verifier.specs.Headline.{IsBlobOfAction, IsBlobOfOutcome, IsBlobOfStarts, IsConcerned, RunsFrom}
 use Rattle.verifier.specs.Recorded.{Agrees, IsRecordedAs}
 use Rattle.verifier.specs.StepChecks.{framed, together, input_check, result_check}
 use Rattle.verifier.specs.Together.{no_origin, in_conflict}
@@ -32,10 +32,10 @@ use Rattle.verifier.specs.Verdict.{IsVerdict}
 use Rattle.verifier.proofs.FreshRuns.{one_answer}
 use Rattle.verifier.proofs.Passing.{recorded_steps}
 use Rattle.verifier.proofs.StepLaws.{from_recorded}
-use Rattle.verifier.proofs.TwoSteps.{plan_valid, fits, table_valid, data_name, out_path, use_frame_named}
+use Rattle.verifier.proofs.TwoSteps.{plan_valid, sources_named, fits, table_valid, data_name, out_path, use_frame_named}
 use Rattle.verifier.proofs.TwoStepsRecorded.{gen_outcome, use_outcome, made_file, stands_made, gen_passes, use_passes, use_action_told, use_command_told}
 use Rattle.verifier.proofs.TwoStepsRun.{s1, s4, obeys, gen_inside, is_run_from, agrees}
-use Rattle.verifier.proofs.TwoStepsBlobs.{all_blobs, none_clash, kept_one, in_tree, of_nothing, of_gen, made_by_gen, of_meaning, no_clash_from}
+use Rattle.verifier.proofs.TwoStepsBlobs.{all_blobs, none_clash, kept_one, in_tree, of_nothing, of_gen, made_by_gen, no_clash_from}
 
 -- where the check of `use` fails behind its Command, the verdict is no there
 fails_at_use : (A : Type 0) (version : Version) (root_lines : List LineValue) (frame : DigestValue) (lines : List LineValue) (c : Cause A)
@@ -118,36 +118,39 @@ first_agrees = record { each = refl; pairs = by }
     by (suc i) digest pair d p = absurd cc
 
 -- what is concerned in a run in which only the action of `gen` is chosen, with an outcome
-concerned : (o : Outcome) → ((b : List ℕ) → IsBlobOfOutcome o b → Contains all_blobs b) → (plan : PlanValue) (meaning : Meaning) (es : List Event) → ((b : List ℕ) → IsBlobOfMeaning meaning b → Contains all_blobs b) → ((b : List ℕ) → IsBlobOfEvents plan meaning empty opening es b → Contains all_blobs b)
+concerned : (o : Outcome) → ((b : List ℕ) → IsBlobOfOutcome o b → Contains all_blobs b) → (plan : PlanValue) (meaning : Meaning) (es : List Event) → ((b : List ℕ) → IsBlobOfStarts plan meaning empty opening es b → Contains all_blobs b)
     → (b : List ℕ) → IsConcerned two.blobs plan meaning empty ((two.gen.0, o) ∷ []) es b → Contains all_blobs b
-concerned o made plan meaning es means happens b (inl (inl v)) = kept_one b v
-concerned o made plan meaning es means happens b (inl (inr h)) = in_tree b h
-concerned o made plan meaning es means happens b (inr (inl (inl h))) = of_nothing b h
-concerned o made plan meaning es means happens b (inr (inl (inr h))) = means b h
-concerned o made plan meaning es means happens b (inr (inr (inl (pair, (zero, lt, at), inl h)))) = of_gen b (subst (λ (z : ActionMeaning × Outcome). IsBlobOfAction z.0 b) (sym at) h)
-concerned o made plan meaning es means happens b (inr (inr (inl (pair, (zero, lt, at), inr h)))) = made b (subst (λ (z : ActionMeaning × Outcome). IsBlobOfOutcome z.1 b) (sym at) h)
-concerned o made plan meaning es means happens b (inr (inr (inl (pair, (suc k, lt, at), h)))) = absurd (omega (arith, lt))
-concerned o made plan meaning es means happens b (inr (inr (inr h))) = happens b h
+concerned o made plan meaning es begins b (inl (inl v)) = kept_one b v
+concerned o made plan meaning es begins b (inl (inr h)) = in_tree b h
+concerned o made plan meaning es begins b (inr (inl h)) = of_nothing b h
+concerned o made plan meaning es begins b (inr (inr (inl (pair, (zero, lt, at), inl h)))) = of_gen b (subst (λ (z : ActionMeaning × Outcome). IsBlobOfAction z.0 b) (sym at) h)
+concerned o made plan meaning es begins b (inr (inr (inl (pair, (zero, lt, at), inr h)))) = made b (subst (λ (z : ActionMeaning × Outcome). IsBlobOfOutcome z.1 b) (sym at) h)
+concerned o made plan meaning es begins b (inr (inr (inl (pair, (suc k, lt, at), h)))) = absurd (omega (arith, lt))
+concerned o made plan meaning es begins b (inr (inr (inr h))) = begins b h
 
-pub no_clash : (o : Outcome) → ((b : List ℕ) → IsBlobOfOutcome o b → Contains all_blobs b) → (plan : PlanValue) (meaning : Meaning) (es : List Event) → ((b : List ℕ) → IsBlobOfMeaning meaning b → Contains all_blobs b) → ((b : List ℕ) → IsBlobOfEvents plan meaning empty opening es b → Contains all_blobs b)
+pub no_clash : (o : Outcome) → ((b : List ℕ) → IsBlobOfOutcome o b → Contains all_blobs b) → (plan : PlanValue) (meaning : Meaning) (es : List Event) → ((b : List ℕ) → IsBlobOfStarts plan meaning empty opening es b → Contains all_blobs b)
     → NoClash (IsConcerned two.blobs plan meaning empty ((two.gen.0, o) ∷ []) es)
-no_clash o made plan meaning es means happens x y c d e = none_clash x y (concerned o made plan meaning es means happens x c) (concerned o made plan meaning es means happens y d) e
+no_clash o made plan meaning es begins x y c d e = none_clash x y (concerned o made plan meaning es begins x c) (concerned o made plan meaning es begins y d) e
 
 pub starts : (b : List ℕ) (o : Option ActionMeaning) (a : ActionMeaning) → o ≡ Some two.gen.0 → o ≡ Some a → IsBlobOfAction a b → Contains all_blobs b
 starts b o a own at h = of_gen b (subst (λ a. IsBlobOfAction a b) (one_answer o a two.gen.0 at own) h)
 
-clashing_events : (b : List ℕ) → IsBlobOfEvents two.clashing_plan two.meaning empty opening two.clashing_run.events b → Contains all_blobs b
+clashing_starts : (b : List ℕ) → IsBlobOfStarts two.clashing_plan two.meaning empty opening two.clashing_run.events b → Contains all_blobs b
 unfolding merge
-clashing_events b (inl (a, at, h)) = starts b (action_of two.clashing_plan two.meaning empty opening 0) a refl at h
-clashing_events b (inr (mid, at, inl h)) = made_by_gen b h
-clashing_events b (inr (mid, at, inr (next, after, none))) = absurd none
+clashing_starts b (inl (a, at, h)) = starts b (action_of two.clashing_plan two.meaning empty opening 0) a refl at h
+clashing_starts b (inr (mid, at, inl none)) = absurd none
+clashing_starts b (inr (mid, at, inr (next, after, none))) = absurd none
 
 happened : IsRun two.table two.clashing_plan two.meaning empty opening two.clashing_run.events s4
 unfolding merge
 happened = (tt, s1, refl, (obeys two.table two.gen s1 0 0 gen_inside refl, s4, refl, refl))
 
-pub clashing_runs : RunsFrom two.blobs two.results two.clashing_plan (take 1 two.recorded) empty two.clashing_run
-clashing_runs = record { fits = clashing_fits; table = table_valid; agrees = first_agrees; apart = no_clash two.gen.1 made_by_gen two.clashing_plan two.meaning two.clashing_run.events of_meaning clashing_events; happened = happened }
+pub clashing_runs : RunsFrom two.blobs two.results two.sources two.clashing_plan (take 1 two.recorded) two.clashing_run
+clashing_runs = record {
+  ordered = tt;
+  from = sources_named;
+  keeps = record { fits = clashing_fits; table = table_valid; agrees = first_agrees; apart = no_clash two.gen.1 made_by_gen two.clashing_plan two.meaning two.clashing_run.events clashing_starts; happened = happened };
+}
 
 -- ---- a root whose origin isn't there
 
@@ -172,8 +175,12 @@ no_root A =
     let steps = recorded_steps A two.telling two.sources [] two.plan.steps two.recorded (gen_outcome ∷ use_outcome ∷ []) (gen_outcome, gen_passes two.sources, (use_outcome, use_passes two.sources, refl)) in
     inr (gen_outcome ∷ use_outcome ∷ [], steps, (refl, inl (no_origin (codes "out" ∷ []), inl (inl (nothing, (use_outcome, refl, inr ((not_over, tt), refl)), refl)), refl)))
 
-pub rootless_runs : RunsFrom two.blobs two.results two.rootless_plan two.recorded empty two.run
-rootless_runs = record { fits = record { steps = fits.steps }; table = table_valid; agrees = agrees; apart = no_clash_from empty of_nothing; happened = is_run_from empty }
+pub rootless_runs : RunsFrom two.blobs two.results two.sources two.rootless_plan two.recorded two.run
+rootless_runs = record {
+  ordered = tt;
+  from = sources_named;
+  keeps = record { fits = record { steps = fits.steps }; table = table_valid; agrees = agrees; apart = no_clash_from empty of_nothing; happened = is_run_from empty };
+}
 
 -- ---- a step with another frame
 
@@ -211,29 +218,25 @@ other_fits = record { steps = by }
         (f.0, f.1, f.2, f.3, subst (λ (s : StepValue). StepFits s.frame f.0 f.1) same f.4)
     by (suc (suc i)) step at = absurd cc
 
-other_meaning : (b : List ℕ) → IsBlobOfMeaning two.other_run.meaning b → Contains all_blobs b
-other_meaning b (inl (f, (zero, lt, at), is)) = of_meaning b (inl (f, (0, omega arith, at), is))
-other_meaning b (inl (f, (suc zero, lt, at), is)) = of_meaning b (inl (f, (0, omega arith, at), is))
-other_meaning b (inl (f, (suc (suc k), lt, at), is)) = absurd (omega (arith, lt))
-other_meaning b (inr (c, (zero, lt, at), is)) = of_meaning b (inr (c, (0, omega arith, at), is))
-other_meaning b (inr (c, (suc zero, lt, at), is)) = of_meaning b (inr (c, (0, omega arith, at), is))
-other_meaning b (inr (c, (suc (suc k), lt, at), is)) = absurd (omega (arith, lt))
-
-other_events : (b : List ℕ) → IsBlobOfEvents two.other_plan two.other_run.meaning empty opening two.other_run.events b → Contains all_blobs b
+other_starts : (b : List ℕ) → IsBlobOfStarts two.other_plan two.other_run.meaning empty opening two.other_run.events b → Contains all_blobs b
 unfolding merge
-other_events b (inl (a, at, h)) = starts b (action_of two.other_plan two.other_run.meaning empty opening 0) a refl at h
-other_events b (inr (mid, at, inl (a, is, h))) = starts b (action_of two.other_plan two.other_run.meaning empty mid 1) a refl is h
-other_events b (inr (mid, at, inr (next, after, none))) = absurd none
+other_starts b (inl (a, at, h)) = starts b (action_of two.other_plan two.other_run.meaning empty opening 0) a refl at h
+other_starts b (inr (mid, at, inl (a, is, h))) = starts b (action_of two.other_plan two.other_run.meaning empty mid 1) a refl is h
+other_starts b (inr (mid, at, inr (next, after, none))) = absurd none
 
 other_happened : IsRun two.table two.other_plan two.other_run.meaning empty opening two.other_run.events two.other_run.now
 unfolding merge
 other_happened = (tt, s1, refl, (tt, two.other_run.now, refl, refl))
 
-pub other_runs : RunsFrom two.blobs two.results two.other_plan (take 1 two.recorded) empty two.other_run
+pub other_runs : RunsFrom two.blobs two.results two.sources two.other_plan (take 1 two.recorded) two.other_run
 other_runs = record {
-  fits = other_fits;
-  table = table_valid;
-  agrees = first_agrees;
-  apart = no_clash two.gen.1 made_by_gen two.other_plan two.other_run.meaning two.other_run.events other_meaning other_events;
-  happened = other_happened;
+  ordered = tt;
+  from = sources_named;
+  keeps = record {
+    fits = other_fits;
+    table = table_valid;
+    agrees = first_agrees;
+    apart = no_clash two.gen.1 made_by_gen two.other_plan two.other_run.meaning two.other_run.events other_starts;
+    happened = other_happened;
+  };
 }

@@ -16,20 +16,24 @@ use Rattle.verifier.specs.Headline.{RunsFrom}
 use Rattle.verifier.specs.TwoSteps as two
 use Rattle.verifier.specs.Verdict.{IsVerdict}
 use Rattle.verifier.proofs.Passing.{recorded_steps, recorded_verdict}
-use Rattle.verifier.proofs.TwoSteps.{plan_valid, fits, table_valid}
+use Rattle.verifier.proofs.TwoSteps.{plan_valid, sources_named, fits, table_valid}
 use Rattle.verifier.proofs.TwoStepsRecorded.{as_recorded, sized}
 use Rattle.verifier.proofs.TwoStepsRun.{is_run_from, is_complete, agrees}
 use Rattle.verifier.proofs.TwoStepsBlobs.{all_blobs, of_nothing, of_built, no_clash_from}
 
-runs : (t : Tree Leaf) → ((b : List ℕ) → IsBlobOf t b → Contains all_blobs b) → RunsStage t two.stage two.run
-runs t own = record { fits = fits; table = table_valid; agrees = agrees; apart = no_clash_from t own; happened = is_run_from t }
+runs : (t : Tree Leaf) → ((b : List ℕ) → IsBlobOf t b → Contains all_blobs b) → RunsStage t two.stage (record two.run { tree = t })
+runs t own = (refl, record { fits = fits; table = table_valid; agrees = agrees; apart = no_clash_from t own; happened = is_run_from t })
 
-pub runs_once : RunsFrom two.blobs two.results two.plan two.recorded empty two.run
-runs_once = runs empty of_nothing
+pub runs_once : RunsFrom two.blobs two.results two.sources two.plan two.recorded two.run
+runs_once = record { ordered = tt; from = sources_named; keeps = (runs empty of_nothing).1 }
 
 -- the plan whose lines meet has the same steps
-pub meeting_runs : RunsFrom two.blobs two.results two.meeting_plan two.recorded empty two.run
-meeting_runs = record { fits = record { steps = fits.steps }; table = table_valid; agrees = agrees; apart = no_clash_from empty of_nothing; happened = is_run_from empty }
+pub meeting_runs : RunsFrom two.blobs two.results two.sources two.meeting_plan two.recorded two.run
+meeting_runs = record {
+  ordered = tt;
+  from = sources_named;
+  keeps = record { fits = record { steps = fits.steps }; table = table_valid; agrees = agrees; apart = no_clash_from empty of_nothing; happened = is_run_from empty };
+}
 
 -- ---- twice
 
@@ -43,10 +47,10 @@ makes : (t : Tree Leaf) → merge_of t two.end two.plan.root_lines ≡ Some two.
 unfolding merge
 makes t = refl
 
-ends : (t : Tree Leaf) → ((b : List ℕ) → IsBlobOf t b → Contains all_blobs b) → EndsIn t two.stage two.run two.built
+ends : (t : Tree Leaf) → ((b : List ℕ) → IsBlobOf t b → Contains all_blobs b) → EndsIn t two.stage (record two.run { tree = t }) two.built
 ends t own = record { runs = runs t own; finished = is_complete; made = makes t }
 
-pub in_turn : RunInTurn empty (two.stage ∷ two.stage ∷ []) (two.run ∷ two.run ∷ []) two.built
+pub in_turn : RunInTurn empty (two.stage ∷ two.stage ∷ []) (two.run ∷ record two.run { tree = two.built } ∷ []) two.built
 in_turn = (two.built, ends empty of_nothing, (two.built, ends two.built of_built, refl))
 
 -- ---- a no

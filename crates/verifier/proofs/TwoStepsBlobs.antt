@@ -25,7 +25,7 @@ use Rattle.tree.specs.Form.{form, top, IsBlobOf}
 use Rattle.tree.specs.Lookup.{IsValue}
 use Rattle.tree.specs.Merge.{merge}
 use Rattle.verifier.specs.Build.{ActionMeaning, Outcome, Event, start, finish, lose, State, opening, action_of, happens}
-use Rattle.verifier.specs.Headline.{IsDirectoryInTree, IsBlobOfMeaning, IsBlobOfAction, IsBlobOfEntry, IsBlobOfOutcome, IsBlobOfEvent, IsBlobOfEvents, IsBlobOfChosen, IsConcerned}
+use Rattle.verifier.specs.Headline.{IsDirectoryInTree, IsBlobOfAction, IsBlobOfEntry, IsBlobOfOutcome, IsBlobOfStart, IsBlobOfStarts, IsBlobOfChosen, IsConcerned}
 use Rattle.verifier.specs.TwoSteps as two
 use Rattle.verifier.proofs.TwoSteps.{sources_named, input_named, gen_tree_valid}
 use Rattle.tree.proofs.WireRecords.{AreFixed, spelling_injective}
@@ -309,14 +309,6 @@ of_chosen b (pair, (suc zero, lt, at), h) = by (subst (λ (z : ActionMeaning × 
     by (inr h) = made_by_uses b h
 of_chosen b (pair, (suc (suc k), lt, at), h) = absurd (omega (arith, lt))
 
-pub of_meaning : (b : List ℕ) → IsBlobOfMeaning two.meaning b → Contains all_blobs b
-of_meaning b (inl (f, (zero, lt, at), is)) = same_blob (frame_bytes two.gen.0.frame) b (5, omega arith, refl) (is ∙ ap frame_bytes (sym at))
-of_meaning b (inl (f, (suc zero, lt, at), is)) = same_blob (frame_bytes two.uses.0.frame) b (6, omega arith, refl) (is ∙ ap frame_bytes (sym at))
-of_meaning b (inl (f, (suc (suc k), lt, at), is)) = absurd (omega (arith, lt))
-of_meaning b (inr (c, (zero, lt, at), is)) = same_blob (command_bytes two.gen.0.command) b (2, omega arith, refl) (is ∙ ap command_bytes (sym at))
-of_meaning b (inr (c, (suc zero, lt, at), is)) = same_blob (command_bytes two.uses.0.command) b (3, omega arith, refl) (is ∙ ap command_bytes (sym at))
-of_meaning b (inr (c, (suc (suc k), lt, at), is)) = absurd (omega (arith, lt))
-
 -- ---- the blobs of the run
 
 abbrev e7 : List Event
@@ -341,57 +333,53 @@ abbrev e1 : List Event
 e1 = start 0 1 ∷ e2
 
 module _ (t : Tree Leaf) where
-  abbrev OfEvent : State → Event → List ℕ → Type 0
-  OfEvent s e b = IsBlobOfEvent two.plan two.meaning t s e b
+  abbrev OfStart : State → Event → List ℕ → Type 0
+  OfStart s e b = IsBlobOfStart two.plan two.meaning t s e b
 
-  abbrev OfEvents : State → List Event → List ℕ → Type 0
-  OfEvents s es b = IsBlobOfEvents two.plan two.meaning t s es b
+  abbrev OfStarts : State → List Event → List ℕ → Type 0
+  OfStarts s es b = IsBlobOfStarts two.plan two.meaning t s es b
 
   -- those of an event, and those of what happens in the state that it leads to
-  and_then : (b : List ℕ) (s next : State) (e : Event) (es : List Event) → happens two.plan two.meaning t s e ≡ Some next → (OfEvent s e b → Contains all_blobs b) → (OfEvents next es b → Contains all_blobs b)
-      → OfEvents s (e ∷ es) b → Contains all_blobs b
+  and_then : (b : List ℕ) (s next : State) (e : Event) (es : List Event) → happens two.plan two.meaning t s e ≡ Some next → (OfStart s e b → Contains all_blobs b) → (OfStarts next es b → Contains all_blobs b)
+      → OfStarts s (e ∷ es) b → Contains all_blobs b
   and_then b s next e es is first rest (inl h) = first h
   and_then b s next e es is first rest (inr (mid, at, h)) =
       let both : ◌≡◌ {A = Option State} (Some mid) (Some next) = sym at ∙ is in
       let same : mid ≡ next = cc in
-      rest (subst (λ s. OfEvents s es b) same h)
+      rest (subst (λ s. OfStarts s es b) same h)
 
-  starts_gen : (b : List ℕ) (s : State) (w : ℕ) → action_of two.plan two.meaning t s 0 ≡ Some two.gen.0 → OfEvent s (start 0 w) b → Contains all_blobs b
+  starts_gen : (b : List ℕ) (s : State) (w : ℕ) → action_of two.plan two.meaning t s 0 ≡ Some two.gen.0 → OfStart s (start 0 w) b → Contains all_blobs b
   starts_gen b s w is (a, at, h) =
       let both : ◌≡◌ {A = Option ActionMeaning} (Some a) (Some two.gen.0) = sym at ∙ is in
       let same : a ≡ two.gen.0 = cc in
       of_gen b (subst (λ (a : ActionMeaning). IsBlobOfAction a b) same h)
 
-  starts_use : (b : List ℕ) (s : State) (w : ℕ) → action_of two.plan two.meaning t s 1 ≡ Some two.uses.0 → OfEvent s (start 1 w) b → Contains all_blobs b
+  starts_use : (b : List ℕ) (s : State) (w : ℕ) → action_of two.plan two.meaning t s 1 ≡ Some two.uses.0 → OfStart s (start 1 w) b → Contains all_blobs b
   starts_use b s w is (a, at, h) =
       let both : ◌≡◌ {A = Option ActionMeaning} (Some a) (Some two.uses.0) = sym at ∙ is in
       let same : a ≡ two.uses.0 = cc in
       of_uses b (subst (λ (a : ActionMeaning). IsBlobOfAction a b) same h)
 
-  of_run : (b : List ℕ) → OfEvents opening two.events b → Contains all_blobs b
+  of_run : (b : List ℕ) → OfStarts opening two.events b → Contains all_blobs b
   unfolding merge
   of_run b =
       and_then b opening s1 (start 0 0) e1 refl (starts_gen b opening 0 refl)
       (and_then b s1 s2 (start 0 1) e2 refl (starts_gen b s1 1 refl)
       (and_then b s2 s3 (lose 0) e3 refl (λ none. absurd none)
-      (and_then b s3 s4 (finish 1 two.gen.1) e4 refl (made_by_gen b)
+      (and_then b s3 s4 (finish 1 two.gen.1) e4 refl (λ none. absurd none)
       (and_then b s4 s5 (start 1 0) e5 refl (starts_use b s4 0 refl)
       (and_then b s5 s6 (start 0 1) e6 refl (starts_gen b s5 1 refl)
-      (and_then b s6 s7 (finish 1 two.gen.1) e7 refl (made_by_gen b)
-      (and_then b s7 two.end (finish 0 two.uses.1) [] refl (made_by_uses b) (λ none. absurd none))))))))
+      (and_then b s6 s7 (finish 1 two.gen.1) e7 refl (λ none. absurd none)
+      (and_then b s7 two.end (finish 0 two.uses.1) [] refl (λ none. absurd none) (λ none. absurd none))))))))
 
   -- ---- no clash
 
   pub concerned_one : ((b : List ℕ) → IsBlobOf t b → Contains all_blobs b) → (b : List ℕ) → IsConcerned two.blobs two.plan two.meaning t two.table two.events b → Contains all_blobs b
   concerned_one own b (inl (inl v)) = kept_one b v
   concerned_one own b (inl (inr h)) = in_tree b h
-  concerned_one own b (inr (inl (inl h))) = own b h
-  concerned_one own b (inr (inl (inr h))) = of_meaning b h
+  concerned_one own b (inr (inl h)) = own b h
   concerned_one own b (inr (inr (inl h))) = of_chosen b h
   concerned_one own b (inr (inr (inr h))) = of_run b h
 
   pub no_clash_from : ((b : List ℕ) → IsBlobOf t b → Contains all_blobs b) → NoClash (IsConcerned two.blobs two.plan two.meaning t two.table two.events)
   no_clash_from own x y c d e = none_clash x y (concerned_one own x c) (concerned_one own y d) e
-
-pub no_clash : NoClash (IsConcerned two.blobs two.plan two.meaning empty two.table two.events)
-no_clash = no_clash_from empty of_nothing

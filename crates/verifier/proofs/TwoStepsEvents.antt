@@ -6,12 +6,12 @@ use Rattle.std.specs.Map.{remove_entry}
 use Rattle.blob_digest.specs.Digest.{NoClash}
 use Rattle.tree.specs.Merge.{merge}
 use Rattle.verifier.specs.Build.{ActionMeaning, Outcome, Event, start, finish, lose, State, opening, outcome_of, job_of, output_at, action_of, happens, Obeys, IsRun, started, finished, lost}
-use Rattle.verifier.specs.Headline.{IsConcerned, IsBlobAhead, IsBlobOfAction, IsBlobOfOutcome, IsBlobOfEvent, IsBlobOfEvents}
+use Rattle.verifier.specs.Headline.{IsConcerned, IsBlobAhead, IsBlobOfAction, IsBlobOfStart, IsBlobOfStarts}
 use Rattle.verifier.specs.TwoSteps as two
 use Rattle.verifier.proofs.FreshRuns.{found_one, kept_rest, one_answer}
 use Rattle.verifier.proofs.TwoSteps.{table_valid}
 use Rattle.verifier.proofs.TwoStepsRun.{is_run}
-use Rattle.verifier.proofs.TwoStepsBlobs.{all_blobs, none_clash, of_nothing, of_gen, of_uses, made_by_gen, made_by_uses, concerned_one}
+use Rattle.verifier.proofs.TwoStepsBlobs.{all_blobs, none_clash, of_nothing, of_gen, of_uses, concerned_one}
 
 -- ---- what holds in each state
 
@@ -98,46 +98,30 @@ own_end s (e ∷ es) end own (obeys, mid, at, rest) = own_end mid es end (own_mi
 pub own_opening : IsOwn opening
 own_opening = record { jobs = tt; done = tt }
 
--- ---- the blobs of a run
+-- ---- the blobs of the actions that a run starts
 
-of_job : (job : ℕ × ActionMeaning) (w : ℕ) (o : Outcome) → IsOwnJob (w, job) → Contains two.table (job.1, o) → (o ≡ two.gen.1) ⊎ (o ≡ two.uses.1)
-of_job job w o own inside = by inside
-  where
-    by : Contains two.table (job.1, o) → (o ≡ two.gen.1) ⊎ (o ≡ two.uses.1)
-    by (zero, lt, e) = inl (sym (ap (λ (z : ActionMeaning × Outcome). z.1) e))
-    by (suc zero, lt, e) = inr (sym (ap (λ (z : ActionMeaning × Outcome). z.1) e))
-    by (suc (suc k), lt, e) = absurd (omega (arith, lt))
-
-of_event : (b : List ℕ) (s mid : State) (e : Event) → IsOwn s → Obeys two.table s e → happens two.plan two.meaning two.tree s e ≡ Some mid → IsBlobOfEvent two.plan two.meaning two.tree s e b → Contains all_blobs b
-of_event b s mid (start i w) own obeys is (a, at, h) = by (own_action s own i a at w)
+of_start : (b : List ℕ) (s : State) (e : Event) → IsOwn s → IsBlobOfStart two.plan two.meaning two.tree s e b → Contains all_blobs b
+of_start b s (start i w) own (a, at, h) = by (own_action s own i a at w)
   where
     by : IsOwnJob (w, (i, a)) → Contains all_blobs b
     by (inl is) = of_gen b (subst (λ (j : ℕ × ActionMeaning). IsBlobOfAction j.1 b) is h)
     by (inr is) = of_uses b (subst (λ (j : ℕ × ActionMeaning). IsBlobOfAction j.1 b) is h)
-of_event b s mid (finish w o) own obeys is h = by (job_of w s) refl is
-  where
-    by : (q : Option (ℕ × ActionMeaning)) → job_of w s ≡ q → finished s w o q ≡ Some mid → Contains all_blobs b
-    by None none is = absurd cc
-    by (Some job) at is = made (of_job job w o (found_one IsOwnJob w s.jobs job own.jobs at) (obeys job at))
-      where
-        made : (o ≡ two.gen.1) ⊎ (o ≡ two.uses.1) → Contains all_blobs b
-        made (inl same) = made_by_gen b (subst (λ (o : Outcome). IsBlobOfOutcome o b) same h)
-        made (inr same) = made_by_uses b (subst (λ (o : Outcome). IsBlobOfOutcome o b) same h)
-of_event b s mid (lose w) own obeys is h = absurd h
+of_start b s (finish w o) own h = absurd h
+of_start b s (lose w) own h = absurd h
 
-pub of_events : (b : List ℕ) (s : State) (es : List Event) (end : State) → IsOwn s → IsRun two.table two.plan two.meaning two.tree s es end → IsBlobOfEvents two.plan two.meaning two.tree s es b → Contains all_blobs b
-of_events b s [] end own is h = absurd h
-of_events b s (e ∷ es) end own (obeys, mid, at, rest) (inl h) = of_event b s mid e own obeys at h
-of_events b s (e ∷ es) end own (obeys, mid, at, rest) (inr (next, is, h)) =
+pub of_starts : (b : List ℕ) (s : State) (es : List Event) (end : State) → IsOwn s → IsRun two.table two.plan two.meaning two.tree s es end → IsBlobOfStarts two.plan two.meaning two.tree s es b → Contains all_blobs b
+of_starts b s [] end own is h = absurd h
+of_starts b s (e ∷ es) end own (obeys, mid, at, rest) (inl h) = of_start b s e own h
+of_starts b s (e ∷ es) end own (obeys, mid, at, rest) (inr (next, is, h)) =
     let both : ◌≡◌ {A = Option State} (Some next) (Some mid) = sym is ∙ at in
     let same : next ≡ mid = cc in
-    of_events b mid es end (own_mid s mid e own obeys at) rest (subst (λ (s : State). IsBlobOfEvents two.plan two.meaning two.tree s es b) same h)
+    of_starts b mid es end (own_mid s mid e own obeys at) rest (subst (λ (s : State). IsBlobOfStarts two.plan two.meaning two.tree s es b) same h)
 
 -- ---- the run that is given, and whatever may follow it
 
 of_all : (b : List ℕ) → IsConcerned two.blobs two.plan two.meaning two.tree two.table two.events b ⊎ IsBlobAhead two.table two.plan two.meaning two.tree two.end b → Contains all_blobs b
 of_all b (inl h) = concerned_one two.tree of_nothing b h
-of_all b (inr (es, end, run, h)) = of_events b two.end es end (own_end opening two.events two.end own_opening is_run) run h
+of_all b (inr (es, end, run, h)) = of_starts b two.end es end (own_end opening two.events two.end own_opening is_run) run h
 
 pub no_clash_ahead : NoClash (λ b. IsConcerned two.blobs two.plan two.meaning two.tree two.table two.events b ⊎ IsBlobAhead two.table two.plan two.meaning two.tree two.end b)
 no_clash_ahead x y c d e = none_clash x y (of_all x c) (of_all y d) e
@@ -149,7 +133,7 @@ of_fresh b (inl (inl h)) = concerned_one two.tree of_nothing b (inl h)
 of_fresh b (inl (inr (inl h))) = concerned_one two.tree of_nothing b (inr (inl h))
 of_fresh b (inl (inr (inr (inl h)))) = concerned_one two.tree of_nothing b (inr (inr (inl h)))
 of_fresh b (inl (inr (inr (inr h)))) = absurd h
-of_fresh b (inr (es, end, run, h)) = of_events b opening es end own_opening run h
+of_fresh b (inr (es, end, run, h)) = of_starts b opening es end own_opening run h
 
 pub no_clash_fresh : NoClash (λ b. IsConcerned two.blobs two.plan two.meaning two.tree two.table [] b ⊎ IsBlobAhead two.table two.plan two.meaning two.tree opening b)
 no_clash_fresh x y c d e = none_clash x y (of_fresh x c) (of_fresh y d) e

@@ -136,7 +136,7 @@ module _ (A : Type 0) (tells : Telling) (sources : DigestValue) (plan : PlanValu
         step = k.step;
         step_at = k.step_at;
         named = k.named;
-        of_run = λ t r ordered is runs. runs_without (as_given valid (steps_before name k k.index (omega arith)) t r ordered is runs) k.index k.step k.step_at lacks;
+        of_run = λ r runs. runs_without (as_given valid (steps_before name k k.index (omega arith)) r runs) k.index k.step k.step_at lacks;
       }
 
   pub no_run_has_action : IsOfAction c → (name : List ℕ) → IsVerdict tells sources plan recorded claim (No (Step name) c) → NoRunHasAction tells.blobs tells.results sources plan recorded name
@@ -145,7 +145,7 @@ module _ (A : Type 0) (tells : Telling) (sources : DigestValue) (plan : PlanValu
       let other = action_of_step A tells sources k.outcomes k.step k.digest c of_action k.fails in
       record {
         of_step = record { index = k.index; step = k.step; digest = k.digest; step_at = k.step_at; digest_at = k.digest_at; named = k.named };
-        of_run = λ t r ordered is runs. never_run (as_given valid (steps_before name k k.index (omega arith)) t r ordered is runs) k.index k.step k.step_at k.digest other;
+        of_run = λ r runs. never_run (as_given valid (steps_before name k k.index (omega arith)) r runs) k.index k.step k.step_at k.digest other;
       }
 
   pub no_run_has_root : IsOfLines c → IsVerdict tells sources plan recorded claim (No Root c) → NoRunHasRoot tells.blobs tells.results sources plan recorded
@@ -154,7 +154,7 @@ module _ (A : Type 0) (tells : Telling) (sources : DigestValue) (plan : PlanValu
       let lacks = lines_fault A tells.blobs sources k.0 plan.root_lines c of_lines (lines_of_root A tells sources k.0 plan.root_lines claim c of_lines k.2) in
       let first : FirstAsRecorded tells.blobs tells.results sources plan recorded = record { first = plan.steps; outcomes = k.0; planned = λ i s at. at; steps = k.1 } in
       record {
-        of_run = λ t r ordered is runs.
-            let given = as_given valid first t r ordered is runs in
+        of_run = λ r runs.
+            let given = as_given valid first r runs in
             put_nothing given r.now (runs_keep given) plan.root_lines (paths_of (length plan.steps) plan.root_lines valid.root_lines.each) lacks;
       }

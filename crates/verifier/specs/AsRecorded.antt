@@ -30,13 +30,13 @@ pub record IsAsRecorded (B C : Blobs) (sources : DigestValue) (before : List Out
   pub action_told : IsTold IsAction action_bytes B d action
   pub may_be_cached : action.frame.do_not_cache ≡ false
   pub frame : digest_of (frame_bytes action.frame) ≡ step.frame
-  -- its Command is told
+  -- the action's Command is told
   pub command_told : IsTold IsCommand command_bytes B action.frame.command command
-  -- its input is what the step's lines put together
+  -- the action's input is what the step's lines put together
   pub resolved : Resolves B sources (slice_get before) step.lines nodes
   pub put_together : (merged B nodes).passes tree
   pub input : root tree ≡ action.input
-  -- its result is held, with exit code 0, and stands for the outcome
+  -- the action's result is held, with exit code 0, and stands for the outcome
   pub held : HoldsResult C d result
   pub exit_code : result.exit_code ≡ pos 0
   pub recorded : IsRecorded B result o

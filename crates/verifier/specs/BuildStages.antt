@@ -8,7 +8,7 @@ use Rattle.plan.specs.Values.{PlanValue}
 use Rattle.tree.specs.Tree.{Tree, Leaf}
 use Rattle.verifier.specs.declared.verdict.Verdict.{Verdict}
 use Rattle.verifier.specs.Build.{HasFinishedAll, merge_of}
-use Rattle.verifier.specs.Headline.{PlanRun, RunsFrom}
+use Rattle.verifier.specs.Headline.{PlanRun, IsRunOf}
 use Rattle.verifier.specs.Verdict.{IsVerdict, IsYes}
 
 -- a plan, the recorded digests of its actions, the root that is claimed of it, and what a source
@@ -36,16 +36,17 @@ abbrev pub last_claim : DigestValue → List BuildStage → DigestValue
 last_claim sources [] = sources
 last_claim sources (stage ∷ stages) = last_claim stage.claim stages
 
--- a run of the stage from this tree of sources, which keeps the premises of a yes
+-- a run of the stage from this tree, which keeps the premises of a yes about all else
 abbrev pub RunsStage : Tree Leaf → BuildStage → PlanRun → Type 0
-RunsStage t stage = RunsFrom stage.tells.blobs stage.tells.results stage.plan stage.recorded t
+RunsStage t stage run = (run.tree ≡ t)
+    × IsRunOf stage.tells.blobs stage.tells.results stage.plan stage.recorded run
 
--- It is complete, and what it made is this tree.
+-- a complete run of the stage from one tree, and what it made is the other
 pub record EndsIn (t : Tree Leaf) (stage : BuildStage) (run : PlanRun) (end : Tree Leaf)
     : Type 0 where
   pub runs : RunsStage t stage run
   pub finished : HasFinishedAll stage.plan run.now
-  pub made : merge_of t run.now stage.plan.root_lines ≡ Some end
+  pub made : merge_of run.tree run.now stage.plan.root_lines ≡ Some end
 
 -- The runs are of the stages in their order, complete, each from the tree in which the one before
 -- ended; the last ends in the last tree.

@@ -9,7 +9,8 @@ use Rattle.verifier.specs.declared.verdict.Cause.{Cause}
 use Rattle.tree.specs.Stage.{Stage}
 use Rattle.verifier.specs.Stage.{Answers}
 
--- It answers by all that is told in the end, and asks for what isn't known of what it looks at.
+-- A check answers by all that is told in the end, and asks for what isn't known of what it looks
+-- at.
 pub record Checks {A V : Type 0} (check : Telling → Stage (Cause A) V)
     (looks : Telling → Asked → Type 0) (known later : Known) (old new : Telling)
     (r : Result V (Fault A)) : Type 0 where

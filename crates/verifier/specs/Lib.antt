@@ -12,6 +12,7 @@ pub mod Checks
 pub mod Verdict
 pub mod BuildStages
 pub mod AsRecorded
+pub mod TwoBuilds
 pub mod Unbuilt
 pub mod TwoSteps
 pub mod Answers

@@ -10,10 +10,12 @@ use Rattle.action_messages.specs.OutputFile.{OutputFileValue}
 use Rattle.action_messages.specs.OutputDirectory.{OutputDirectoryValue}
 use Rattle.action_messages.specs.OutputSymlink.{OutputSymlinkValue}
 use Rattle.action_messages.specs.ActionResult.{ActionResultValue}
+use Rattle.actions.specs.Outcome.{OutcomeValue, outputs_form}
+use Rattle.actions.specs.Recorded.{IsRecorded}
 use Rattle.verifier.specs.Holding.{HoldsResult}
 use Rattle.tree.specs.Tree.{Name, Leaf, Entry}
 use Rattle.tree.specs.Form.{NodeValue, entry_node}
-use Rattle.blob_source.specs.Source.{Blobs}
+use Rattle.blob_source.specs.Source.{Blobs, Telling}
 use Rattle.blob_source.specs.Told.{IsTold}
 use Rattle.verifier.specs.Build.{ActionMeaning, Outcome, action_digest}
 
@@ -42,6 +44,17 @@ pub record IsRecordedAs (blobs results : Blobs) (action : DigestValue) (o : Outc
       × IsTold IsTree tree_bytes blobs d.tree t) result.directories
   pub outputs : (p : List Name) (x : NodeValue) → Contains (entries_form o.outputs) (p, x)
       ↔ RecordsAt blobs result p x
+
+-- two outcomes have the same exit code, and the same node at each output path
+pub record HaveOneForm (v w : OutcomeValue) : Type 0 where
+  pub exit_code : v.exit_code ≡ w.exit_code
+  pub outputs : outputs_form v.outputs ≡ outputs_form w.outputs
+
+-- the outcome is the one that a source has recorded under a digest
+pub record IsHeld (tells : Telling) (d : DigestValue) (v : OutcomeValue) : Type 0 where
+  pub result : ActionResultValue
+  pub held : HoldsResult tells.results d result
+  pub recorded : IsRecorded tells.blobs result v
 
 -- A table agrees with a record: for each step it has a chosen pair of an action with the recorded
 -- digest and an outcome that is what was recorded. Nothing is asked of other actions with that

@@ -31,7 +31,7 @@ abbrev pub IsThere : Earlier → OriginValue → Type 0
 IsThere earlier (source p) = Unit {0}
 IsThere earlier (output step p) = (o : OutcomeValue) × (earlier step ≡ Some o)
 
--- so did each that lines read
+-- each step that lines read came to an outcome
 abbrev pub AreThere : Earlier → List LineValue → Type 0
 AreThere earlier lines = AllByRecursion (λ (l : LineValue). IsThere earlier l.origin) lines
 
@@ -114,7 +114,7 @@ resolved blobs sources earlier lines = record {
   fails = FirstFault blobs sources earlier lines;
 }
 
--- and what stands at the origins merges into a tree
+-- each line has its origin, and what stands at the origins merges into a tree
 abbrev pub put_together : Blobs → DigestValue → Earlier → List LineValue
     → Stage LinesFault (Tree NodeValue)
 put_together blobs sources earlier lines =
@@ -147,7 +147,8 @@ LinesLookAt B sources earlier (l ∷ ls) a =
     ⊎ ((x : NodeValue) × LooksUpOrigin B sources earlier l.origin (found x)
     × LinesLookAt B sources earlier ls a)
 
--- and then the Directories that are read where they meet
+-- the Directories on the way to each line's origin, in turn, and then those that are read where the
+-- lines meet
 abbrev pub TogetherLooksAt : Blobs → DigestValue → Earlier → List LineValue → Asked → Type 0
 TogetherLooksAt B sources earlier lines =
     looks (resolved B sources earlier lines) (LinesLookAt B sources earlier lines) (MergeLooksAt B)

@@ -2,7 +2,7 @@
 -- the step `use` has that file at `data/x` and makes a file `res`, which is the plan's `result`.
 -- The source tree is empty.
 use Rattle.std.specs.Prelude.{ℕ, pos, false, List, [], ◌∷◌, codes, Some, None, Result, Ok, Err}
-use Rattle.std.specs.Prelude.{if◌then◌else◌}
+use Rattle.std.specs.Prelude.{true, if◌then◌else◌}
 use Rattle.std.specs.Ordering.{is_eq}
 use Rattle.hex.specs.declared.error.FromHexError.{FromHexError}
 use Rattle.hex.specs.Hex.{decode_of}
@@ -207,7 +207,14 @@ abbrev pub end : State
 end = record { done = (1, uses.1) ∷ (0, gen.1) ∷ (0, gen.1) ∷ []; jobs = [] }
 
 abbrev pub run : PlanRun
-run = record { meaning = meaning; table = table; chosen = table; events = events; now = end }
+run = record {
+  tree = tree;
+  meaning = meaning;
+  table = table;
+  chosen = table;
+  events = events;
+  now = end;
+}
 
 -- ---- stages: the build, and then the same from what it made
 
@@ -263,6 +270,7 @@ reading_blobs = keeping reading_kept
 -- one of two jobs is lost
 abbrev pub reading_run : PlanRun
 reading_run = record {
+  tree = data_input;
   meaning = record {
     frames = framing use_command_digest ∷ [];
     commands = making (codes "res") ∷ [];
@@ -297,6 +305,7 @@ clashing_plan = record plan {
 -- `gen` has finished
 abbrev pub clashing_run : PlanRun
 clashing_run = record {
+  tree = tree;
   meaning = meaning;
   table = table;
   chosen = gen ∷ [];
@@ -321,6 +330,7 @@ other_plan = record plan {
 
 abbrev pub other_run : PlanRun
 other_run = record {
+  tree = tree;
   meaning = record {
     frames = framing gen_command_digest ∷ framing gen_command_digest ∷ [];
     commands = making (codes "out") ∷ making (codes "out") ∷ [];
@@ -340,20 +350,39 @@ failed_result = record gen_result { directories = []; exit_code = pos 1 }
 abbrev pub failed : Outcome
 failed = record { exit_code = pos 1; outputs = [] }
 
--- this was recorded of it, and nothing of `use`
+-- what is told where this was recorded of `gen`, and nothing of `use`
 abbrev pub recording : ActionResultValue → Telling
 recording result =
     record telling { results = keeping ((gen_action_digest, action_result_bytes result) ∷ []) }
 
--- it has finished so
+-- the run in which `gen` has finished with the outcome
 abbrev pub ended_run : Outcome → PlanRun
 ended_run outcome = record {
+  tree = tree;
   meaning = meaning;
   table = (gen.0, outcome) ∷ [];
   chosen = (gen.0, outcome) ∷ [];
   events = start 0 0 ∷ finish 0 outcome ∷ [];
   now = record { done = (0, outcome) ∷ []; jobs = [] };
 }
+
+-- ---- the same build once more, where `use` made an executable file
+
+abbrev pub rerun_result : ActionResultValue
+rerun_result = record use_result {
+  files = record { path = codes "res" ∷ []; digest = newline_digest; executable = true } ∷ [];
+}
+
+abbrev pub rerun_results : List (DigestValue × List ℕ)
+rerun_results = (gen_action_digest, action_result_bytes gen_result) ∷
+    (use_action_digest, action_result_bytes rerun_result) ∷ []
+
+abbrev pub rerun : Telling
+rerun = record telling { results = keeping rerun_results }
+
+unfoldable pub rerun_claim : DigestValue
+rerun_claim = digest_named
+    (codes "e78203ab2a5df074a85a07c372fea54189e5950d49da8adc6eb850c03e56a615") 82
 
 -- ---- a source that has told nothing
 

@@ -4,8 +4,8 @@
 use Rattle.std.specs.Prelude.{◌≡◌, ◌≢◌, ℕ, suc, ℤ, pos, List, Some, None, slice_get, take, Contains}
 use Rattle.blob_digest.specs.Digest.{DigestValue}
 use Rattle.plan.specs.Values.{StepValue, PlanValue}
-use Rattle.tree.specs.Tree.{Name, Tree, Leaf, IsOrdered}
-use Rattle.tree.specs.Form.{NodeValue, form, root}
+use Rattle.tree.specs.Tree.{Name}
+use Rattle.tree.specs.Form.{NodeValue}
 use Rattle.blob_source.specs.Source.{Blobs}
 use Rattle.verifier.specs.declared.verdict.Cause.{Cause}
 use Rattle.verifier.specs.declared.verdict.Cause.TheVariants.{OriginMissing, InputConflict}
@@ -24,10 +24,9 @@ IsOfLines (InputConflict path) = Unit {0}
 IsOfLines c = ⊥
 
 -- In a run a step has never started and can't start, and so not every step has finished.
-pub record IsNeverStarted (plan : PlanValue) (t : Tree Leaf) (run : PlanRun) (i : ℕ)
-    : Type 0 where
+pub record IsNeverStarted (plan : PlanValue) (run : PlanRun) (i : ℕ) : Type 0 where
   pub before : (w : ℕ) → Contains run.events (start i w) → ⊥
-  pub now : (w : ℕ) → happens plan run.meaning t run.now (start i w) ≡ None
+  pub now : (w : ℕ) → happens plan run.meaning run.tree run.now (start i w) ≡ None
   pub incomplete : HasFinishedAll plan run.now → ⊥
 
 -- No run ever starts the step with this name, whatever overlaps, is lost or is repeated. The
@@ -38,16 +37,16 @@ pub record NoRunStarts (blobs results : Blobs) (sources : DigestValue) (plan : P
   pub step : StepValue
   pub step_at : slice_get plan.steps index ≡ Some step
   pub named : name ≡ step.name
-  pub of_run : (t : Tree Leaf) (run : PlanRun) → IsOrdered t → root (form t) ≡ sources
-      → RunsFrom blobs results plan (take index recorded) t run
-      → IsNeverStarted plan t run index
+  pub of_run : (run : PlanRun)
+      → RunsFrom blobs results sources plan (take index recorded) run
+      → IsNeverStarted plan run index
 
 -- No run has a root, complete or not.
 pub record NoRunHasRoot (blobs results : Blobs) (sources : DigestValue) (plan : PlanValue)
     (recorded : List DigestValue) : Type 0 where
-  pub of_run : (t : Tree Leaf) (run : PlanRun) → IsOrdered t → root (form t) ≡ sources
-      → RunsFrom blobs results plan recorded t run
-      → merge_of t run.now plan.root_lines ≡ None
+  pub of_run : (run : PlanRun)
+      → RunsFrom blobs results sources plan recorded run
+      → merge_of run.tree run.now plan.root_lines ≡ None
 
 -- The cause is that the recorded action isn't the plan's: it has another frame, or another input.
 abbrev pub IsOfAction : {A : Type 0} → Cause A → Type 0
@@ -72,8 +71,8 @@ pub record RecordedStep (plan : PlanValue) (recorded : List DigestValue) (name :
 pub record NoRunHasAction (blobs results : Blobs) (sources : DigestValue) (plan : PlanValue)
     (recorded : List DigestValue) (name : List ℕ) : Type 0 where
   pub of_step : RecordedStep plan recorded name
-  pub of_run : (t : Tree Leaf) (run : PlanRun) → IsOrdered t → root (form t) ≡ sources
-      → RunsFrom blobs results plan (take of_step.index recorded) t run
+  pub of_run : (run : PlanRun)
+      → RunsFrom blobs results sources plan (take of_step.index recorded) run
       → (w : ℕ) (job : ℕ × ActionMeaning) → job_of w run.now ≡ Some job → job.0 ≡ of_step.index
       → action_digest job.1 ≢ of_step.digest
 
@@ -81,7 +80,7 @@ pub record NoRunHasAction (blobs results : Blobs) (sources : DigestValue) (plan 
 abbrev pub EndsWithCode : ℤ → ActionMeaning → Outcome → Type 0
 EndsWithCode code a o = (o.exit_code ≡ code) × (code ≢ pos 0)
 
--- it made something at this path, which its command doesn't list
+-- an action made something at this path, which its command doesn't list
 abbrev pub MakesUnlisted : List Name → ActionMeaning → Outcome → Type 0
 MakesUnlisted path a o = ((x : NodeValue) × Contains (entries_form o.outputs) (path, x))
     × (Contains a.command.output_paths path → ⊥)
@@ -101,6 +100,6 @@ pub record EveryRunEndsStep (blobs results : Blobs) (sources : DigestValue) (pla
     (recorded : List DigestValue) (name : List ℕ) (So : ActionMeaning → Outcome → Type 0)
     : Type 0 where
   pub of_step : RecordedStep plan recorded name
-  pub of_run : (t : Tree Leaf) (run : PlanRun) → IsOrdered t → root (form t) ≡ sources
-      → RunsFrom blobs results plan (take (suc of_step.index) recorded) t run
+  pub of_run : (run : PlanRun)
+      → RunsFrom blobs results sources plan (take (suc of_step.index) recorded) run
       → EndsStep run of_step.index of_step.digest So

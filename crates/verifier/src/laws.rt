@@ -1,12 +1,12 @@
 ghost use Rattle.std.specs.Prelude.{◌≡◌, ◌↔◌, ◌⊎◌, ℕ, List, [], length, ◌++◌, ◌∷◌, Some, Contains};
-ghost use Rattle.std.specs.Prelude.{ℤ, codes, option_map, pos, take};
+ghost use Rattle.std.specs.Prelude.{ℤ, codes, option_map, pos, slice_get, take, ◌≢◌};
 ghost use Rattle.blob_digest.specs.Digest.{DigestValue, NoClash};
 ghost use Rattle.blob_digest.specs.DigestValue.{IsDigest};
 ghost use Rattle.plan.specs.Plan.{NoTargetsOverlap, IsPlan};
 ghost use Rattle.plan.specs.Values.{LineValue, StepValue, PlanValue};
 ghost use Rattle.plan.specs.declared.version.Version.TheVariants.{One};
 ghost use Rattle.tree.specs.Form.{NodeValue, form, root};
-ghost use Rattle.blob_source.specs.Source.{Blobs, Telling};
+ghost use Rattle.blob_source.specs.Source.{Blobs, Telling, Grows};
 ghost use Rattle.tree.specs.Tree.{Name, Tree, Leaf, Entry, below_entry, IsOrdered};
 ghost use Rattle.tree.specs.Graft.{graft, expand};
 ghost use Rattle.tree.specs.Memo.{Asked};
@@ -37,6 +37,8 @@ ghost use Rattle.verifier.specs.Headline.{NoRunIsStuck, IsNotStuck, IsConcerned,
 ghost use Rattle.verifier.specs.BuildStages.{BuildStage, AreYes, last_claim, RunsStage};
 ghost use Rattle.verifier.specs.BuildStages.{EndsIn, RunInTurn};
 ghost use Rattle.verifier.specs.Recorded.{RecordsAt};
+ghost use Rattle.verifier.specs.TwoBuilds.{IsAlike, IsUnlike, AreAlikeBelow, IsInBoth};
+ghost use Rattle.verifier.specs.TwoBuilds.{AreReadAlike, DependOn, IsFirstUnlike, AreTwoBuilds};
 ghost use Rattle.verifier.specs.TwoSteps as two;
 ghost use Rattle.verifier.specs.Unbuilt.{IsOfLines, NoRunStarts, NoRunHasRoot};
 ghost use Rattle.verifier.specs.Unbuilt.{IsOfAction, NoRunHasAction, EveryRunEndsStep};
@@ -76,7 +78,7 @@ pub fn stages_end_in_the_last_claim<A: Allocator>()
         → AreYes A sources (stages ++ stage ∷ [])
         → IsOrdered t → root (form t) ≡ sources → RunInTurn t stages runs between
         → RunsStage between stage run
-        → IsNotStuck run.table stage.plan run.meaning between run.now }
+        → IsNotStuck run.table stage.plan run.meaning run.tree run.now }
     ensures made { (sources : DigestValue) (stages : List BuildStage) (runs : List PlanRun)
         (t between : Tree Leaf) (stage : BuildStage) (run : PlanRun)
         → AreYes A sources (stages ++ stage ∷ [])
@@ -121,6 +123,12 @@ pub fn yes_is_as_recorded<A: Allocator>()
         (recorded : List DigestValue) (claim other : DigestValue)
         → IsVerdict {A = A} tells sources plan recorded claim (No Root (RootDiffers other))
         → IsPlanAsRecorded tells.blobs tells.results sources plan recorded other }
+    // What is as recorded stays so, whatever more is told.
+    ensures stays { (old new : Telling) (sources : DigestValue) (plan : PlanValue)
+        (recorded : List DigestValue) (claim : DigestValue)
+        → Grows old.blobs new.blobs → Grows old.results new.results
+        → IsPlanAsRecorded old.blobs old.results sources plan recorded claim
+        → IsPlanAsRecorded new.blobs new.results sources plan recorded claim }
 {}
 
 /// The check of a step passes with an outcome exactly where the step is as recorded with that
@@ -222,6 +230,50 @@ pub fn what_is_looked_at_is_finite<A: Allocator>()
         → ((list : List Asked) → Lists (PlanLooksAt A tells sources plan recorded) list → ⊥) → ⊥ }
 {}
 
+/// Where two builds of one plan from sources with one digest are as recorded, either each step was
+/// recorded with one digest and outcomes of one form, and they have one root; or the first step
+/// that wasn't ran one action in both, but two outcomes were recorded of it, which differ at a
+/// path. That actions are deterministic isn't a premise. A law: it does nothing.
+pub fn two_yeses_differ_at_an_action()
+    ensures found { (one other : Telling) (sources : DigestValue) (plan : PlanValue)
+        (recorded others : List DigestValue) (claim another : DigestValue)
+        → AreTwoBuilds one other sources plan recorded others claim another
+        → ((AreAlikeBelow one other recorded others (length plan.steps) × (claim ≡ another))
+        ⊎ IsFirstUnlike one other plan.steps recorded others) }
+    ensures differ { (one other : Telling) (sources : DigestValue) (plan : PlanValue)
+        (recorded others : List DigestValue) (claim another : DigestValue)
+        → AreTwoBuilds one other sources plan recorded others claim another → claim ≢ another
+        → IsFirstUnlike one other plan.steps recorded others }
+    // Behind steps that are alike, the next has one digest in both: the outcomes alone may differ.
+    ensures next { (one other : Telling) (sources : DigestValue) (plan : PlanValue)
+        (recorded others : List DigestValue) (claim another : DigestValue)
+        → AreTwoBuilds one other sources plan recorded others claim another
+        → (i : ℕ) (step : StepValue) → slice_get plan.steps i ≡ Some step
+        → AreAlikeBelow one other recorded others i
+        → IsInBoth one other recorded others i }
+    // A step whose lines read steps that are alike has one digest in both, and where the root's
+    // lines do, the roots are one.
+    ensures reads { (one other : Telling) (sources : DigestValue) (plan : PlanValue)
+        (recorded others : List DigestValue) (claim another : DigestValue)
+        → AreTwoBuilds one other sources plan recorded others claim another
+        → (i : ℕ) (step : StepValue) → slice_get plan.steps i ≡ Some step
+        → AreReadAlike one other recorded others step.lines
+        → IsInBoth one other recorded others i }
+    ensures root { (one other : Telling) (sources : DigestValue) (plan : PlanValue)
+        (recorded others : List DigestValue) (claim another : DigestValue)
+        → AreTwoBuilds one other sources plan recorded others claim another
+        → AreReadAlike one other recorded others plan.root_lines → claim ≡ another }
+    // Where the roots differ, the root's lines depend on a step that is unlike.
+    ensures depends { (one other : Telling) (sources : DigestValue) (plan : PlanValue)
+        (recorded others : List DigestValue) (claim another : DigestValue)
+        → AreTwoBuilds one other sources plan recorded others claim another → claim ≢ another
+        → (i : ℕ) × IsUnlike one other recorded others i
+        × DependOn plan.steps plan.root_lines i }
+    // Which of them a step is doesn't depend on how its outcomes are read.
+    ensures single { (one other : Telling) (recorded others : List DigestValue) (i : ℕ)
+        → IsAlike one other recorded others i → IsUnlike one other recorded others i → ⊥ }
+{}
+
 /// What a source tells determines the verdict. A law: it does nothing.
 pub fn verdicts_are_single_valued<A: Allocator>()
     ensures { (tells : Telling) (sources : DigestValue) (plan : PlanValue)
@@ -236,12 +288,11 @@ pub fn a_build_meets_the_premises()
     ensures plan { IsPlan two.plan }
     ensures accepted { IsPlanAsRecorded two.blobs two.results two.sources two.plan
         two.recorded two.claim }
-    ensures tree { IsOrdered two.tree × (root (form two.tree) ≡ two.sources) }
-    ensures run { RunsFrom two.blobs two.results two.plan two.recorded two.tree two.run }
+    ensures run { RunsFrom two.blobs two.results two.sources two.plan two.recorded two.run }
     ensures complete { HasFinishedAll two.plan two.end }
     // So are they where nothing has happened yet, and whatever may happen then, no two different
     // blobs share a digest.
-    ensures fresh { RunsFrom two.blobs two.results two.plan two.recorded two.tree
+    ensures fresh { RunsFrom two.blobs two.results two.sources two.plan two.recorded
         (record two.run { events = []; now = opening }) }
     ensures open { NoClash (λ b. IsConcerned two.blobs two.plan two.run.meaning two.tree
         two.run.chosen [] b
@@ -261,7 +312,8 @@ pub fn a_merge_meets_the_premises()
     ensures meets { NoTargetsOverlap two.meeting_plan.root_lines → ⊥ }
     ensures accepted { IsPlanAsRecorded two.blobs two.results two.sources two.meeting_plan
         two.recorded two.meeting_claim }
-    ensures run { RunsFrom two.blobs two.results two.meeting_plan two.recorded two.tree two.run }
+    ensures run { RunsFrom two.blobs two.results two.sources two.meeting_plan two.recorded
+        two.run }
     ensures complete { HasFinishedAll two.meeting_plan two.end }
 {}
 
@@ -271,9 +323,8 @@ pub fn a_source_meets_the_premises()
     ensures plan { IsPlan two.reading_plan }
     ensures accepted { IsPlanAsRecorded two.reading_blobs two.results two.input_digest
         two.reading_plan (two.use_action_digest ∷ []) two.claim }
-    ensures tree { IsOrdered two.data_input × (root (form two.data_input) ≡ two.input_digest) }
-    ensures run { RunsFrom two.reading_blobs two.results two.reading_plan
-        (two.use_action_digest ∷ []) two.data_input two.reading_run }
+    ensures run { RunsFrom two.reading_blobs two.results two.input_digest
+        two.reading_plan (two.use_action_digest ∷ []) two.reading_run }
     ensures complete { HasFinishedAll two.reading_plan two.reading_run.now }
 {}
 
@@ -281,8 +332,8 @@ pub fn a_source_meets_the_premises()
 /// same once more from what it made. A law: it does nothing.
 pub fn stages_meet_the_premises<A: Allocator>()
     ensures yes { AreYes A two.sources (two.stage ∷ two.stage ∷ []) }
-    ensures runs { RunInTurn two.tree (two.stage ∷ two.stage ∷ []) (two.run ∷ two.run ∷ [])
-        two.built }
+    ensures runs { RunInTurn two.tree (two.stage ∷ two.stage ∷ [])
+        (two.run ∷ record two.run { tree = two.built } ∷ []) two.built }
 {}
 
 /// The premises of what a no says can be met: by the build of two steps, where the source has told
@@ -296,27 +347,39 @@ pub fn a_no_meets_the_premises<A: Allocator>()
     ensures conflict { IsPlan two.clashing_plan × IsVerdict {A = A} two.telling two.sources
         two.clashing_plan two.recorded two.claim
         (No (Step (codes "use")) (InputConflict (codes "data" ∷ []))) }
-    ensures before { RunsFrom two.blobs two.results two.clashing_plan
-        (take 1 two.recorded) two.tree two.clashing_run }
+    ensures before { RunsFrom two.blobs two.results two.sources two.clashing_plan
+        (take 1 two.recorded) two.clashing_run }
     // Where the root reads what no step makes, after a complete run.
     ensures missing { IsPlan two.rootless_plan × IsVerdict {A = A} two.telling two.sources
         two.rootless_plan two.recorded two.claim (No Root (OriginMissing (codes "out" ∷ []))) }
-    ensures complete { RunsFrom two.blobs two.results two.rootless_plan two.recorded two.tree
-        two.run × HasFinishedAll two.rootless_plan two.end }
+    ensures complete { RunsFrom two.blobs two.results two.sources two.rootless_plan
+        two.recorded two.run × HasFinishedAll two.rootless_plan two.end }
     // Where a step has another frame, while both steps run.
     ensures other { IsPlan two.other_plan × IsVerdict {A = A} two.telling two.sources
         two.other_plan two.recorded two.claim (No (Step (codes "use")) FrameDiffers) }
-    ensures running { RunsFrom two.blobs two.results two.other_plan (take 1 two.recorded)
-        two.tree two.other_run }
+    ensures running { RunsFrom two.blobs two.results two.sources two.other_plan
+        (take 1 two.recorded) two.other_run }
     // Where the first step failed, or made what its command doesn't list, after a run of it.
     ensures failed { IsVerdict {A = A} (two.recording two.failed_result) two.sources two.plan
         two.recorded two.claim (No (Step (codes "gen")) (ExitCode (pos 1))) }
-    ensures fails { RunsFrom two.blobs (two.recording two.failed_result).results two.plan
-        (take 1 two.recorded) two.tree (two.ended_run two.failed) }
+    ensures fails { RunsFrom two.blobs (two.recording two.failed_result).results two.sources
+        two.plan (take 1 two.recorded) (two.ended_run two.failed) }
     ensures unlisted { IsVerdict {A = A} (two.recording two.use_result) two.sources two.plan
         two.recorded two.claim (No (Step (codes "gen")) (OutputUnlisted (codes "res" ∷ []))) }
-    ensures makes { RunsFrom two.blobs (two.recording two.use_result).results two.plan
-        (take 1 two.recorded) two.tree (two.ended_run two.uses.1) }
+    ensures makes { RunsFrom two.blobs (two.recording two.use_result).results two.sources
+        two.plan (take 1 two.recorded) (two.ended_run two.uses.1) }
+{}
+
+/// The premises of what is said of two builds can be met together, where the roots differ: by the
+/// build of two steps, and once more where the second step made an executable file. A law: it does
+/// nothing.
+pub fn two_builds_meet_the_premises()
+    ensures builds { AreTwoBuilds two.telling two.rerun two.sources two.plan two.recorded
+        two.recorded two.claim two.rerun_claim }
+    ensures differ { two.claim ≢ two.rerun_claim }
+    // The first step is alike, and the second isn't.
+    ensures alike { IsAlike two.telling two.rerun two.recorded two.recorded 0 }
+    ensures unlike { IsUnlike two.telling two.rerun two.recorded two.recorded 1 }
 {}
 
 /// What the words of a record and of outcomes come to. A law: it does nothing.

@@ -12,9 +12,10 @@ use Rattle.runs.specs.Engine.{FinishedValue, JobValue, EngineValue, at_number, f
 use Rattle.runs.specs.declared.starting.Job.{Job}
 use Rattle.runs.proofs.Places.{set_same}
 use Rattle.verifier.proofs.FreshRuns.{one_answer}
+use Rattle.verifier.specs.Recorded.{IsHeld}
 use Rattle.worker.specs.declared.child.Child.{Child}
 use Rattle.worker.specs.Going.{AreJobsOf, IsForGone, IsGoing, IsLaunched, IsOfTurns, IsOwnJob, EndedWell, HasEndedFirst, kept_job}
-use Rattle.worker.specs.Outcomes.{Yields, YieldsNoMore, CanBeTaken, IsHeld, blobs_made, tree_blobs}
+use Rattle.worker.specs.Outcomes.{Yields, YieldsNoMore, CanBeTaken, blobs_made, tree_blobs}
 use Rattle.worker.specs.Steps.{IsActionOf, IsForJob, IsOfBuild, IsOfProduced, IsOfFinished, IsSameBuild, blobs_of_job}
 use Rattle.worker.specs.Stored.{KeepsAllBut, PutsNoOther}
 use Rattle.worker.specs.Storing.{PutsMade}

@@ -7,7 +7,7 @@ use Rattle.action_messages.specs.Command.{CommandValue}
 use Rattle.actions.specs.Outcome.{OutcomeValue}
 use Rattle.blob_source.specs.Source.{Blobs, Telling}
 use Rattle.blob_source.specs.Sink.{KeepsRight}
-use Rattle.runs.specs.Engine.{JobValue, EngineValue, finished_in, job_in}
+use Rattle.runs.specs.Engine.{JobValue, EngineValue, IsEngine, finished_in, job_in}
 use Rattle.runs.specs.Calls.{IsStarted, without_job}
 use Rattle.runs.specs.declared.starting.Job.{Job}
 use Rattle.verifier.proofs.FreshRuns.{one_answer}
@@ -28,6 +28,7 @@ use Rattle.tree.proofs.Listings.{all_join}
 use Rattle.worker.proofs.Joins.{put_for_none, put_for_both, came_more, came_behind, children_join, child_either, jobs_join, finish_first, finish_none, finish_one, finish_join}
 use Rattle.worker.proofs.Jobs.{least_within, jobs_added, jobs_back, jobs_count, jobs_map, first_goes, placed_goes}
 use Rattle.worker.proofs.Lefts.{finished_at, one_there}
+use Rattle.worker.proofs.OneJob.{kept_first, leads_once, none_runs}
 use Rattle.worker.proofs.Started.{job_of, after, least, job_is, one_more, was_started, started_value}
 
 -- ---- calls
@@ -72,7 +73,7 @@ module _ (A : Type 0) (y : Yields) (t u : Telling) (more : List Call) (m : Moves
   does_moved : (later : List Call) (c : Call) (old new : EngineValue) → Does A y t later c old new → Does A y u (later ++ more) c old new
   does_moved later (started i id) old new w = record { told = w.told; still = right_trans w.still m.blobs; job = w.job; number = w.number; is = w.is }
   does_moved later (launched id d x) old new w = record { job = w.job; is = w.is; action = w.action; laid = layout_still m.blobs w.laid; command = w.command; same = w.same }
-  does_moved later (ran id d v) old new w = record { finished = w.finished; action = w.action; yielded = yielded_still old old (λ l c e h. h) m.blobs (refl, refl) w.finished.job w.yielded }
+  does_moved later (ran id d v) old new w = record { finished = w.finished; action = w.action; kept = w.kept; yielded = yielded_still old old (λ l c e h. h) m.blobs (refl, refl) w.finished.job w.yielded }
   does_moved later (taken id d v) old new w = record {
     finished = w.finished;
     action = w.action;
@@ -193,6 +194,7 @@ module _ (A J : Type 0) (y : Yields) (may : J → EndValue → Type 0) (from : S
 
   abbrev pub going_none : running old.jobs ≡ 0 → Goes from s old []
   going_none idle = record {
+    idle = idle;
     led = record {
       built = record { led = record { calls = []; leads = refl }; puts = puts_none s s [] kept_none };
       children = none_starts from from (λ before h. h);
@@ -228,6 +230,7 @@ module _ (A J : Type 0) (y : Yields) (may : J → EndValue → Type 0) (from : S
     pub going_kept : (t u : Telling) (now : EngineValue) (cs : List (Child J)) → IsKept t u → StartsNone a b → (g : Goes a t now cs) → Went b u now cs g.led.built.led.calls []
     going_kept t u now cs k quiet g =
         let going : Goes b u now cs = record {
+          idle = g.idle;
           led = built_moved A y from a b s t u [] (moves_kept t u [] k) (none_starts a b quiet) (had_none t) most old now now g.led refl;
           jobs = jobs_map (IsOwnJob y may t.blobs now) (IsOwnJob y may u.blobs now) (own_still (λ l c p h. h) k.blobs (refl, refl)) cs now.jobs g.jobs;
           order = jobs_join [] g.led.built.led.calls [] ∙ g.order;
@@ -253,6 +256,7 @@ module _ (A J : Type 0) (y : Yields) (may : J → EndValue → Type 0) (from : S
           let le = fewer in
           let few : running (set now.jobs c.id None) ≤ most = omega (arith, count, le) in
           let going : Goes b u new cs = record {
+            idle = g.idle;
             led = built_moved A y from a b s t u more m starts none most old now new g.led (leads (subst (λ js. running js ≤ most) (sym jobs) few));
             jobs = subst (λ js. AreJobsOf (IsOwnJob y may u.blobs new) js cs) (sym jobs)
                 (jobs_map (IsOwnJob y may t.blobs now) (IsOwnJob y may u.blobs new) (own_still (λ l d p h. h) m.blobs same) cs (set now.jobs c.id None) rest);
@@ -262,12 +266,15 @@ module _ (A J : Type 0) (y : Yields) (may : J → EndValue → Type 0) (from : S
           } in
           record { going = going; are = refl }
 
-      ran_child : (e : EndedWell may t u c now new) → FinishedByChild y u c.id c.action e.produced.outcome now new
-      ran_child e =
+      ran_child : IsEngine now → (e : EndedWell may t u c now new) → FinishedByChild y u c.id c.action e.produced.outcome now new
+      ran_child valid e =
           let same : e.finished.job ≡ g.jobs.0 = one_answer (job_in c.id now) e.finished.job g.jobs.0 e.finished.is g.jobs.1 in
+          let action : e.finished.job.action ≡ c.action = ap (λ (j : JobValue). j.action) same ∙ g.jobs.2.of_child.action in
+          let once = leads_once A y t most g.led.built.led.calls old now g.led.built.led.leads (none_runs old g.idle) in
           record {
             finished = e.finished;
-            action = ap (λ (j : JobValue). j.action) same ∙ g.jobs.2.of_child.action;
+            action = action;
+            kept = subst (λ d. finished_in e.finished.job.step new ≡ Some (record { action = d; outcome = e.produced.outcome })) action (kept_first once valid e.finished);
             yielded = subst (λ j. IsYielded y u.blobs now j e.produced.outcome) (sym same) (record {
               produced = e.produced;
               outcome = refl;
@@ -277,11 +284,11 @@ module _ (A J : Type 0) (y : Yields) (may : J → EndValue → Type 0) (from : S
             });
           }
 
-      pub going_ran : IsTurn most now (c ∷ cs) turns.Finish → (e : EndedWell may t u c now new) → Went b u new cs g.led.built.led.calls (ran c.id c.action e.produced.outcome ∷ [])
-      going_ran next e = gone (ran c.id c.action e.produced.outcome ∷ []) (moves_ran t u c.id c.action e.produced.outcome e.kept)
+      pub going_ran : IsTurn most now (c ∷ cs) turns.Finish → IsEngine now → (e : EndedWell may t u c now new) → Went b u new cs g.led.built.led.calls (ran c.id c.action e.produced.outcome ∷ [])
+      going_ran next valid e = gone (ran c.id c.action e.produced.outcome ∷ []) (moves_ran t u c.id c.action e.produced.outcome e.kept)
           (none_starts a b quiet) (had_one t (ran c.id c.action e.produced.outcome) (λ w d x is. cc)) (λ js. refl) (finish_one (jobs_with (c ∷ cs)) (ran c.id c.action e.produced.outcome) (λ w d v is. cc))
           (ap (λ (e : EngineValue). e.jobs) e.finished.after) (ap (λ (e : EngineValue). e.commands) e.finished.after, ap (λ (e : EngineValue). e.frames) e.finished.after)
-          (λ few. (new, ran_child e, (few, λ less. next.1 (let count = jobs_count (IsOwnJob y may t.blobs now) (c ∷ cs) now.jobs g.jobs in omega (arith, count, less))), refl))
+          (λ few. (new, ran_child valid e, (few, λ less. next.1 (let count = jobs_count (IsOwnJob y may t.blobs now) (c ∷ cs) now.jobs g.jobs in omega (arith, count, less))), refl))
 
       pub going_lost : IsLost c.id now new → IsKept t u → Went b u new cs g.led.built.led.calls (lost c.id ∷ [])
       going_lost (j, at, after) k = gone (lost c.id ∷ []) (moves_kept t u (lost c.id ∷ []) k)
@@ -309,6 +316,7 @@ module _ (A J : Type 0) (y : Yields) (may : J → EndValue → Type 0) (from : S
           let calls = g.led.built.led.calls in
           let more : List Call = started i id ∷ launched id (job_of w).action x ∷ [] in
           let going : Goes b u mid (cs ++ c ∷ []) = record {
+            idle = g.idle;
             led = built_moved A y from a b s t u more (moves_kept t u more k) starts had
                 most old now mid g.led (mid, w, (few_mid, next), (mid, record { job = job_of w; is = job_is w; action = refl; laid = laid; command = command; same = refl }, (few_mid, tt), refl));
             jobs = subst (λ js. AreJobsOf (IsOwnJob y may u.blobs mid) js (cs ++ c ∷ [])) (sym (ap (λ (e : EngineValue). e.jobs) (after w)))
@@ -341,6 +349,7 @@ module _ (A J : Type 0) (y : Yields) (may : J → EndValue → Type 0) (from : S
           let few = g.few in
           let few_new : running new.jobs ≤ most = subst (λ js. running js ≤ most) (sym jobs) (omega (arith, count, few)) in
           let going : Goes b u new cs = record {
+            idle = g.idle;
             led = built_moved A y from a b s t u more (moves_kept t u more k) starts (had_behind t (started i id) (call ∷ []) (λ v d x is. cc) none) most old now new g.led (mid, w, (few_mid, next), (new, does, (few_new, next_call), refl));
             jobs = subst (λ js. AreJobsOf (IsOwnJob y may u.blobs new) js cs) (sym jobs)
                 (jobs_map (IsOwnJob y may u.blobs mid) (IsOwnJob y may u.blobs new) (own_still (λ l c p h. h) (λ e b at right. at) same) cs (set mid.jobs id None) back);

@@ -1,8 +1,7 @@
 -- What calls of a store keep.
-use Rattle.std.proofs.Common.{◌≡◌, ◌≢◌, true, false, ℕ, zero, suc, arith, ◌+◌, ◌<◌, length, take, get_or, List, [], ◌∷◌, ◌++◌, Some, refl, sym, subst, ◌∙◌, ap, inl, inr}
-use Rattle.std.specs.Prelude.{◌⊎◌, ◌==◌, map}
+use Rattle.std.proofs.Common.{◌≡◌, ◌≢◌, ℕ, zero, suc, arith, ◌+◌, ◌<◌, length, take, get_or, List, [], ◌∷◌, ◌++◌, Some, refl, sym, subst, ◌∙◌, ap, inl, inr}
+use Rattle.std.specs.Prelude.{◌⊎◌, map}
 use Rattle.std.specs.List.{AllByRecursion}
-use Rattle.std.proofs.lemmas.Bool.Decides.{eqb_tells}
 use Rattle.std.proofs.lemmas.List.{map-append, take_more}
 use Rattle.std.specs.declared.vec.Vec.{Vec}
 use Rattle.tree.specs.Folded.{items_of}
@@ -18,6 +17,7 @@ use Rattle.worker.specs.Stopped.{IsStoreFault}
 use Rattle.worker.specs.Stored.{IsKept, PutsNoOther}
 use Rattle.worker.specs.Storing.{HasAt, IsKeptBut}
 use Rattle.worker.specs.Outcomes.{HasAllRight}
+use Rattle.verifier.proofs.SameForms.{same_digest}
 
 pub grown_same : (B C : Blobs) → C ≡ B → Grows B C
 grown_same B C same e b at = subst (λ (D : Blobs). D e ≡ Some b) (sym same) at
@@ -137,29 +137,7 @@ only_front bs cs f = record { same = λ d h. f.same d (all_split (λ b. digest_o
 pub only_behind : (bs cs : List (List ℕ)) {B C : Blobs} → PutsNoOther cs B C → PutsNoOther (bs ++ cs) B C
 only_behind bs cs f = record { same = λ d h. f.same d (all_split (λ b. digest_of b ≢ d) bs cs h).1 }
 
--- ---- which digest
-
-pub same_bytes : (xs ys : List ℕ) → (xs ≡ ys) ⊎ (xs ≢ ys)
-same_bytes [] [] = inl refl
-same_bytes [] (y ∷ ys) = inr (λ e. cc)
-same_bytes (x ∷ xs) [] = inr (λ e. cc)
-same_bytes (x ∷ xs) (y ∷ ys) = by (eqb_tells x y) (same_bytes xs ys)
-  where
-    by : (((x == y) ≡ true) × (x ≡ y)) ⊎ (((x == y) ≡ false) × (x ≢ y)) → (xs ≡ ys) ⊎ (xs ≢ ys) → (x ∷ xs ≡ y ∷ ys) ⊎ (x ∷ xs ≢ y ∷ ys)
-    by (inl h) (inl t) = let head = h.1 in inl cc
-    by (inl h) (inr n) = inr (λ e. n cc)
-    by (inr h) t = let other = h.1 in inr (λ e. other cc)
-
-pub same_digest : (d e : DigestValue) → (d ≡ e) ⊎ (d ≢ e)
-same_digest d e = by (same_bytes d.hash e.hash) (eqb_tells d.size e.size)
-  where
-    by : (d.hash ≡ e.hash) ⊎ (d.hash ≢ e.hash) → (((d.size == e.size) ≡ true) × (d.size ≡ e.size)) ⊎ (((d.size == e.size) ≡ false) × (d.size ≢ e.size)) → (d ≡ e) ⊎ (d ≢ e)
-    by (inl h) (inl s) =
-        let size = s.1 in
-        let pair : ◌≡◌ {A = List ℕ × ℕ} (d.hash, d.size) (e.hash, e.size) = cc in
-        inl (ap (λ (p : List ℕ × ℕ). record { hash = p.0; size = p.1 }) pair)
-    by (inr n) s = inr (λ is. n (ap (λ (x : DigestValue). x.hash) is))
-    by (inl h) (inr s) = let n = s.1 in inr (λ is. n (ap (λ (x : DigestValue). x.size) is))
+-- ---- what is put
 
 -- a result that is put, or may have been
 pub kept_put : {t u : Telling} {d : DigestValue} {bytes : List ℕ} {F : Type 0} → (u.puts ≡ t.puts) ⊎ ((u.puts ≡ t.puts ++ d ∷ []) × (u.results d ≡ Some bytes)) → Calls (PutsResult d bytes) t u F → IsKeptBut d (λ b. b ≡ bytes) t u

@@ -44,7 +44,7 @@ more a b = omega arith
 sum_moved : (a b c d : ℕ) → b ≡ c + d → a + b ≡ c + (a + d)
 sum_moved a b c d e = omega (arith, e)
 
-one_more : (i : ℕ) (js : List (Option JobValue)) (w : ℕ) (j : JobValue) → w ≤ length js → at_number js w ≡ None → jobs_of i (placed js w j) ≡ runs_step i (Some j) + jobs_of i js
+pub one_more : (i : ℕ) (js : List (Option JobValue)) (w : ℕ) (j : JobValue) → w ≤ length js → at_number js w ≡ None → jobs_of i (placed js w j) ≡ runs_step i (Some j) + jobs_of i js
 one_more i [] zero j le free = refl
 one_more i [] (suc w) j le free = absurd (omega arith)
 one_more i (None ∷ js) zero j le free = more (runs_step i (Some j)) (jobs_of i js)
@@ -59,7 +59,7 @@ one_fewer i (o ∷ js) (suc w) j is = sum_moved (runs_step i o) (jobs_of i js) (
 pub own_step : (j : JobValue) (i : ℕ) → j.step ≡ i → runs_step i (Some j) ≡ 1
 own_step j i same = ap (λ b. if b then 1 else 0) ((Decides-eqb j.step i).1 same)
 
-other_step : (j : JobValue) (i : ℕ) → i ≢ j.step → runs_step i (Some j) ≡ 0
+pub other_step : (j : JobValue) (i : ℕ) → i ≢ j.step → runs_step i (Some j) ≡ 0
 other_step j i other = by (eqb_tells j.step i)
   where
     by : (((j.step == i) ≡ true) × (j.step ≡ i)) ⊎ (((j.step == i) ≡ false) × (j.step ≢ i)) → runs_step i (Some j) ≡ 0
@@ -71,7 +71,7 @@ one_there None some = absurd cc
 one_there (Some f) some = refl
 
 -- what has finished behind a finish
-kept_other : (fs : List (Option FinishedValue)) (o : Option FinishedValue) (i k : ℕ) (f : FinishedValue) → k ≢ i → at_number (first_kept o fs i f) k ≡ at_number fs k
+pub kept_other : (fs : List (Option FinishedValue)) (o : Option FinishedValue) (i k : ℕ) (f : FinishedValue) → k ≢ i → at_number (first_kept o fs i f) k ≡ at_number fs k
 kept_other fs (Some before) i k f other = refl
 kept_other fs None i k f other = set_other fs i k (Some f) other
 

@@ -13,6 +13,7 @@ pub mod Goes
 pub mod Taking
 pub mod Lefts
 pub mod Complete
+pub mod OneJob
 pub mod Storing
 pub mod Stopping
 pub mod Listing

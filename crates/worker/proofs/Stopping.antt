@@ -204,9 +204,9 @@ module _ (A J : Type 0) (y : Yields) (may : J → EndValue → Type 0) (from a b
     end_stops k refusals.Fetch h = runs_still
     end_stops k refusals.Memory h = runs_still
 
-    ended_well : IsTurn most now (c ∷ ds) turns.Finish → EndedWell may t u c now new → u.puts ≡ t.puts ++ c.action ∷ [] → (on : GoesOnBy A y may from b s u most first new ds f.led.built.led.calls 0) × PutsOf on.more t u × AreOneTurn on.more × (u.puts ≡ t.puts ++ came_of on.more)
-    ended_well next e listed = (
-      on_by A J y may from s most first b u new ds f.led.built.led.calls (ran c.id c.action e.produced.outcome ∷ []) 0 (going_ran A J y may from s most first a b t u now new c ds quiet f next e) refl,
+    ended_well : IsTurn most now (c ∷ ds) turns.Finish → IsEngine now → EndedWell may t u c now new → u.puts ≡ t.puts ++ c.action ∷ [] → (on : GoesOnBy A y may from b s u most first new ds f.led.built.led.calls 0) × PutsOf on.more t u × AreOneTurn on.more × (u.puts ≡ t.puts ++ came_of on.more)
+    ended_well next valid e listed = (
+      on_by A J y may from s most first b u new ds f.led.built.led.calls (ran c.id c.action e.produced.outcome ∷ []) 0 (going_ran A J y may from s most first a b t u now new c ds quiet f next valid e) refl,
       (moves_ran t u c.id c.action e.produced.outcome e.kept).puts,
       (tt, refl),
       listed,
@@ -236,7 +236,7 @@ module _ (A J : Type 0) (y : Yields) (may : J → EndValue → Type 0) (from a b
         )
     end_refused next valid e (step, inr (well, store)) =
         let calls = f.led.built.led.calls in
-        let w = going_ran A J y may from s most first a b t u now new c ds quiet f next well in (
+        let w = going_ran A J y may from s most first a b t u now new c ds quiet f next valid well in (
           on_by A J y may from s most first b u new ds calls (ran c.id c.action well.produced.outcome ∷ []) 0 w refl,
           record {
             at = new;
@@ -256,7 +256,7 @@ module _ (A J : Type 0) (y : Yields) (may : J → EndValue → Type 0) (from a b
   pub finish_goes : {T : Type 0} (r : Result T (BuildError A)) → IsTurn most now cs turns.Finish → IsEngine now → StartsNone a b → OnOk r (HasEndedFirst (EndedWell may t u) now new cs ds) → OnOk r (PutsFirst t u cs)
       → IfErr r (λ e. HasEndedFirst (λ c old new. (e.step ≡ c.step) × StopsSettling may t u c old new e.refusal) now new cs ds) → Goes ds r g.led.built.led.calls 0
   finish_goes {T} (Ok x) next valid quiet well listed stop =
-      subst (λ xs. (f : IsGoing A y may from a s t most first now xs) → Goes {T = T} ds (Ok x) f.led.built.led.calls 0) (sym well.is) (λ f. let on = ended_well well.child quiet f (subst (λ xs. IsTurn most now xs turns.Finish) well.is next) well.end (subst (PutsFirst t u) well.is listed) in (on.0, tt, on.1, (on.2, on.3))) g
+      subst (λ xs. (f : IsGoing A y may from a s t most first now xs) → Goes {T = T} ds (Ok x) f.led.built.led.calls 0) (sym well.is) (λ f. let on = ended_well well.child quiet f (subst (λ xs. IsTurn most now xs turns.Finish) well.is next) valid well.end (subst (PutsFirst t u) well.is listed) in (on.0, tt, on.1, (on.2, on.3))) g
   finish_goes {T} (Err e) next valid quiet well listed stop =
       subst (λ xs. (f : IsGoing A y may from a s t most first now xs) → Goes {T = T} ds (Err e) f.led.built.led.calls 0) (sym stop.is) (λ f. end_refused stop.child quiet f (subst (λ xs. IsTurn most now xs turns.Finish) stop.is next) valid e stop.end) g
 
@@ -286,7 +286,7 @@ module _ (A : Type 0) (z y : Yields) (t : Telling) (within : YieldsNoMore z y) w
   does_within : (later : List Call) (c : Call) (old new : EngineValue) → Does A z t later c old new → Does A y t later c old new
   does_within later (started i id) old new d = d
   does_within later (launched id d x) old new w = w
-  does_within later (ran id d v) old new f = record { finished = f.finished; action = f.action; yielded = yielded_still old old within (λ e b at right. at) (refl, refl) f.finished.job f.yielded }
+  does_within later (ran id d v) old new f = record { finished = f.finished; action = f.action; kept = f.kept; yielded = yielded_still old old within (λ e b at right. at) (refl, refl) f.finished.job f.yielded }
   does_within later (taken id d v) old new f = f
   does_within later (lost id) old new gone = gone
 

@@ -1,117 +1,37 @@
 -- A store has what a build has finished, whatever else is put.
-use Rattle.std.proofs.Common.{◌≡◌, ◌≢◌, ℕ, zero, suc, ◌<◌, true, false, Bool, List, [], ◌∷◌, ◌++◌, ◌+◌, take, get_or, length, length-append, append_assoc, set, Option, Some, None, refl, ap, sym, ◌∙◌, subst, arith, inl, inr}
-use Rattle.std.specs.Prelude.{◌⊎◌, Result, Ok, Err, OnOk, ◌==◌, ℤ, pos, negsuc, IsSome, slice_get}
+use Rattle.std.proofs.Common.{◌≡◌, ◌≢◌, ℕ, zero, suc, ◌<◌, List, [], ◌∷◌, ◌++◌, ◌+◌, take, get_or, length, length-append, append_assoc, set, Option, Some, None, refl, ap, sym, ◌∙◌, subst, arith, inl, inr}
+use Rattle.std.specs.Prelude.{◌⊎◌, Result, Ok, Err, OnOk, IsSome, slice_get}
 use Rattle.std.specs.List.{AllByRecursion}
-use Rattle.std.proofs.lemmas.Bool.Decides.{eqb_tells}
 use Rattle.std.proofs.lemmas.List.{map-append, take_more}
 use Rattle.blob_digest.specs.Digest.{DigestValue, digest_of, empty_digest, NoClash}
-use Rattle.messages.specs.declared.node.Node.TheVariants.{File, Link, Dir}
 use Rattle.messages.specs.Tree.{TreeValue, tree_bytes}
 use Rattle.action_messages.specs.ActionResult.{ActionResultValue}
 use Rattle.action_messages.specs.Reads.{Reads}
 use Rattle.actions.specs.declared.outcome.Output.TheVariants as outputs
 use Rattle.actions.specs.declared.outcome.Output.{Output}
-use Rattle.actions.specs.Outcome.{OutputValue, OutcomeValue, output_value, outputs_in, outputs_form}
+use Rattle.actions.specs.Outcome.{OutputValue, OutcomeValue, output_value, outputs_in}
 use Rattle.actions.proofs.TreeLookups.{all_at}
 use Rattle.blob_source.specs.Source.{Blobs, Telling, Grows, IsUnder, IsBlobUnder}
 use Rattle.blob_source.specs.Sink.{HasRight, KeepsRight}
 use Rattle.tree.specs.Tree.{Name}
-use Rattle.tree.specs.Form.{NodeValue}
-use Rattle.runs.specs.Calls.{IsFinished, HaveOneForm, Disagrees, first_kept}
+use Rattle.runs.specs.Calls.{IsFinished, Disagrees, first_kept}
 use Rattle.runs.specs.Engine.{FinishedValue, EngineValue, at_number, finished_in}
 use Rattle.runs.specs.Results.{result_of}
 use Rattle.runs.specs.Served.{Keeps, HoldsTrees, IsKeptOf}
 use Rattle.runs.proofs.Places.{set_other}
 use Rattle.verifier.proofs.FreshRuns.{one_answer}
+use Rattle.verifier.proofs.SameForms.{same_digest, same_form}
+use Rattle.verifier.specs.Recorded.{HaveOneForm}
 use Rattle.worker.specs.Storing.{HasAt, IsKeptBut, HasResultOf, IsResultOfStep, IsForForm, StoresStep, StoresSteps, IsHeldWhole}
 use Rattle.worker.specs.Calls.{IsResultFor}
 use Rattle.worker.specs.Outcomes.{HasTree, HasTrees, directories_of, tree_blobs}
 use Rattle.worker.specs.Stored.{IsKept, IsToldOrTree, IsStored}
-use Rattle.worker.proofs.Keeping.{all_split, right_still, same_bytes, same_digest}
+use Rattle.worker.proofs.Keeping.{all_split, right_still}
 use Rattle.worker.proofs.Telling.{recorded_still, trees_still}
 
 -- ---- one form
 
-same_list : {X : Type 0} → ((x y : X) → (x ≡ y) ⊎ (x ≢ y)) → (xs ys : List X) → (xs ≡ ys) ⊎ (xs ≢ ys)
-same_list each [] [] = inl refl
-same_list each [] (y ∷ ys) = inr (λ e. cc)
-same_list each (x ∷ xs) [] = inr (λ e. cc)
-same_list each (x ∷ xs) (y ∷ ys) = by (each x y) (same_list each xs ys)
-  where
-    by : (x ≡ y) ⊎ (x ≢ y) → (xs ≡ ys) ⊎ (xs ≢ ys) → (x ∷ xs ≡ y ∷ ys) ⊎ (x ∷ xs ≢ y ∷ ys)
-    by (inl h) (inl t) = inl cc
-    by (inl h) (inr n) = inr (λ e. n cc)
-    by (inr n) t = inr (λ e. n cc)
-
-same_number : (m n : ℕ) → (m ≡ n) ⊎ (m ≢ n)
-same_number m n = by (eqb_tells m n)
-  where
-    by : (((m == n) ≡ true) × (m ≡ n)) ⊎ (((m == n) ≡ false) × (m ≢ n)) → (m ≡ n) ⊎ (m ≢ n)
-    by (inl h) = inl h.1
-    by (inr h) = inr h.1
-
-same_code : (a b : ℤ) → (a ≡ b) ⊎ (a ≢ b)
-same_code (pos m) (pos n) = by (same_number m n)
-  where
-    by : (m ≡ n) ⊎ (m ≢ n) → (pos m ≡ pos n) ⊎ (pos m ≢ pos n)
-    by (inl h) = inl (ap pos h)
-    by (inr k) = inr (λ e. k cc)
-same_code (pos m) (negsuc n) = inr (λ e. cc)
-same_code (negsuc m) (pos n) = inr (λ e. cc)
-same_code (negsuc m) (negsuc n) = by (same_number m n)
-  where
-    by : (m ≡ n) ⊎ (m ≢ n) → (negsuc m ≡ negsuc n) ⊎ (negsuc m ≢ negsuc n)
-    by (inl h) = inl (ap negsuc h)
-    by (inr k) = inr (λ e. k cc)
-
-same_bit : (a b : Bool) → (a ≡ b) ⊎ (a ≢ b)
-same_bit true true = inl refl
-same_bit true false = inr (λ e. cc)
-same_bit false true = inr (λ e. cc)
-same_bit false false = inl refl
-
-same_node : (x y : NodeValue) → (x ≡ y) ⊎ (x ≢ y)
-same_node (File d x) (File e y) = by (same_digest d e) (same_bit x y)
-  where
-    by : (d ≡ e) ⊎ (d ≢ e) → (x ≡ y) ⊎ (x ≢ y) → (◌≡◌ {A = NodeValue} (File d x) (File e y)) ⊎ (◌≢◌ {A = NodeValue} (File d x) (File e y))
-    by (inl h) (inl k) = inl cc
-    by (inl h) (inr n) = inr (λ is. n cc)
-    by (inr n) k = inr (λ is. n cc)
-same_node (File d x) (Link t) = inr (λ e. cc)
-same_node (File d x) (Dir e) = inr (λ is. cc)
-same_node (Link t) (File d x) = inr (λ e. cc)
-same_node (Link t) (Link u) = by (same_bytes t u)
-  where
-    by : (t ≡ u) ⊎ (t ≢ u) → (◌≡◌ {A = NodeValue} (Link t) (Link u)) ⊎ (◌≢◌ {A = NodeValue} (Link t) (Link u))
-    by (inl h) = inl cc
-    by (inr n) = inr (λ is. n cc)
-same_node (Link t) (Dir e) = inr (λ is. cc)
-same_node (Dir d) (File e x) = inr (λ is. cc)
-same_node (Dir d) (Link t) = inr (λ is. cc)
-same_node (Dir d) (Dir e) = by (same_digest d e)
-  where
-    by : (d ≡ e) ⊎ (d ≢ e) → (◌≡◌ {A = NodeValue} (Dir d) (Dir e)) ⊎ (◌≢◌ {A = NodeValue} (Dir d) (Dir e))
-    by (inl h) = inl cc
-    by (inr n) = inr (λ is. n cc)
-
-same_row : (x y : List Name × NodeValue) → (x ≡ y) ⊎ (x ≢ y)
-same_row (p, x) (q, y) = by (same_list same_bytes p q) (same_node x y)
-  where
-    by : (p ≡ q) ⊎ (p ≢ q) → (x ≡ y) ⊎ (x ≢ y) → (◌≡◌ {A = List Name × NodeValue} (p, x) (q, y)) ⊎ (◌≢◌ {A = List Name × NodeValue} (p, x) (q, y))
-    by (inl h) (inl k) = inl cc
-    by (inl h) (inr n) = inr (λ is. n (ap (λ (r : List Name × NodeValue). r.1) is))
-    by (inr n) k = inr (λ is. n (ap (λ (r : List Name × NodeValue). r.0) is))
-
-same_form : (v w : OutcomeValue) → HaveOneForm v w ⊎ (HaveOneForm v w → ⊥)
-same_form v w = by (same_code v.exit_code w.exit_code) (same_list same_row (outputs_form v.outputs) (outputs_form w.outputs))
-  where
-    by : (v.exit_code ≡ w.exit_code) ⊎ (v.exit_code ≢ w.exit_code) → (outputs_form v.outputs ≡ outputs_form w.outputs) ⊎ (outputs_form v.outputs ≢ outputs_form w.outputs)
-        → HaveOneForm v w ⊎ (HaveOneForm v w → ⊥)
-    by (inl h) (inl k) = inl (record { exit_code = h; outputs = k })
-    by (inl h) (inr n) = inr (λ f. n f.outputs)
-    by (inr n) k = inr (λ f. n f.exit_code)
-
-form_back : {v w : OutcomeValue} → HaveOneForm v w → HaveOneForm w v
+pub form_back : {v w : OutcomeValue} → HaveOneForm v w → HaveOneForm w v
 form_back h = record { exit_code = sym h.exit_code; outputs = sym h.outputs }
 
 form_then : {u v w : OutcomeValue} → HaveOneForm u v → HaveOneForm v w → HaveOneForm u w
@@ -175,7 +95,7 @@ module _ {w : ℕ} {v : OutcomeValue} {old new : EngineValue} (h : IsFinished w 
   which k f at = either_some old.finished (finished_in h.job.step old) h.job.step k came f (sym (ap (λ fs. at_number fs k) finished_after) ∙ at)
 
   -- what a step came to, that finished with the same action or as the same step, has the form
-  of_form : (k : ℕ) (f : FinishedValue) → finished_in k new ≡ Some f → (k ≡ h.job.step) ⊎ (f.action ≡ h.job.action) → HaveOneForm f.outcome v
+  pub of_form : (k : ℕ) (f : FinishedValue) → finished_in k new ≡ Some f → (k ≡ h.job.step) ⊎ (f.action ≡ h.job.action) → HaveOneForm f.outcome v
   of_form k f at why = by (which k f at)
     where
       by : (finished_in k old ≡ Some f) ⊎ ((k ≡ h.job.step) × (f ≡ came)) → HaveOneForm f.outcome v

@@ -18,10 +18,11 @@ use Rattle.tree.specs.Unfolded.{TellsBelow, TellsTree}
 use Rattle.runs.specs.Engine.{JobValue, EngineValue}
 use Rattle.worker.specs.Values.{LayoutValue, EndValue, made}
 use Rattle.worker.specs.Stored.{IsKept}
-use Rattle.worker.specs.Outcomes.{Yields, YieldsNoMore, HasOwnAction, MayComeTo, directories_of, HasTree, IsYielded, IsHeld}
+use Rattle.worker.specs.Outcomes.{Yields, YieldsNoMore, HasOwnAction, MayComeTo, directories_of, HasTree, IsYielded}
 use Rattle.worker.specs.Going.{IsOwed}
 use Rattle.worker.proofs.Keeping.{right_still, all_right_still}
 use Rattle.worker.specs.Layout.{IsFileWith, IsLayoutOf}
+use Rattle.verifier.specs.Recorded.{IsHeld}
 
 module _ {B C : Blobs} (keeps : KeepsRight B C) where
   pub blob_still : {d : DigestValue} {b : List ℕ} → IsBlobUnder B d b → IsBlobUnder C d b

@@ -19,7 +19,8 @@ use Rattle.tree.specs.TreeError.{Explains}
 use Rattle.tree.specs.declared.error.TreeError.{TreeError}
 use Rattle.tree.specs.declared.error.TreeError.TheVariants as tree
 use Rattle.verifier.proofs.FreshRuns.{one_answer}
-use Rattle.worker.specs.Outcomes.{CanBeTaken, IsHeld}
+use Rattle.verifier.specs.Recorded.{IsHeld}
+use Rattle.worker.specs.Outcomes.{CanBeTaken}
 use Rattle.worker.specs.Going.{HasNoneToTake}
 use Rattle.worker.specs.Storing.{AsksResultOnce}
 use Rattle.worker.proofs.PutOnce.{call_counts}

@@ -11,12 +11,13 @@ use Rattle.actions.specs.Recorded.{IsRecorded}
 use Rattle.blob_source.specs.Source.{Blobs, Telling}
 use Rattle.blob_source.specs.Sink.{KeepsRight}
 use Rattle.runs.specs.Engine.{JobValue, EngineValue, finished_in, job_in}
-use Rattle.runs.specs.Calls.{HaveOneForm, IsStarted, IsFinished, IsReady, without_job, jobs_of}
+use Rattle.runs.specs.Calls.{IsStarted, IsFinished, IsReady, without_job, jobs_of}
 use Rattle.runs.specs.Results.{result_of}
 use Rattle.runs.specs.declared.starting.Job.{Job}
 use Rattle.worker.specs.Layout.{IsLayoutOf}
-use Rattle.worker.specs.Outcomes.{Yields, IsYielded, IsHeld, CanBeTaken}
+use Rattle.worker.specs.Outcomes.{Yields, IsYielded, CanBeTaken}
 use Rattle.worker.specs.Values.{StartValue, Starts, StartsAll}
+use Rattle.verifier.specs.Recorded.{HaveOneForm, IsHeld}
 
 -- how many jobs run
 abbrev pub running : List (Option JobValue) → ℕ
@@ -82,11 +83,12 @@ pub record WasLaunched (B : Blobs) (id : ℕ) (d : DigestValue) (s : StartValue)
   pub command : slice_get old.commands job.step ≡ Some s.command
   pub same : new ≡ old
 
--- a job finished with what its child came to
+-- a job finished with what its child came to, which its step has from then on
 pub record FinishedByChild (yields : Yields) (t : Telling) (id : ℕ) (d : DigestValue)
     (v : OutcomeValue) (old new : EngineValue) : Type 0 where
   pub finished : IsFinished id v old new
   pub action : finished.job.action ≡ d
+  pub kept : finished_in finished.job.step new ≡ Some (record { action = d; outcome = v })
   pub yielded : IsYielded yields t.blobs old finished.job v
 
 -- A job finished with what the store had recorded for its action. It has it at the end, or the

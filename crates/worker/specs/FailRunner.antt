@@ -12,15 +12,15 @@ use Rattle.worker.specs.declared.failure.FailureCause.TheVariants.{Signal}
 use Rattle.worker.specs.declared.runner.RunError.{RunError}
 use Rattle.worker.specs.declared.runner.RunError.TheVariants.{Device, Memory}
 
--- the other runner
+-- the runner that gets the other calls
 abbrev pub inner_of : {N : Type 0} → FailRunner N → N
 inner_of r = r.inner
 
--- which call from here on fails, 1 being the next; 0 where none will
+-- the call from here on that fails, 1 being the next; 0 where none will
 abbrev pub until_failure_of : {N : Type 0} → FailRunner N → ℕ
 until_failure_of r = r.until_failure
 
--- how often it failed, be it by itself or since the other did
+-- how often the runner failed, be it by itself or since the inner one did
 abbrev pub failures_of : {N : Type 0} → FailRunner N → ℕ
 failures_of r = r.failures
 

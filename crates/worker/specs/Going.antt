@@ -23,12 +23,13 @@ use Rattle.worker.specs.Values.{StartsNone}
 use Rattle.tree.specs.Folded.{items_of}
 use Rattle.worker.specs.Storing.{IsKeptBut, HasFewTrees, HasResultOf, IsHeldWhole, not_put}
 use Rattle.worker.specs.declared.remembering.Remembered.{Remembered}
-use Rattle.worker.specs.Outcomes.{Yields, YieldsFor, HasAllRight, HasOwnAction, HasTrees, IsHeld}
+use Rattle.worker.specs.Outcomes.{Yields, YieldsFor, HasAllRight, HasOwnAction, HasTrees}
 use Rattle.worker.specs.Outcomes.{CanBeTaken, tree_blobs}
 use Rattle.worker.specs.Steps.{IsActionOf, IsOfProduced, IsOfFinished, blobs_of_job}
 use Rattle.worker.specs.Calls.{running, Call, WasStarted, IsBuiltWith, IsResultFor}
 use Rattle.worker.specs.Calls.{IsLeastStartable, HasNoneStartable, AreTurns}
 use Rattle.worker.specs.Watching.{FinishInOrder, taken_count, turns_in, jobs_after}
+use Rattle.verifier.specs.Recorded.{IsHeld}
 
 -- the job is the child's
 pub record IsJobOf {J : Type 0} (c : Child J) (j : JobValue) : Type 0 where
@@ -65,11 +66,12 @@ pub record IsOwnJob {J : Type 0} (yields : Yields) (may : J → EndValue → Typ
 abbrev pub jobs_with : {J : Type 0} → List (Child J) → List (ℕ × ℕ)
 jobs_with cs = map (λ (c : Child _). (c.id, c.step)) cs
 
--- Calls led to the engine and put results. The children have its jobs, in the order of their
--- starts, and they finish in that order; and they are few.
+-- Calls led to the engine, from one of which no job ran, and put results. The children have its
+-- jobs, in the order of their starts, and they finish in that order; and they are few.
 pub record IsGoing (A : Type 0) {J : Type 0} (yields : Yields) (may : J → EndValue → Type 0)
     (from to : Starts) (before t : Telling) (most : ℕ) (old new : EngineValue)
     (children : List (Child J)) : Type 0 where
+  pub idle : running old.jobs ≡ 0
   pub led : IsBuiltWith A yields from to before t most old new
   pub jobs : AreJobsOf (IsOwnJob yields may t.blobs new) new.jobs children
   pub order : jobs_after [] led.built.led.calls ≡ jobs_with children
@@ -134,12 +136,13 @@ IsOfTurns A yields B e b =
 
 -- ---- how often the store is called
 
--- for what is laid out of an input: its top, each folder and each file
+-- how often the store is called for what is laid out of an input: for its top, each folder and each
+-- file
 abbrev pub IsForLayout : Blobs → DigestValue → ℕ → Type 0
 IsForLayout B input n = (l : LayoutValue) × IsLayoutOf B input l
     × (n ≡ 1 + length l.folders + length l.files)
 
--- for the Trees of what a job finished with, and their Directories
+-- how often the store is called for the Trees of what a job finished with, and their Directories
 abbrev pub IsForTrees : ℕ → EngineValue → EngineValue → ℕ → Type 0
 IsForTrees id old new n =
     (v : OutcomeValue) × IsFinished id v old new × (n ≡ length (tree_blobs v.outputs))
@@ -254,7 +257,7 @@ pub record GoesOnBy (A : Type 0) {J : Type 0} (yields : Yields) (may : J → End
   pub are : going.led.built.led.calls ≡ calls ++ more
   pub taken : taken_count more ≡ n
 
--- the same other steps have finished as before
+-- at most this step finishes: the others are as they were
 pub record FinishesOnly (i : ℕ) (old new : EngineValue) : Type 0 where
   pub plan : new.plan ≡ old.plan
   pub count : length new.finished ≡ length old.finished

@@ -1,21 +1,19 @@
 -- Where what a job comes to is from.
 use Rattle.std.specs.Prelude.{◌≡◌, ℕ, pos, List, [], ◌∷◌, ◌++◌, map, Some, slice_get}
 use Rattle.std.specs.List.{AllByRecursion}
-use Rattle.blob_digest.specs.Digest.{DigestValue, digest_of}
+use Rattle.blob_digest.specs.Digest.{digest_of}
 use Rattle.messages.specs.Directory.{directory_bytes}
 use Rattle.messages.specs.Tree.{TreeValue, tree_bytes}
 use Rattle.action_messages.specs.Action.{action_bytes, with_input}
-use Rattle.action_messages.specs.ActionResult.{ActionResultValue}
 use Rattle.action_messages.specs.Command.{CommandValue}
 use Rattle.action_messages.specs.Frame.{FrameValue}
 use Rattle.actions.specs.declared.outcome.Output.TheVariants as outputs
 use Rattle.actions.specs.Outcome.{OutputValue, OutcomeValue}
-use Rattle.actions.specs.Recorded.{IsRecorded}
 use Rattle.blob_source.specs.Source.{Blobs, Telling}
 use Rattle.blob_source.specs.Sink.{HasRight}
 use Rattle.tree.specs.Tree.{Name}
 use Rattle.runs.specs.Engine.{JobValue, EngineValue}
-use Rattle.verifier.specs.Holding.{HoldsResult}
+use Rattle.verifier.specs.Recorded.{IsHeld}
 use Rattle.verifier.specs.StepChecks.{AreListed}
 use Rattle.worker.specs.Values.{LayoutValue, ProducedValue, EndValue, made, IsOf, program_of}
 use Rattle.worker.specs.Layout.{IsLayoutOf}
@@ -92,12 +90,6 @@ pub record IsYielded (yields : Yields) (B : Blobs) (e : EngineValue) (j : JobVal
 -- an outcome that a build takes: its exit code is 0, and the command lists each output
 abbrev pub CanBeTaken : CommandValue → OutcomeValue → Type 0
 CanBeTaken c v = (v.exit_code ≡ pos 0) × AreListed c v
-
--- the outcome is the one that the store has recorded under a digest
-pub record IsHeld (t : Telling) (d : DigestValue) (v : OutcomeValue) : Type 0 where
-  pub result : ActionResultValue
-  pub held : HoldsResult t.results d result
-  pub recorded : IsRecorded t.blobs result v
 
 -- A job came to an outcome that the store has recorded for its action, and that a build takes for
 -- the command of its step.

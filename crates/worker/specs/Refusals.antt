@@ -33,7 +33,7 @@ of_tree e = laying.Source e
 abbrev pub IsLaid : Blobs → Standing NodeValue → Type 0
 IsLaid B s = (s ≡ a_directory) ⊎ ((b : List ℕ) × IsFileWith B b s)
 
--- why one isn't: it is a link, or a file whose content isn't fetched
+-- why an entry isn't laid out: it is a link, or a file whose content isn't fetched
 abbrev pub FailsToLay : {A : Type 0} → Blobs → List Name → Standing NodeValue → LayoutError A
     → Type 0
 FailsToLay B p (a_leaf (nodes.File d x)) (laying.Source e) = Explains (FailsBlob B d) e

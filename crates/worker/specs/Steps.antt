@@ -13,26 +13,35 @@ use Rattle.runs.specs.Calls.{IsPrepared}
 use Rattle.runs.specs.Engine.{FinishedValue, JobValue, EngineValue, finished_in}
 use Rattle.runs.specs.declared.starting.Job.{Job}
 use Rattle.worker.specs.Calls.{Call, CameTo}
-use Rattle.worker.specs.Outcomes.{Yields, MayComeTo, IsYielded, IsHeld, CanBeTaken, blobs_made}
+use Rattle.worker.specs.Outcomes.{Yields, MayComeTo, IsYielded, CanBeTaken, blobs_made}
 use Rattle.worker.specs.Outcomes.{tree_blobs}
 use Rattle.worker.specs.Values.{ProducedValue, made}
+use Rattle.verifier.specs.Recorded.{HaveOneForm, IsHeld}
 
--- a child of the step's action yielded what the step came to
-abbrev pub CameOfChild : Yields → Blobs → EngineValue → FinishedValue → Type 0
-CameOfChild yields B e f = (j : JobValue) × (j.action ≡ f.action) × IsYielded yields B e j f.outcome
+-- In the calls a child of the action came to the outcome, which its step has. The runner yields it
+-- for the layout that is told under the input of the child's job, and for the step's command.
+pub record CameOfChild (yields : Yields) (calls : List Call) (B : Blobs) (e : EngineValue)
+    (d : DigestValue) (v : OutcomeValue) : Type 0 where
+  pub came : CameTo calls d v
+  pub job : JobValue
+  pub action : job.action ≡ d
+  pub finished : finished_in job.step e ≡ Some (record { action = d; outcome = v })
+  pub yielded : IsYielded yields B e job v
 
 -- The store's result for the step's action was taken. It stands there still, and none was put under
--- the action's digest; or else a child of the same action came to something.
-pub record WasTaken (calls : List Call) (put : List DigestValue) (t : Telling)
-    (f : FinishedValue) : Type 0 where
+-- the action's digest; or else what the step came to is of one form with what a child of the same
+-- action came to.
+pub record WasTaken (yields : Yields) (calls : List Call) (put : List DigestValue) (t : Telling)
+    (e : EngineValue) (f : FinishedValue) : Type 0 where
   pub bytes : List ℕ
   pub result : ActionResultValue
   pub reads : Reads result bytes
   pub recorded : IsRecorded t.blobs result f.outcome
   pub stands : ((t.results f.action ≡ Some bytes) × (Contains put f.action → ⊥))
-      ⊎ ((v : OutcomeValue) × CameTo calls f.action v)
+      ⊎ ((v : OutcomeValue) × CameOfChild yields calls t.blobs e f.action v
+      × HaveOneForm v f.outcome)
 
--- the same build, in which what had finished has
+-- an engine of the same build, in which each step that had finished has, with its outcome
 pub record IsSameBuild (old new : EngineValue) : Type 0 where
   pub plan : new.plan ≡ old.plan
   pub sources : new.sources ≡ old.sources

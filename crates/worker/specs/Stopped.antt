@@ -77,7 +77,7 @@ IsOfChild (refusals.Layout why) = Unit {0}
 IsOfChild (refusals.Run why) = Unit {0}
 IsOfChild r = ⊥
 
--- for the job of a step the store had no result to take before
+-- the store had no result to take before for the job of a step
 abbrev pub HadNoneFor : List Call → Telling → EngineValue → ℕ → Type 0
 HadNoneFor calls before e i = HasJobOf e i (λ id j.
     (c : CommandValue) × (slice_get e.commands i ≡ Some c) × LeavesNone calls before j.action c)
@@ -115,7 +115,7 @@ pub record EndsBuild {T : Type 0} (A : Type 0) (yields : Yields) (before t : Tel
   pub whole : List Call
   pub turns : AreTurns whole
   pub all : OnOk result (calls ≡ whole)
-  -- or the step of the next turn is refused
+  -- where the build fails, the step of the next turn is refused
   pub refused : IfErr result
       (λ e. IsRefusedBuild A yields before t most whole calls old new e.step e.refusal)
   -- whatever is answered, children's jobs finish in the order of their starts, and a result was put

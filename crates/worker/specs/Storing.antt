@@ -13,12 +13,12 @@ use Rattle.blob_source.specs.Source.{Blobs, Telling, IsBlobUnder}
 use Rattle.blob_source.specs.Sink.{HasRight, KeepsRight}
 use Rattle.tree.specs.Memo.{Asked, Known, blob, result, known_by}
 use Rattle.verifier.specs.Holding.{HoldsResult}
-use Rattle.runs.specs.Calls.{HaveOneForm}
+use Rattle.verifier.specs.Recorded.{HaveOneForm, IsHeld}
 use Rattle.runs.specs.Engine.{FinishedValue, EngineValue, finished_in}
 use Rattle.runs.specs.Results.{result_of}
 use Rattle.runs.specs.Served.{IsKeptOf}
 use Rattle.worker.specs.declared.remembering.Remembered.{Remembered}
-use Rattle.worker.specs.Outcomes.{HasTrees, IsHeld, blobs_made}
+use Rattle.worker.specs.Outcomes.{HasTrees, blobs_made}
 use Rattle.worker.specs.Stored.{PutsNoOther}
 use Rattle.worker.specs.Values.{ProducedValue, EndValue, made}
 

@@ -35,13 +35,17 @@ Starts = List StartValue → Type 0
 abbrev pub StartsOne : Starts → Starts → StartValue → Type 0
 StartsOne old new s = (before : List StartValue) → old before → new (before ++ s ∷ [])
 
--- these were started, one after another
+-- children were started, one after another
 abbrev pub StartsAll : List StartValue → Starts → Starts → Type 0
 StartsAll more old new = (before : List StartValue) → old before → new (before ++ more)
 
 -- none was
 abbrev pub StartsNone : Starts → Starts → Type 0
 StartsNone old new = (before : List StartValue) → old before → new before
+
+-- what the one says of children that ran, the other does
+abbrev pub SaysNoMore : Starts → Starts → Type 0
+SaysNoMore some all = (ran : List StartValue) → some ran → all ran
 
 abbrev pub contents_of : {A : Type 0} → List (List (List ℕ) × Vec ℕ A)
     → List (List (List ℕ) × List ℕ)

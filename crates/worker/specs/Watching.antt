@@ -13,18 +13,19 @@ use Rattle.worker.specs.Outcomes.{Yields}
 
 -- ---- what a watcher is told
 
--- these were told, one after another; of a watcher with `None` nothing is known
+-- the watcher was told these numbers, one after another; of one with `None` nothing is known
 abbrev pub Hears : Option (List Progress) → Option (List Progress) → List Progress → Type 0
 Hears None after ps = Unit {0}
 Hears (Some before) None ps = ⊥
 Hears (Some before) (Some after) ps = after ≡ before ++ ps
 
--- the first of these is as it has to be after one turn more than these, and so on
+-- the first of these numbers is as it has to be after one turn more than these, and so on
 abbrev pub AreAfterTurns : (ℕ → Progress → Type 0) → ℕ → List Progress → Type 0
 AreAfterTurns Is turns [] = Unit {0}
 AreAfterTurns Is turns (p ∷ ps) = Is (suc turns) p × AreAfterTurns Is (suc turns) ps
 
--- one was told after each of so many first turns, and each is as it has to be after so many
+-- the watcher was told the numbers after each of so many first turns, each time as they have to be
+-- then
 pub record IsWatched (Is : ℕ → Progress → Type 0) (turns : ℕ)
     (before after : Option (List Progress)) : Type 0 where
   pub told : List Progress

@@ -9,7 +9,7 @@ ghost use Rattle.worker.specs.Stored.{IsKept, KeepsAllBut};
 ghost use Rattle.worker.specs.Storing.{HasPutAll, Remembers, StaysPut, StaysRemembered, WerePut};
 ghost use Rattle.worker.specs.Calls.{IsStartable};
 ghost use Rattle.worker.specs.Outcomes.{YieldsFor, YieldsNoMore};
-ghost use Rattle.worker.specs.Values.{LayoutValue, EndValue, StartsNone, StartsOne};
+ghost use Rattle.worker.specs.Values.{LayoutValue, EndValue, SaysNoMore, StartsNone, StartsOne};
 ghost use Rattle.tree.specs.Folded.{items_of};
 ghost use Rattle.worker.specs.Going.{CallsForJob, CallsForStart, IsJobIn, kept_job, IsBegun};
 ghost use Rattle.worker.specs.Going.{HasNoneToTake, IsForGone, IsLaunched, IsOfTurns};
@@ -54,7 +54,7 @@ fn start_child<A: Allocator + Copy, S: BlobSink<A>, N: Runner<A>>(
     ensures same { YieldsNoMore (N.yields runner.new) (N.yields runner.old) }
     ensures opened { OnOk result (N.alive runner.new ≡ N.alive runner.old + 1) }
     ensures unopened { OnErr result (N.alive runner.new ≡ N.alive runner.old) }
-    ensures below { N.work runner.new ≡ N.work runner.old }
+    ensures no_more { SaysNoMore (N.ran runner.new) (N.ran runner.old) }
     ensures fetched { Counts (S.tells sink.old).failures (S.tells sink.new).failures
         (IsErrAnd result IsFetch) }
     ensures device { Counts (N.failures runner.old) (N.failures runner.new)
@@ -101,7 +101,7 @@ fn launch<A: Allocator + Copy, S: BlobSink<A>, N: Runner<A>>(
     ensures within { YieldsNoMore (N.yields runner.new) (N.yields runner.old) }
     ensures alive { N.alive runner.new + length children.old.items
         ≡ N.alive runner.old + length children.new.items }
-    ensures below { N.work runner.new ≡ N.work runner.old }
+    ensures no_more { SaysNoMore (N.ran runner.new) (N.ran runner.old) }
     ensures fetched { Counts (S.tells sink.old).failures (S.tells sink.new).failures
         (IsErrAnd result IsFetch) }
     ensures device { Counts (N.failures runner.old) (N.failures runner.new)
@@ -165,7 +165,7 @@ pub(crate) fn begin<A: Allocator + Copy, S: BlobSink<A>, N: Runner<A>>(
     ensures within { YieldsNoMore (N.yields runner.new) (N.yields runner.old) }
     ensures alive { N.alive runner.new + length children.old.items
         ≡ N.alive runner.old + length children.new.items }
-    ensures below { N.work runner.new ≡ N.work runner.old }
+    ensures no_more { SaysNoMore (N.ran runner.new) (N.ran runner.old) }
     ensures fetched { Counts (S.tells sink.old).failures (S.tells sink.new).failures
         (IsErrAnd result (λ e. IsFetch e.refusal)) }
     ensures device { Counts (N.failures runner.old) (N.failures runner.new)

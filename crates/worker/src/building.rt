@@ -11,6 +11,7 @@ ghost use Rattle.worker.specs.Going.{AreJobsOf, IsJobOf, IsGoing};
 ghost use Rattle.worker.specs.Stopped.{EndsBuild, LosesRest};
 ghost use Rattle.worker.specs.Steps.{IsOfBuild};
 ghost use Rattle.worker.specs.Stored.{HasNoneFinished, IsStored, KeepsAllBut};
+ghost use Rattle.worker.specs.Values.{SaysNoMore};
 
 use crate::child::Child;
 use crate::counting::{before_turn, first_progress, progress_after};
@@ -43,7 +44,7 @@ fn end_all<A: Allocator + Copy, N: Runner<A>>(
     ensures idle { running engine.new.jobs ≡ 0 }
     ensures alive { (count : ℕ) → N.alive runner.old ≡ count + length children.items
         → N.alive runner.new ≡ count }
-    ensures below { N.work runner.new ≡ N.work runner.old }
+    ensures no_more { SaysNoMore (N.ran runner.new) (N.ran runner.old) }
     ensures device { N.failures runner.old ≤ N.failures runner.new }
     ensures none { children.items ≡ [] → N.failures runner.new ≡ N.failures runner.old }
 {
@@ -92,7 +93,7 @@ fn take_turns<A: Allocator + Copy, S: BlobSink<A>, N: Runner<A>, W: Watcher>(
         (S.tells sink.old).blobs (S.tells sink.new).blobs }
     ensures stays { StaysRemembered underway.old.remembered underway.new.remembered }
     ensures alive { N.alive runner.new ≡ N.alive runner.old + length underway.new.children.items }
-    ensures below { N.work runner.new ≡ N.work runner.old }
+    ensures no_more { SaysNoMore (N.ran runner.new) (N.ran runner.old) }
     ensures fetched { Counts (S.tells sink.old).failures (S.tells sink.new).failures
         (IsErrAnd result (λ e. IsFetch e.refusal)) }
     ensures device { Counts (N.failures runner.old) (N.failures runner.new)
@@ -144,7 +145,7 @@ pub fn build<A: Allocator + Copy, S: BlobSink<A>, N: Runner<A>, W: Watcher>(
     ensures idle { running engine.new.jobs ≡ 0 }
     // Each child that was started was waited for.
     ensures alive { N.alive runner.new ≡ N.alive runner.old }
-    ensures below { N.work runner.new ≡ N.work runner.old }
+    ensures no_more { SaysNoMore (N.ran runner.new) (N.ran runner.old) }
     ensures right { KeepsRight (S.tells sink.old).blobs (S.tells sink.new).blobs }
     // What stands under the digest of no blob that the build has to put stays.
     ensures blobs { KeepsAllBut (IsOfBuild A (N.yields runner.old) (S.tells sink.new) engine.new)

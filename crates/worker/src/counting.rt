@@ -16,7 +16,7 @@ use std::collections::VecDeque;
 /// A turn that is to be taken.
 #[derive(Clone, Copy)]
 pub(crate) struct Before {
-    /// Its step.
+    /// The step of the turn.
     step: usize,
     is_start: bool,
     /// Whether the step had finished.

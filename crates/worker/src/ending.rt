@@ -5,7 +5,7 @@ ghost use Rattle.runs.specs.Engine.{JobValue, job_in};
 ghost use Rattle.std.specs.Result.{IsErrAnd};
 ghost use Rattle.worker.specs.Counted.{Counts, IsDevice, IsFetch};
 ghost use Rattle.worker.specs.Outcomes.{YieldsNoMore, HasAllRight, HasTrees};
-ghost use Rattle.worker.specs.Values.{ProducedValue, StartsNone, made};
+ghost use Rattle.worker.specs.Values.{ProducedValue, SaysNoMore, StartsNone, made};
 ghost use Rattle.worker.specs.Going.{AreJobsOf, IsJobOf, HasEndedFirst, EndedWell};
 ghost use Rattle.worker.specs.Going.{HasResultOfFirst, PutsFirst};
 ghost use Rattle.worker.specs.Stopping.{StopsCollecting, StopsEnd, StopsSettling};
@@ -49,7 +49,7 @@ fn collect<A: Allocator + Copy, S: BlobSink<A>, N: Runner<A>>(
     ensures within { YieldsNoMore (N.yields runner.new) (N.yields runner.old) }
     ensures unlisted { StartsNone (N.starts runner.old) (N.starts runner.new) }
     ensures closed { N.alive runner.new ≡ N.alive runner.old - 1 }
-    ensures below { N.work runner.new ≡ N.work runner.old }
+    ensures no_more { SaysNoMore (N.ran runner.new) (N.ran runner.old) }
     ensures fetched { Counts (S.tells sink.old).failures (S.tells sink.new).failures
         (IsErrAnd result IsFetch) }
     ensures device { Counts (N.failures runner.old) (N.failures runner.new)
@@ -80,7 +80,7 @@ fn take<A: Allocator + Copy, S: BlobSink<A>, N: Runner<A>>(
     ensures within { YieldsNoMore (N.yields runner.new) (N.yields runner.old) }
     ensures unlisted { StartsNone (N.starts runner.old) (N.starts runner.new) }
     ensures closed { N.alive runner.new ≡ N.alive runner.old - 1 }
-    ensures below { N.work runner.new ≡ N.work runner.old }
+    ensures no_more { SaysNoMore (N.ran runner.new) (N.ran runner.old) }
     ensures fetched { Counts (S.tells sink.old).failures (S.tells sink.new).failures
         (IsErrAnd result IsFetch) }
     ensures device { Counts (N.failures runner.old) (N.failures runner.new)
@@ -114,7 +114,7 @@ fn settle<A: Allocator + Copy, S: BlobSink<A>, N: Runner<A>>(
     ensures within { YieldsNoMore (N.yields runner.new) (N.yields runner.old) }
     ensures unlisted { StartsNone (N.starts runner.old) (N.starts runner.new) }
     ensures closed { N.alive runner.new ≡ N.alive runner.old - 1 }
-    ensures below { N.work runner.new ≡ N.work runner.old }
+    ensures no_more { SaysNoMore (N.ran runner.new) (N.ran runner.old) }
     ensures fetched { Counts (S.tells sink.old).failures (S.tells sink.new).failures
         (IsErrAnd result IsFetch) }
     ensures device { Counts (N.failures runner.old) (N.failures runner.new)
@@ -161,7 +161,7 @@ pub(crate) fn finish_first<A: Allocator + Copy, S: BlobSink<A>, N: Runner<A>>(
     ensures within { YieldsNoMore (N.yields runner.new) (N.yields runner.old) }
     ensures unlisted { StartsNone (N.starts runner.old) (N.starts runner.new) }
     ensures closed { N.alive runner.new ≡ N.alive runner.old - 1 }
-    ensures below { N.work runner.new ≡ N.work runner.old }
+    ensures no_more { SaysNoMore (N.ran runner.new) (N.ran runner.old) }
     ensures fetched { Counts (S.tells sink.old).failures (S.tells sink.new).failures
         (IsErrAnd result (λ e. IsFetch e.refusal)) }
     ensures device { Counts (N.failures runner.old) (N.failures runner.new)

@@ -6,8 +6,8 @@ ghost use Rattle.worker.specs.Counted.{Counts, IsFailure, TellsRunFailure};
 ghost use Rattle.worker.specs.FailRunner.{FailsRun, IsFreshRunner, failures_of, inner_of};
 ghost use Rattle.worker.specs.FailRunner.{may_give_of, program_in, until_failure_of, yields_of};
 ghost use Rattle.worker.specs.Outcomes.{YieldsFor, YieldsNoMore};
-ghost use Rattle.worker.specs.Values.{IsAbsolute, EndValue, StartsNone, StartsOne, bad_at, failed};
-ghost use Rattle.worker.specs.Values.{made, program_of};
+ghost use Rattle.worker.specs.Values.{IsAbsolute, EndValue, SaysNoMore, StartsNone, StartsOne};
+ghost use Rattle.worker.specs.Values.{bad_at, failed, made, program_of};
 
 use crate::failure::{FailureCause, program_of};
 use crate::laid::Layout;
@@ -48,14 +48,14 @@ impl<N> FailRunner<N> {
         }
     }
 
-    /// The other runner.
+    /// The runner that gets the other calls.
     pub fn inner(&self) -> &N
         ensures { result.now ≡ inner_of self.now }
     {
         &self.inner
     }
 
-    /// Which call from here on fails, 1 being the next; 0 where none will.
+    /// The call from here on that fails, 1 being the next; 0 where none will.
     pub fn until_failure(&self) -> u64
         ensures { result ≡ until_failure_of self.now }
     {
@@ -143,7 +143,7 @@ impl<A: Allocator + Copy, N: Runner<A>> Runner<A> for FailRunner<N> {
 
     ghost failures = { failures_of };
 
-    ghost work = { λ r. N.work (inner_of r) };
+    ghost ran = { λ r. N.ran (inner_of r) };
 
     fn start(
         &mut self,
@@ -163,7 +163,7 @@ impl<A: Allocator + Copy, N: Runner<A>> Runner<A> for FailRunner<N> {
             (N.alive (inner_of self.new) ≡ N.alive (inner_of self.old) + 1) }
         ensures unopened { OnErr result
             (N.alive (inner_of self.new) ≡ N.alive (inner_of self.old)) }
-        ensures below { N.work (inner_of self.new) ≡ N.work (inner_of self.old) }
+        ensures no_more { SaysNoMore (N.ran (inner_of self.new)) (N.ran (inner_of self.old)) }
         ensures refused { IsErrOf result RunError.NotAbsolute → IsAbsolute command.now → ⊥ }
         ensures bad { (path : List (List ℕ)) → IsErrOf result (RunError.BadOutput path) → ⊥ }
         ensures device { IfErr result
@@ -192,7 +192,7 @@ impl<A: Allocator + Copy, N: Runner<A>> Runner<A> for FailRunner<N> {
         ensures unlisted { StartsNone (N.starts (inner_of self.old))
             (N.starts (inner_of self.new)) }
         ensures closed { N.alive (inner_of self.new) ≡ N.alive (inner_of self.old) - 1 }
-        ensures below { N.work (inner_of self.new) ≡ N.work (inner_of self.old) }
+        ensures no_more { SaysNoMore (N.ran (inner_of self.new)) (N.ran (inner_of self.old)) }
         ensures absolute { IsErrOf result RunError.NotAbsolute → ⊥ }
         ensures device { IfErr result (TellsRunFailure (may_give_of N.may_give job)) }
         ensures counted { Counts (failures_of self.old) (failures_of self.new)

@@ -11,16 +11,17 @@ ghost use Rattle.worker.specs.TwoSteps as example;
 use crate::runner::Runner;
 use std::alloc::Allocator;
 
-/// Of each step that finished in a build: a child of its action yielded what it came to; or the
-/// store's result for its action was taken, and nothing was put under the action's digest, unless a
-/// child of the same action came to something. A law: it does nothing.
+/// Of each step that finished in a build: a child of its action came to what it has, which the
+/// runner yields for the layout that is told under the input; or the store's result for its action
+/// was taken. Then nothing was put under the action's digest, and the result stands there still, or
+/// what it has is of one form with what a child of the same action came to. A law: it does nothing.
 pub fn steps_are_yielded_or_taken<A: Allocator, N: Runner<A>>(runner: &N)
     ensures { (before t : Telling) (most : ℕ) (first last : EngineValue)
         → (built : IsBuiltBy A (N.yields runner.now) before t most first last)
         → HasNoneFinished first
         → (i : ℕ) (f : FinishedValue) → finished_in i last ≡ Some f
-        → CameOfChild (N.yields runner.now) t.blobs last f
-        ⊎ WasTaken built.led.calls built.puts.put t f }
+        → CameOfChild (N.yields runner.now) built.led.calls t.blobs last f.action f.outcome
+        ⊎ WasTaken (N.yields runner.now) built.led.calls built.puts.put t last f }
 {}
 
 /// Of each step that finished in a build: its digest is that of its own action, the step's frame

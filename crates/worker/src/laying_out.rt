@@ -70,7 +70,7 @@ fn gather<A: Allocator + Copy, S: BlobSource<A>>(
     Ok(Layout { folders, files })
 }
 
-/// The same folders and files, in the order of the texts of their paths.
+/// The layout's folders and files, in the order of the texts of their paths.
 fn sort<A: Allocator>(layout: Layout<A>) -> Layout<A>
     ensures folders { IsPermutation layout.folders result.folders }
     ensures files { IsPermutation layout.files result.files }

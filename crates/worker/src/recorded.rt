@@ -4,12 +4,13 @@ ghost use Rattle.std.specs.Result.{IsErrAnd};
 ghost use Rattle.blob_source.specs.Source.{Grows};
 ghost use Rattle.worker.specs.Counted.{Counts, IsFetch};
 ghost use Rattle.worker.specs.Stored.{IsKept};
-ghost use Rattle.worker.specs.Outcomes.{IsHeld, CanBeTaken};
+ghost use Rattle.worker.specs.Outcomes.{CanBeTaken};
 ghost use Rattle.worker.specs.Going.{HasNoneToTake};
 ghost use Rattle.worker.specs.Stopped.{IsStoreFault};
 ghost use Rattle.worker.specs.Storing.{AsksResultOnce};
 ghost use Rattle.std.specs.List.{AllByRecursion};
 ghost use Rattle.actions.specs.Outcome.{outputs_in, paths_of_outputs};
+ghost use Rattle.verifier.specs.Recorded.{IsHeld};
 
 use crate::error::StepRefusal;
 use actions::{ActionResult, Command, Outcome, Output, recorded};

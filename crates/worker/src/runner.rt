@@ -3,7 +3,7 @@ ghost use Rattle.std.specs.Result.{IsErrAnd};
 ghost use Rattle.worker.specs.declared.runner.RunError.TheVariants as errors;
 ghost use Rattle.worker.specs.Counted.{Counts, IsFailure, TellsRunFailure};
 ghost use Rattle.worker.specs.Outcomes.{YieldsFor, YieldsNoMore};
-ghost use Rattle.worker.specs.Values.{IsAbsolute, StartsOne, StartsNone, made, bad_at};
+ghost use Rattle.worker.specs.Values.{IsAbsolute, SaysNoMore, StartsOne, StartsNone, made, bad_at};
 
 use crate::failure::FailureCause;
 use crate::laid::Layout;
@@ -91,8 +91,8 @@ pub trait Runner<A: Allocator> {
     /// How often it failed.
     ghost failures: { Self → ℕ };
 
-    /// The folder below which its children run, as the bytes of its path. It stays the same.
-    ghost work: { Self → List ℕ };
+    /// What may be said of all the children that it started, once each was waited for.
+    ghost ran: { Self → List StartValue → Type 0 };
 
     /// Starts a child for a command in a layout. After an error none was started.
     fn start(
@@ -109,7 +109,7 @@ pub trait Runner<A: Allocator> {
         ensures unlisted { OnErr result (StartsNone (starts self.old) (starts self.new)) }
         ensures opened { OnOk result (alive self.new ≡ alive self.old + 1) }
         ensures unopened { OnErr result (alive self.new ≡ alive self.old) }
-        ensures below { work self.new ≡ work self.old }
+        ensures no_more { SaysNoMore (ran self.new) (ran self.old) }
         ensures refused { IsErrOf result RunError.NotAbsolute → IsAbsolute command.now → ⊥ }
         ensures bad { (path : List (List ℕ)) → IsErrOf result (RunError.BadOutput path) → ⊥ }
         ensures device { IfErr result
@@ -125,7 +125,7 @@ pub trait Runner<A: Allocator> {
         ensures same { YieldsNoMore (yields self.new) (yields self.old) }
         ensures unlisted { StartsNone (starts self.old) (starts self.new) }
         ensures closed { alive self.new ≡ alive self.old - 1 }
-        ensures below { work self.new ≡ work self.old }
+        ensures no_more { SaysNoMore (ran self.new) (ran self.old) }
         ensures absolute { IsErrOf result RunError.NotAbsolute → ⊥ }
         ensures device { IfErr result (TellsRunFailure (may_give job)) }
         ensures counted { Counts (failures self.old) (failures self.new)

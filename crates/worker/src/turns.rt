@@ -17,6 +17,7 @@ ghost use Rattle.worker.specs.Going.{IsOfTurns, taken_in};
 ghost use Rattle.worker.specs.Steps.{IsOfBuild, IsSameBuild};
 ghost use Rattle.worker.specs.Stopped.{IsRefusedBuild};
 ghost use Rattle.worker.specs.Stored.{KeepsAllBut};
+ghost use Rattle.worker.specs.Values.{SaysNoMore};
 
 use crate::beginning::begin;
 use crate::child::Child;
@@ -148,7 +149,7 @@ pub(crate) fn take_turn<A: Allocator + Copy, S: BlobSink<A>, N: Runner<A>>(
     ensures within { YieldsNoMore (N.yields runner.new) (N.yields runner.old) }
     ensures alive { N.alive runner.new + length children.old.items
         ≡ N.alive runner.old + length children.new.items }
-    ensures below { N.work runner.new ≡ N.work runner.old }
+    ensures no_more { SaysNoMore (N.ran runner.new) (N.ran runner.old) }
     ensures fetched { Counts (S.tells sink.old).failures (S.tells sink.new).failures
         (IsErrAnd result (λ e. IsFetch e.refusal)) }
     ensures device { Counts (N.failures runner.old) (N.failures runner.new)

@@ -33,7 +33,7 @@ returns-in_err-engine g c =
           alone = λ one. counts_exit (λ e. IsRunnerFailure (fault_of e)) c.from_residual.result c.from_residual.ensures.1 (counts_none (opening_no_device _));
         };
       };
-      below = refl;
+      no_more = λ ran h. h;
     }
 
 pub returns-in_err-build : goal.returns-in_err-build
@@ -58,7 +58,7 @@ returns-in_err-build g c =
               (counts_device (Step c.in_err-build.field-0.0.step) c.in_err-build.field-0.0.refusal (c.in_err-build.ensures.alone one));
         };
       };
-      below = c.build.ensures.below;
+      no_more = c.build.ensures.no_more;
     }
 
 pub returns-in_err-built : goal.returns-in_err-built
@@ -83,7 +83,7 @@ returns-in_err-built g c =
           alone = λ one. counts_from c.in_ok-build.ensures.unfailed (counts_exit (λ e. IsRunnerFailure (fault_of e)) c.from_residual-in_err-built.result c.from_residual-in_err-built.ensures.1 (counts_none (λ f. device_refusal Root (refusals.Engine c.in_err-built.field-0.0) f)));
         };
       };
-      below = c.build.ensures.below;
+      no_more = c.build.ensures.no_more;
     }
 
 pub returns : goal.returns
@@ -118,5 +118,5 @@ returns g c =
           alone = λ one. counts_same (λ f. f) c.in_ok-build.ensures.unfailed;
         };
       };
-      below = c.build.ensures.below;
+      no_more = c.build.ensures.no_more;
     }

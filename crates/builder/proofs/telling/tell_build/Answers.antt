@@ -11,7 +11,7 @@ returns-in_err-tell_root-in-Ok g c = record {
     came = memory_told _ _ _ _ _ _ c.build_plan.result c.build_plan.ensures.build.came (subst CanBeTold (sym c.in-Ok.is) tt) _ c.from_residual.ensures.1;
     order = order_quiet _ c.build_plan.ensures.build.order (quiet_ok _ _ c.in-Ok.is) (quiet_memory _ c.from_residual.ensures.1);
   };
-  below = c.build_plan.ensures.below;
+  no_more = c.build_plan.ensures.no_more;
 }
 
 pub returns-in-Ok : goal.returns-in-Ok
@@ -20,7 +20,7 @@ returns-in-Ok g c = record {
     came = record { came = c.build_plan.result; builds = c.build_plan.ensures.build.came; tells = rw c.in-Ok.is c.in_ok-tell_root-in-Ok.ensures };
     order = order_quiet _ c.build_plan.ensures.build.order (quiet_ok _ _ c.in-Ok.is) (λ F memory refused f. f);
   };
-  below = c.build_plan.ensures.below;
+  no_more = c.build_plan.ensures.no_more;
 }
 
 pub returns-in_err-line : goal.returns-in_err-line
@@ -29,7 +29,7 @@ returns-in_err-line g c = record {
     came = memory_told _ _ _ _ _ _ c.build_plan.result c.build_plan.ensures.build.came (subst CanBeTold (sym c.in-Err.is) (λ h. subst HasNoNumber (sym c.fault_of.ensures ∙ c.in-Refused.is) h)) _ c.from_residual-in_err-line.ensures.1;
     order = order_quiet _ c.build_plan.ensures.build.order (quiet_refused _ _ _ _ c.in-Err.is (sym c.fault_of.ensures ∙ c.in-Refused.is)) (quiet_memory _ c.from_residual-in_err-line.ensures.1);
   };
-  below = c.build_plan.ensures.below;
+  no_more = c.build_plan.ensures.no_more;
 }
 
 pub returns-in_err-why : goal.returns-in_err-why
@@ -38,7 +38,7 @@ returns-in_err-why g c = record {
     came = memory_told _ _ _ _ _ _ c.build_plan.result c.build_plan.ensures.build.came (subst CanBeTold (sym c.in-Err.is) (λ h. subst HasNoNumber (sym c.fault_of.ensures ∙ c.in-Refused.is) h)) _ c.from_residual-in_err-why.ensures.1;
     order = order_quiet _ c.build_plan.ensures.build.order (quiet_refused _ _ _ _ c.in-Err.is (sym c.fault_of.ensures ∙ c.in-Refused.is)) (quiet_memory _ c.from_residual-in_err-why.ensures.1);
   };
-  below = c.build_plan.ensures.below;
+  no_more = c.build_plan.ensures.no_more;
 }
 
 pub returns : goal.returns
@@ -57,5 +57,5 @@ returns g c = record {
     };
     order = order_quiet _ c.build_plan.ensures.build.order (quiet_refused _ _ _ _ c.in-Err.is (sym c.fault_of.ensures ∙ c.in-Refused.is)) (λ F memory refused f. f);
   };
-  below = c.build_plan.ensures.below;
+  no_more = c.build_plan.ensures.no_more;
 }

@@ -16,9 +16,6 @@ returns-clause-plan c = plan_valid
 pub returns-clause-accepted : goal.returns-clause-accepted
 returns-clause-accepted c = as_recorded two.sources
 
-pub returns-clause-tree : goal.returns-clause-tree
-returns-clause-tree c = (tt, sources_named)
-
 pub returns-clause-run : goal.returns-clause-run
 returns-clause-run c = runs_once
 
@@ -27,11 +24,15 @@ returns-clause-complete c = is_complete
 
 pub returns-clause-fresh : goal.returns-clause-fresh
 returns-clause-fresh c = record {
-  fits = runs_once.fits;
-  table = runs_once.table;
-  agrees = runs_once.agrees;
-  apart = λ x y h k e. no_clash_fresh x y (inl h) (inl k) e;
-  happened = refl;
+  ordered = runs_once.ordered;
+  from = runs_once.from;
+  keeps = record {
+    fits = runs_once.keeps.fits;
+    table = runs_once.keeps.table;
+    agrees = runs_once.keeps.agrees;
+    apart = λ x y h k e. no_clash_fresh x y (inl h) (inl k) e;
+    happened = refl;
+  };
 }
 
 pub returns-clause-open : goal.returns-clause-open

@@ -1,4 +1,4 @@
-use Rattle.verifier.proofs.SourceStep.{reading_valid, as_recorded, is_source, runs, is_complete}
+use Rattle.verifier.proofs.SourceStep.{reading_valid, as_recorded, runs, is_complete}
 use Rattle.verifier.proofs.laws.a_source_meets_the_premises.Goals as goal
 
 pub returns-clause-plan : goal.returns-clause-plan
@@ -6,9 +6,6 @@ returns-clause-plan c = reading_valid
 
 pub returns-clause-accepted : goal.returns-clause-accepted
 returns-clause-accepted c = as_recorded
-
-pub returns-clause-tree : goal.returns-clause-tree
-returns-clause-tree c = is_source
 
 pub returns-clause-run : goal.returns-clause-run
 returns-clause-run c = runs

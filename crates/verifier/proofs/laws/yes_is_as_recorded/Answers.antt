@@ -1,4 +1,4 @@
-use Rattle.verifier.proofs.Passing.{yes_recorded, recorded_yes, differs_recorded, recorded_verdict}
+use Rattle.verifier.proofs.Passing.{yes_recorded, recorded_yes, differs_recorded, recorded_verdict, recorded_stays}
 use Rattle.verifier.proofs.laws.yes_is_as_recorded.Goals as goal
 
 pub returns-clause-yes : goal.returns-clause-yes
@@ -10,3 +10,6 @@ returns-clause-differs g c = λ tells sources plan recorded claim other h. diffe
 
 pub returns-clause-accepted : goal.returns-clause-accepted
 returns-clause-accepted g c = λ tells sources plan recorded claim h. recorded_verdict g.row.A.Denot tells sources plan recorded claim h
+
+pub returns-clause-stays : goal.returns-clause-stays
+returns-clause-stays g c = λ old new sources plan recorded claim blobs results h. recorded_stays g.row.A.Denot old new sources plan recorded claim blobs results h

@@ -3,7 +3,7 @@ use Rattle.std.proofs.Common.{arith, length, ◌+◌, refl, sym, subst, inl, inr
 use Rattle.blob_source.specs.Sink.{HasRight}
 use Rattle.std.specs.Prelude.{IfSome}
 use Rattle.worker.specs.declared.child.Child.{Child}
-use Rattle.worker.specs.Outcomes.{IsHeld, CanBeTakenFor, CanBeTaken, tree_blobs}
+use Rattle.worker.specs.Outcomes.{CanBeTakenFor, CanBeTaken, tree_blobs}
 use Rattle.worker.specs.Going.{kept_job}
 use Rattle.worker.proofs.Stopping.{store_stops, store_no_child, job_begun, child_stops}
 use Rattle.worker.proofs.Telling.{held_kept}
@@ -13,6 +13,7 @@ use Rattle.worker.proofs.PutOnce.{put_still}
 use Rattle.worker.specs.Counted.{IsDevice, IsFetch}
 use Rattle.worker.proofs.Failures.{counts_none, counts_same, counts_from, counts_exit, finish_no_fetch, store_no_device}
 use Rattle.worker.proofs.beginning.launch.Goals as goal
+use Rattle.verifier.specs.Recorded.{IsHeld}
 
 pub returns-in_err-put_trees-clause-kept : goal.returns-in_err-put_trees-clause-kept
 returns-in_err-put_trees-clause-kept g c = kept_trans c.put_input.ensures.kept (kept_trans c.recorded_outcome.ensures.kept c.put_trees.ensures.kept)

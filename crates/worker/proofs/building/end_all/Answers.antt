@@ -1,4 +1,4 @@
-use Rattle.std.proofs.Common.{◌∙◌, arith, refl}
+use Rattle.std.proofs.Common.{arith, refl}
 use Rattle.worker.proofs.Taking.{jobs_now, lost_jobs, lost_goes, lost_count, loses_none}
 use Rattle.worker.proofs.Failures.{counts_risen}
 use Rattle.worker.proofs.building.end_all.Goals as goal
@@ -13,7 +13,7 @@ loop-child-preserved g c =
     record {
       none = λ h. absurd (let none = (c.loop-child.invariant.none h).0 in let some = c.in-Some.ensures.items in cc);
       device = let was = c.loop-child.invariant.device in let now = counts_risen c.finish.result c.finish.ensures.counted in omega (arith, was, now);
-      below = c.finish.ensures.below ∙ c.loop-child.invariant.below;
+      no_more = λ ran h. c.loop-child.invariant.no_more ran (c.finish.ensures.no_more ran h);
       there = lost_jobs c.loop-child.engine c.lose.new.engine c.in-Some.child c.loop-child.rest.items c.pop_front.new.self.items c.in-Some.ensures.items c.loop-child.invariant.there lost;
       going = λ entry s t most first h. let was = c.loop-child.invariant.going entry s t most first h in lost_goes c.loop-child.engine c.lose.new.engine c.in-Some.child c.loop-child.rest.items c.pop_front.new.self.items c.in-Some.ensures.items c.loop-child.invariant.there g.row.A.Denot (g.N.Runner.yields entry) g.N.Runner.may_give lost (g.N.Runner.starts entry) (g.N.Runner.starts c.loop-child.runner) (g.N.Runner.starts c.finish.new.self) c.finish.ensures.unlisted s t most first c.args.engine.now h.led.built.led.calls was.0 was.1;
       alive = λ count h. lost_count c.in-Some.child c.loop-child.rest.items c.pop_front.new.self.items c.in-Some.ensures.items count _ _ (c.loop-child.invariant.alive count h) c.finish.ensures.closed;
@@ -33,7 +33,7 @@ pub loop-child-init : goal.loop-child-init
 loop-child-init g c = record {
   none = λ h. (h, refl);
   device = omega arith;
-  below = refl;
+  no_more = λ ran h. h;
   there = c.requires.there;
   going = λ entry s t most first h. (h, loses_none);
   alive = λ count h. h;

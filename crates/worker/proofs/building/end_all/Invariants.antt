@@ -3,6 +3,7 @@ use Rattle.blob_source.specs.Source.{Telling}
 use Rattle.runs.specs.Engine.{EngineValue}
 use Rattle.worker.specs.Going.{AreJobsOf, IsJobOf, IsGoing}
 use Rattle.worker.specs.Stopped.{LosesRest}
+use Rattle.worker.specs.Values.{SaysNoMore}
 use Rattle.worker.proofs.building.end_all.Given as goal
 
 abbrev pub invariant-loop-child : goal.invariant-loop-child
@@ -13,7 +14,7 @@ invariant-loop-child g l =
     record {
       none : l.fn.children.items ≡ [] → (l.rest.items ≡ []) × (g.N.Runner.failures l.runner ≡ g.N.Runner.failures l.fn.runner);
       device : g.N.Runner.failures l.fn.runner ≤ g.N.Runner.failures l.runner;
-      below : g.N.Runner.work l.runner ≡ g.N.Runner.work l.fn.runner;
+      no_more : SaysNoMore (g.N.Runner.ran l.runner) (g.N.Runner.ran l.fn.runner);
       there : AreJobsOf IsJobOf l.engine.jobs l.rest.items;
       going : (entry : g.row.N.Denot) (s t : Telling) (most : ℕ) (first : EngineValue) → (g0 : IsGoing g.row.A.Denot (yields entry) may (starts entry) (starts l.fn.runner) s t most first l.fn.engine l.fn.children.items)
           → (h : IsGoing g.row.A.Denot (yields entry) may (starts entry) (starts l.runner) s t most first l.engine l.rest.items) × LosesRest g.row.A.Denot (yields entry) t most g0.led.built.led.calls h.led.built.led.calls l.fn.engine l.engine;

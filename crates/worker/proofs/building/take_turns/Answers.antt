@@ -29,7 +29,7 @@ loop-turn-init g c =
             sym (append-nil t.puts),
           );
       within = λ l d p h. h;
-      below = refl;
+      no_more = λ ran h. h;
       right = λ e b at right. at;
       blobs = others_grown (λ e b at. at);
       stored = λ h. h;
@@ -85,7 +85,7 @@ loop-turn-preserved g c =
       device = c.in_ok-take_turn.ensures.device.unfailed (λ f. f) ∙ c.loop-turn.invariant.device;
       stays = remembers_then c.loop-turn.invariant.stays c.take_turn.ensures.stays;
       knows = c.take_turn.ensures.knows;
-      below = c.take_turn.ensures.below ∙ c.loop-turn.invariant.below;
+      no_more = λ ran h. c.loop-turn.invariant.no_more ran (c.take_turn.ensures.no_more ran h);
       alive = let now = c.take_turn.ensures.alive in let was = c.loop-turn.invariant.alive in omega (arith, now, was);
     }
 

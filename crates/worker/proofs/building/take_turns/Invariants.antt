@@ -6,6 +6,7 @@ use Rattle.worker.specs.Calls.{AreTurns, came_of}
 use Rattle.worker.specs.Going.{IsGoing, IsOfTurns, turns_left}
 use Rattle.worker.specs.Watching.{IsProgress, IsProgressOf, IsWatched, turns_in}
 use Rattle.worker.specs.Stored.{KeepsAllBut}
+use Rattle.worker.specs.Values.{SaysNoMore}
 use Rattle.worker.proofs.building.take_turns.Given as goal
 
 abbrev pub invariant-loop-turn : goal.invariant-loop-turn
@@ -26,7 +27,7 @@ invariant-loop-turn g l =
       device : g.N.Runner.failures l.runner ≡ g.N.Runner.failures l.fn.runner;
       stays : StaysRemembered l.fn.underway.remembered l.underway.remembered;
       knows : Remembers l.underway.remembered (tells l.sink).blobs;
-      below : g.N.Runner.work l.runner ≡ g.N.Runner.work l.fn.runner;
+      no_more : SaysNoMore (g.N.Runner.ran l.runner) (g.N.Runner.ran l.fn.runner);
       alive : g.N.Runner.alive l.runner ≡ g.N.Runner.alive l.fn.runner + length l.underway.children.items;
     }
 
