@@ -52,7 +52,7 @@ unfolding Cuts
 nothing_cut prefix = (empty_partial prefix, refl)
 
 -- so far
-pub record RunsOn (prefix : List ℕ) (old : CacheValue) (input input_left written_before written : Option (List ℕ)) (session : SessionValue) (now : CacheValue) (turns : ℕ) : Type 0 where
+pub record RunsOn (prefix : List ℕ) (old : CacheValue) (input input_left written_before written : Option (List ℕ)) (session : SessionValue) (now : CacheValue) : Type 0 where
   pub read : List ℕ
   pub text : List ℕ
   pub before : List EventValue
@@ -62,11 +62,9 @@ pub record RunsOn (prefix : List ℕ) (old : CacheValue) (input input_left writt
   pub stands : Stands session read before
   pub answers : ServesAll old before text now
   pub goes_on : IsOpenAfter prefix read before
-  -- each turn read a byte or more
-  pub turned : turns ≤ length read
 
-unfoldable pub runs_first : (prefix : List ℕ) (old : CacheValue) (input written : Option (List ℕ)) (session : SessionValue) → session.prefix ≡ prefix → Stands session [] [] → RunsOn prefix old input input written written session old 0
-runs_first prefix old input written session same s = record { read = []; text = []; before = []; same = same; consumes = Consumes-nil input; appends = Appends-nil written; stands = s; answers = serves_none old; goes_on = record { rest = []; cut = nothing_cut prefix }; turned = omega arith }
+unfoldable pub runs_first : (prefix : List ℕ) (old : CacheValue) (input written : Option (List ℕ)) (session : SessionValue) → session.prefix ≡ prefix → Stands session [] [] → RunsOn prefix old input input written written session old
+runs_first prefix old input written session same s = record { read = []; text = []; before = []; same = same; consumes = Consumes-nil input; appends = Appends-nil written; stands = s; answers = serves_none old; goes_on = record { rest = []; cut = nothing_cut prefix } }
 
 -- where events are left bytes are, and none before them closes
 undone : (prefix stream piece front rest : List ℕ) (done others : List EventValue) (a b : Option (List ℕ)) → piece ≡ front ++ rest
@@ -96,7 +94,7 @@ pub all_answered : (old new : CacheValue) (events : List EventValue) (before aft
 all_answered old new events before after t =
     subst (λ z. ServesAll old z t.told new) (sym (t.whole ∙ append-nil t.done)) (subst (λ z. ServesAll old t.done z new) (append-nil t.told) t.answers)
 
-module _ (prefix : List ℕ) (old : CacheValue) (input left more written_before written : Option (List ℕ)) (session : SessionValue) (now : CacheValue) (turns : ℕ) (r : RunsOn prefix old input left written_before written session now turns) where
+module _ (prefix : List ℕ) (old : CacheValue) (input left more written_before written : Option (List ℕ)) (session : SessionValue) (now : CacheValue) (r : RunsOn prefix old input left written_before written session now) where
   -- at the end of the input
   pub runs_ended : (count : ℕ) (buffer : List ℕ) → count ≡ 0 → Consumes left more (take count buffer) → IsAtEnd more → Runs prefix old input more written_before written now
   runs_ended count buffer zero_is c end =
@@ -115,7 +113,7 @@ module _ (prefix : List ℕ) (old : CacheValue) (input left more written_before 
       )
 
   -- given up between two pieces
-  pub runs_stopped : Keeps left more → (begun : List ℕ) × (runs : RunsBut prefix old input more written_before written now [] [] (Some begun)) × (turns ≤ length runs.front)
+  pub runs_stopped : Keeps left more → (begun : List ℕ) × RunsBut prefix old input more written_before written now [] [] (Some begun)
   runs_stopped kept = (
     r.goes_on.rest,
     record {
@@ -127,7 +125,6 @@ module _ (prefix : List ℕ) (old : CacheValue) (input left more written_before 
       no_further = nothing_further prefix r.read r.before r.goes_on;
       few_left = omega arith;
     },
-    r.turned,
   )
 
   module _ (piece : List ℕ) (few : length piece ≤ 65536) (read : Consumes left more piece) where
@@ -151,8 +148,8 @@ module _ (prefix : List ℕ) (old : CacheValue) (input left more written_before 
     module _ (new : SessionValue) (after : CacheValue) (written_more : Option (List ℕ)) (events : List EventValue) (feeds : Feeds session piece events new) where
       -- a piece whose events are all answered
       module _ (t : TellsBut now events written written_more after [] []) where
-        pub runs_more : 0 < length piece → (new.state ≡ Closed → ⊥) → RunsOn prefix old input more written_before written_more new after (turns + 1)
-        runs_more some o = record {
+        pub runs_more : (new.state ≡ Closed → ⊥) → RunsOn prefix old input more written_before written_more new after
+        runs_more o = record {
           read = r.read ++ piece;
           text = r.text ++ t.told;
           before = r.before ++ events;
@@ -162,7 +159,6 @@ module _ (prefix : List ℕ) (old : CacheValue) (input left more written_before 
           stands = feeds.stands r.read r.before r.stands;
           answers = serves_join old now after r.before events r.text t.told r.answers (all_answered now after events written written_more t);
           goes_on = subst (λ p. IsOpenAfter p (r.read ++ piece) (r.before ++ events)) (feeds.prefix ∙ r.same) (stands_open new (r.read ++ piece) (r.before ++ events) o (feeds.stands r.read r.before r.stands));
-          turned = let n : length (r.read ++ piece) ≡ length r.read + length piece = length-append r.read piece in omega (arith, n, r.turned, some);
         }
 
         pub runs_closed : new.state ≡ Closed → Runs prefix old input more written_before written_more after
@@ -226,19 +222,22 @@ module _ (prefix : List ℕ) (old : CacheValue) (input left more written_before 
       runs_broken_by Memory (event, others, t) = let x = runs_broken (event ∷ others) [] t in let y = x.3 (omega arith) in at_request x.0 x.1 x.2 y.0 y.1
       runs_broken_by WriteFault (others, lost, t, last) = let x = runs_broken others lost t in (x.0, lost, x.1, x.2, x.4 last)
 
--- given up before the first piece
-pub runs_none : (prefix : List ℕ) (old : CacheValue) (input written : Option (List ℕ)) → BreaksOff prefix old input input written written old Memory
-runs_none prefix old input written = (
-  [],
-  [],
-  record {
-    front = [];
-    told = [];
-    consumes = Consumes-nil input;
-    appends = Appends-nil written;
-    answered = record { events = []; cut = nothing_cut prefix; answers = serves_none old };
-    no_further = nothing_further prefix [] [] (record { rest = []; cut = nothing_cut prefix });
-    few_left = omega arith;
-  },
-  inr (inl refl),
-)
+-- given up before the first piece, for lack of memory or since the reader failed
+pub runs_none : (prefix : List ℕ) (old : CacheValue) (input written : Option (List ℕ)) (why : ConnError) → (why ≡ WriteFault → ⊥) → BreaksOff prefix old input input written written old why
+runs_none prefix old input written = by
+  where
+    nothing : RunsBut prefix old input input written written old [] [] (Some [])
+    nothing = record {
+      front = [];
+      told = [];
+      consumes = Consumes-nil input;
+      appends = Appends-nil written;
+      answered = record { events = []; cut = nothing_cut prefix; answers = serves_none old };
+      no_further = nothing_further prefix [] [] (record { rest = []; cut = nothing_cut prefix });
+      few_left = omega arith;
+    }
+
+    by : (why : ConnError) → (why ≡ WriteFault → ⊥) → BreaksOff prefix old input input written written old why
+    by ReadFault n = ([], nothing)
+    by WriteFault n = absurd (n refl)
+    by Memory n = ([], [], nothing, inr refl)

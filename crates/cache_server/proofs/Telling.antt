@@ -9,9 +9,10 @@ use Rattle.http_core.specs.declared.event.Event.{Event}
 use Rattle.http_core.specs.Event.{EventValue, event_of}
 use Rattle.cache_server.specs.Answering.{answered, answered_all}
 use Rattle.cache_server.specs.Cache.{CacheValue}
-use Rattle.cache_server.specs.Writing.{WritesSome, TellsBut, StopsTelling}
+use Rattle.cache_server.specs.Writing.{WritesSome, IsToldInPart, TellsBut, StopsTelling}
 use Rattle.cache_server.specs.Connection.{HasAllButLast}
-use Rattle.cache_server.specs.declared.error.ConnError.TheVariants.{WriteFault}
+use Rattle.cache_server.specs.declared.error.ConnError.{ConnError}
+use Rattle.cache_server.specs.declared.error.ConnError.TheVariants.{ReadFault, WriteFault, Memory}
 use Rattle.cache_server.proofs.Serving.{ServesAll, ServesOne, serves_none, serves_more, serves_join, text_is}
 
 -- the first of two texts in part
@@ -120,3 +121,13 @@ module _ {A : Type 0} (events : List (Event A)) where
     let n = ap length t.whole ∙ ap length (append-nil t.done) in let some = some_of events f in
         all_but_last old new t.done t.told (subst (λ z. ServesAll old t.done z new) (append-nil t.told) t.answers) (omega (arith, n, some)),
   )
+
+-- the run of answers ends with this event
+pub told_stops : (old now new : CacheValue) (events left : List EventValue) (event : EventValue) (before mid after : Option (List ℕ)) (e : ConnError)
+    → TellsOn old events (event ∷ left) before mid now → IsToldInPart now event mid after new e → StopsTelling old events before after new e
+told_stops old now new events left event before mid after ReadFault t p = absurd p
+told_stops old now new events left event before mid after WriteFault t (text, s, w) = let told = told_part old now new events left event text before mid after t s w in (left, w.lost, told.0, told.1)
+told_stops old now new events left event before mid after Memory t (same, kept) = (event, left, told_so_far old now new events (event ∷ left) before after (told_kept t) same)
+  where
+    told_kept : TellsOn old events (event ∷ left) before mid now → TellsOn old events (event ∷ left) before after now
+    told_kept t = record { done = t.done; text = t.text; whole = t.whole; answers = t.answers; appends = Appends-kept before mid after t.text t.appends kept }

@@ -55,7 +55,7 @@ step s (Put Cas hash body) = replied (machine.put_blob by_messages s hash body)
 step s (Put Pin hash body) = without_body s body (machine.pin by_messages s hash)
 step s (Put Unpin hash body) = without_body s body (machine.unpin by_messages s hash)
 
--- the same with counts
+-- The reply to a request, and the cache after it, with its counts.
 abbrev pub applied : CacheValue → AskValue → ReplyValue × CacheValue
 applied c ask =
     let out : ReplyValue × CacheState = step c.state ask in

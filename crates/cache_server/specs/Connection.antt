@@ -28,11 +28,9 @@ pub record ReadsNoFurther (prefix read : List ℕ) : Type 0 where
   pub rest : List ℕ
   pub open_before : Cuts prefix earlier events (Some rest)
 
--- Bytes of a request that isn't answered are left of what was read, or nothing was read; else there
--- were more pieces than a machine word counts.
+-- bytes of a request that isn't answered are left of what was read, or nothing was read
 abbrev pub StopsShort : List ℕ → List ℕ → Type 0
-StopsShort front rest =
-    (0 < length rest) ⊎ (front ≡ []) ⊎ (18446744073709551615 ≤ length front)
+StopsShort front rest = (0 < length rest) ⊎ (front ≡ [])
 
 -- of the answers to these events the text has all but the last, and a part of that
 pub record HasAllButLast (old : CacheValue) (events : List EventValue) (text : List ℕ)

@@ -8,7 +8,7 @@ use Rattle.cache_server.specs.declared.counts.Counts.{Counts}
 abbrev pub no_counts : Counts
 no_counts = record { requests = 0; hits = 0; misses = 0 }
 
--- so many more, as far as a machine word goes
+-- a count with so many more, as far as a machine word goes
 abbrev pub count_with : ℕ → ℕ → ℕ
 count_with count more = min (count + more) 18446744073709551615
 
@@ -27,7 +27,7 @@ abbrev pub count_ask : AskValue → ℕ → Counts → Counts
 count_ask (Get area hash) status c = with_look_up (status == 200) c
 count_ask (Put area hash body) status c = with_request c
 
--- with what was counted from the earlier counts to the later
+-- counts with what was counted from the earlier ones to the later
 abbrev pub with_later : Counts → Counts → Counts → Counts
 with_later c earlier later = record {
   requests = count_with c.requests (later.requests - earlier.requests);

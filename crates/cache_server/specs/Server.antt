@@ -57,7 +57,8 @@ LeadsTo old entry new =
     (opening : CacheValue) (history : List HistoryEntry)
     → ServerStands opening old history → ServerStands opening new (history ++ entry ∷ [])
 
--- so does lack of memory while the piece was at hand
+-- lack of memory while the piece was at hand leads from the one server to the other, whatever
+-- history had led to the one
 abbrev pub LeadsToFailure : ServerValue → ℕ → List ℕ → ServerValue → Type 0
 LeadsToFailure old k piece new =
     (opening : CacheValue) (history : List HistoryEntry)
@@ -80,7 +81,7 @@ pub record IsNewSession (prefix : List ℕ) (session : SessionValue) : Type 0 wh
   pub prefixed : session.prefix ≡ prefix
   pub stands : sessions.Stands session [] []
 
--- it is the held session, or a new one
+-- the session is the held one, or a new one
 abbrev pub IsSessionFor : List ℕ → Option SessionValue → SessionValue → Type 0
 IsSessionFor prefix None session = IsNewSession prefix session
 IsSessionFor prefix (Some held) session = session ≡ held

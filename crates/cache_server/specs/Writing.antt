@@ -1,8 +1,8 @@
 -- Answers on a writer: what it had, and what it has then.
 use Rattle.std.specs.Prelude.{◌≡◌, ℕ, List, [], ◌∷◌, ◌++◌, Option}
-use Rattle.std.specs.Io.KnownBytes.{Appends}
+use Rattle.std.specs.Io.KnownBytes.{Appends, Keeps}
 use Rattle.http_core.specs.Event.{EventValue}
-use Rattle.cache_server.specs.Answering.{answered_all}
+use Rattle.cache_server.specs.Answering.{answered, answered_all}
 use Rattle.cache_server.specs.Cache.{CacheValue}
 use Rattle.cache_server.specs.Connection.{HasAllButLast}
 use Rattle.cache_server.specs.declared.error.ConnError.{ConnError}
@@ -14,6 +14,21 @@ pub record WritesSome (before after : Option (List ℕ)) (bytes : List ℕ) : Ty
   pub lost : List ℕ
   pub whole : bytes ≡ written ++ lost
   pub appends : Appends before after written
+
+module _ (old : CacheValue) (event : EventValue) (before after : Option (List ℕ))
+    (new : CacheValue) where
+  -- the event is answered, and its text is written
+  abbrev pub IsTold : Type 0
+  IsTold =
+      (text : List ℕ) × (answered old event ≡ (text, new)) × Appends before after text
+
+  -- Without memory nothing is done. Where the writer fails the event is answered, and a beginning
+  -- of its text is written.
+  abbrev pub IsToldInPart : ConnError → Type 0
+  IsToldInPart Memory = (new ≡ old) × Keeps before after
+  IsToldInPart WriteFault =
+      (text : List ℕ) × (answered old event ≡ (text, new)) × WritesSome before after text
+  IsToldInPart ReadFault = ⊥
 
 module _ (old : CacheValue) (events : List EventValue) (before after : Option (List ℕ))
     (new : CacheValue) where

@@ -1,16 +1,22 @@
-ghost use Rattle.std.specs.Prelude.{◌≡◌, ◌<◌, ◌^◌, length, IfOk, OnErr};
+ghost use Rattle.std.specs.Prelude.{◌≡◌, ◌<◌, ◌^◌, length, IfErr, IfOk, OnErr, OnOk};
 ghost use Rattle.std.specs.Prelude.{option_map};
 ghost use Rattle.eviction.specs.Kept.{total};
-ghost use Rattle.http_core.specs.Event.{Get, Put, ask_of, event_of};
+ghost use Rattle.http_core.specs.Event.{Asked, Get, Put, Refused, ask_of, event_of};
 ghost use Rattle.http_core.specs.Reply.{bare, content_bytes};
 ghost use Rattle.http_core.specs.declared.event.Area.TheVariants.{Ac, Cas};
 ghost use Rattle.cache_server.specs.Answer.{text_of};
 ghost use Rattle.cache_server.specs.Answering.{MayWantFor, answered};
 ghost use Rattle.cache_server.specs.Cache.{MayWant, applied, unused_cache, found_reply, step};
+ghost use Rattle.cache_server.specs.Connection.{IsFoundBy};
 ghost use Rattle.cache_server.specs.Status.{IsStatusOf, WantsMemory};
+ghost use Rattle.cache_server.specs.Writing.{IsTold, IsToldInPart};
+ghost use Rattle.cache_server.specs.declared.error.ConnError.{ConnError};
 
 use crate::answer::Answer;
 use crate::counts::Counts;
+use crate::error::ConnError;
+use crate::streams::Outgoing;
+use crate::writing::write_answer;
 use action_cache::{ActionCache, CacheError};
 use blob_digest::Sealed;
 use http_core::{Area, Ask, Content, Event, Reply};
@@ -202,8 +208,31 @@ impl<A: Allocator + Copy> Cache<A> {
         }
     }
 
+    /// Does what is asked, and writes the answer, after which the session closes or stays open. A
+    /// blob isn't copied. `Memory` comes before anything is done, and only where memory may be
+    /// wanting; after `WriteFault` it is done, and a beginning of the answer is written.
+    pub fn answer<W: Outgoing>(
+        &mut self,
+        alloc: A,
+        ask: Ask<A>,
+        close: bool,
+        writer: &mut W,
+    ) -> Result<(), ConnError>
+        ensures ok { OnOk result (IsTold self.old (Asked (ask_of ask) close)
+            (W.contents writer.old) (W.contents writer.new) self.new) }
+        ensures err { IfErr result (IsToldInPart self.old (Asked (ask_of ask) close)
+            (W.contents writer.old) (W.contents writer.new) self.new) }
+        ensures memory { IfErr result (λ e. e ≡ ConnError.Memory
+            → MayWant self.old.state (ask_of ask)) }
+        ensures fault { IfErr result (IsFoundBy ⊥ (W.broken writer.new)) }
+        ensures pieces { W.in_pieces writer.old → W.in_pieces writer.new }
+    {
+        let answer = self.answer_to(alloc, Event::Ask(ask, close))?;
+        write_answer(writer, &answer)
+    }
+
     /// The answer to the event. An `Err` changes nothing.
-    pub(crate) fn answer(&mut self, alloc: A, event: Event<A>) -> Result<Answer<A>, AllocError>
+    pub(crate) fn answer_to(&mut self, alloc: A, event: Event<A>) -> Result<Answer<A>, AllocError>
         ensures ok { IfOk result
             (λ answer. answered self.old (event_of event) ≡ (text_of answer, self.new)) }
         ensures err { OnErr result (self.new ≡ self.old) }
@@ -214,10 +243,15 @@ impl<A: Allocator + Copy> Cache<A> {
                 let reply = self.apply(alloc, ask)?;
                 Ok(Answer::new(reply, close))
             }
-            Event::Refuse(status, close) => {
-                self.counts.count_other();
-                Ok(Answer::new(Reply::bare(alloc, status), close))
-            }
+            Event::Refuse(status, close) => Ok(self.refuse(alloc, status, close)),
         }
+    }
+
+    /// The answer to a refused request, which is counted.
+    pub(crate) fn refuse(&mut self, alloc: A, status: u16, close: bool) -> Answer<A>
+        ensures { answered self.old (Refused status close) ≡ (text_of result, self.new) }
+    {
+        self.counts.count_other();
+        Answer::new(Reply::bare(alloc, status), close)
     }
 }

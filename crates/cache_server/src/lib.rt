@@ -5,6 +5,7 @@
 mod answer;
 mod answering;
 mod cache;
+mod counted;
 mod counts;
 mod error;
 mod laws;
@@ -15,6 +16,7 @@ mod writing;
 
 pub use answer::Answer;
 pub use cache::Cache;
+pub use counted::Counted;
 pub use counts::Counts;
 pub use error::ConnError;
 pub use laws::{

@@ -34,10 +34,11 @@ pub fn run<A: Allocator + Copy, R: Incoming, W: Outgoing>(
     ensures flushed { OnOk result (W.flushed writer.old → W.flushed writer.new) }
     ensures sent_on { OnErr result
         (W.broken writer.new ⊎ (W.flushed writer.old → W.flushed writer.new)) }
+    ensures pieces { W.in_pieces writer.old → W.in_pieces writer.new }
 {
     let mut session = Session::new(alloc, prefix)?;
     let mut buffer = [0; PIECE];
-    for _ in 0..u64::MAX {
+    loop {
         let count = read_some(reader, &mut buffer)?;
         let (piece, _) = buffer.split_at(count);
         if count == 0 {
@@ -49,7 +50,6 @@ pub fn run<A: Allocator + Copy, R: Incoming, W: Outgoing>(
             return Ok(());
         }
     }
-    Err(ConnError::Memory)
 }
 
 /// Reads bytes into the buffer, and gives how many they are: none at the end of the input. What
@@ -60,6 +60,7 @@ fn read_some<R: Incoming>(reader: &mut R, buffer: &mut [u8]) -> Result<usize, Co
     ensures end { IfOk result (λ count. count ≡ 0 → 0 < length buffer.old
         → IsAtEnd (R.remaining reader.new)) }
     ensures within { IfOk result (λ count. count ≤ length buffer.old) }
+    ensures fewer { IfOk result (λ count. 0 < count → R.left reader.new < R.left reader.old) }
     ensures buffer { length buffer.new ≡ length buffer.old }
     ensures err { OnErr result (Keeps (R.remaining reader.old) (R.remaining reader.new)) }
     ensures fault { IfErr result (λ e. e ≡ ConnError.ReadFault) }

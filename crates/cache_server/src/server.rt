@@ -168,7 +168,7 @@ impl<A: Allocator + Copy> Server<A> {
         let Some(event) = event else {
             return Ok((taken, None));
         };
-        match self.cache.answer(alloc, event) {
+        match self.cache.answer_to(alloc, event) {
             Ok(answer) => Ok((taken, Some(answer))),
             Err(error) => {
                 self.close(alloc, connection);

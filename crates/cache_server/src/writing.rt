@@ -19,6 +19,7 @@ fn write_out<W: Outgoing>(writer: &mut W, bytes: &[u8]) -> Result<(), ConnError>
         (WritesSome (W.contents writer.old) (W.contents writer.new) bytes.now) }
     ensures fault { IfErr result (λ e. e ≡ ConnError.WriteFault) }
     ensures broken { OnErr result (W.broken writer.new) }
+    ensures pieces { W.in_pieces writer.old → W.in_pieces writer.new }
 {
     let mut rest = bytes;
     while !rest.is_empty() {
@@ -46,6 +47,7 @@ pub(crate) fn write_answer<A: Allocator, W: Outgoing>(
         (WritesSome (W.contents writer.old) (W.contents writer.new) (text_of answer.now)) }
     ensures fault { IfErr result (λ e. e ≡ ConnError.WriteFault) }
     ensures broken { OnErr result (W.broken writer.new) }
+    ensures pieces { W.in_pieces writer.old → W.in_pieces writer.new }
 {
     write_out(writer, answer.head())?;
     write_out(writer, answer.body())

@@ -1,12 +1,13 @@
 -- Accepts that fail, one after another, and connections that fail.
-use Rattle.std.proofs.Common.{◌≡◌, ℕ, zero, suc, ◌+◌, ◌⊎◌, inl, inr, [], List, ◌++◌, subst, arith, Option, Some, Result, Ok, Err, IfErr, OnOk}
+use Rattle.std.proofs.Common.{◌≡◌, ℕ, zero, suc, ◌+◌, ◌⊎◌, inl, inr, [], List, ◌++◌, subst, arith, Option, Some, Result, Ok, Err, IfErr, IfOk, OnOk}
 use Rattle.std.specs.Prelude.{MatchResult, OnErr}
 use Rattle.cache_server.specs.Cache.{CacheValue}
 use Rattle.cache_server.specs.Connection.{BreaksOff, IsFoundBy, Runs}
 use Rattle.cache_server.specs.declared.error.ConnError.{ConnError}
 use Rattle.cache_server.specs.declared.error.ConnError.TheVariants.{ReadFault, WriteFault, Memory}
+use Rattle.cache_server.proofs.Connections.{runs_none}
 use Rattle.service.specs.Sockets.{Why}
-use Rattle.service.specs.Turns.{FailsAfter, LedByStream, LedByStreams, LosesAs, ServesInTurn, no_stream, next_stream}
+use Rattle.service.specs.Turns.{CountsOn, EndsAtOnce, FailsAfter, LedByStream, LedByStreams, LosesAs, ServesInTurn, ServesNext, no_stream, next_stream}
 use Rattle.service.specs.Turns as turns
 
 pub fails_none : {L : Type 0} (failed : L → ℕ → Type 0) (l : L) → FailsAfter failed 0 0 l l
@@ -36,7 +37,58 @@ sends_on (Ok done) reader writer old new sent lost l was on ok err = inr (on (ok
 sends_on (Err e) reader writer old new sent lost l was on ok (inl b) = inl (l.writing b)
 sends_on (Err e) reader writer old new sent lost l was on ok (inr f) = inr (on (f was))
 
+-- ---- how many were accepted, and how many have ended
+
+counted_at : {L : Type 0} (counts : L → ℕ → ℕ → Type 0) (l : L) (a b c d : ℕ) → a ≡ c → b ≡ d → counts l a b → counts l c d
+counted_at counts l a b c d e f is = subst (λ n. counts l n d) e (subst (counts l a) f is)
+
+pub counts_none : {L : Type 0} (counts : L → ℕ → ℕ → Type 0) (l : L) → CountsOn counts 0 0 l l
+counts_none counts l = λ n m is. counted_at counts l n m (n + 0) (m + 0) (omega arith) (omega arith) is
+
+pub counts_further : {L : Type 0} (counts : L → ℕ → ℕ → Type 0) (a b c d : ℕ) (old mid new : L) → CountsOn counts a b old mid → CountsOn counts c d mid new → CountsOn counts (a + c) (b + d) old new
+counts_further counts a b c d old mid new p q = λ n m is. counted_at counts new ((n + a) + c) ((m + b) + d) (n + (a + c)) (m + (b + d)) (omega arith) (omega arith) (q (n + a) (m + b) (p n m is))
+
+-- one that was accepted has ended, then or later
+pub counts_one : {L T E : Type 0} (counts : L → ℕ → ℕ → Type 0) (r : Result T E) (old mid new : L) → OnOk r (CountsOn counts 1 0 old mid) → OnErr r (CountsOn counts 1 1 old mid)
+    → OnOk r (CountsOn counts 0 1 mid new) → OnErr r (CountsOn counts 0 0 mid new) → CountsOn counts 1 1 old new
+counts_one counts (Ok x) old mid new a b c d = counts_further counts 1 0 0 1 old mid new a c
+counts_one counts (Err e) old mid new a b c d = counts_further counts 1 1 0 0 old mid new b d
+
+not_writer : (reader : Type 0) (why : ConnError) → IsFoundBy reader ⊥ why → why ≡ WriteFault → ⊥
+not_writer reader ReadFault f e = cc
+not_writer reader WriteFault f e = f
+not_writer reader Memory f e = cc
+
+found_at_once : (reader writer : Type 0) (why : ConnError) → IsFoundBy reader ⊥ why → IsFoundBy reader writer why
+found_at_once reader writer ReadFault f = f
+found_at_once reader writer WriteFault f = absurd f
+found_at_once reader writer Memory f = tt
+
+-- one that ended as it was accepted did nothing
+pub serves_none : (opened : ℕ → Option (List ℕ) → Option (List ℕ) → Type 0) (ended : ℕ → Option (List ℕ) → Option (List ℕ) → Why → Type 0) (lost : ℕ → ConnError → Type 0) (sent : ℕ → Type 0)
+    (prefix : List ℕ) (number : ℕ) (cache : CacheValue) (why : ConnError) → EndsAtOnce opened ended lost sent number why → ServesNext opened ended lost sent prefix number cache cache
+serves_none opened ended lost sent prefix number cache why e = record {
+  input = e.input;
+  left = e.input;
+  before = e.before;
+  after = e.before;
+  why = Err why;
+  opens = e.opens;
+  ends = e.ends;
+  ran = runs_none prefix cache e.input e.before why (not_writer (lost number ReadFault) why e.found);
+  found = found_at_once (lost number ReadFault) (lost number WriteFault) why e.found;
+  sent_on = inr e.sent_on;
+}
+
 -- ---- whatever is said of the connections themselves
+
+pub if_ok : {T E : Type 0} {P Q : T → Type 0} (r : Result T E) → ((x : T) → P x → Q x) → IfOk r P → IfOk r Q
+if_ok (Ok x) f h = f x h
+if_ok (Err e) f h = h
+
+pub on_err : {T E P Q : Type 0} (r : Result T E) → (P → Q) → OnErr r P → OnErr r Q
+on_err (Ok x) f h = h
+on_err (Err e) f h = f h
 
 pub on_ok : {T E P Q : Type 0} (r : Result T E) → (P → Q) → OnOk r P → OnOk r Q
 on_ok (Ok x) f h = f h

@@ -7,9 +7,10 @@ use Rattle.std.proofs.lemmas.List.{append-nil}
 use Rattle.cache_server.specs.Cache.{CacheValue}
 use Rattle.cache_server.specs.History.{HistoryEntry, End}
 use Rattle.std.specs.Prelude.{Ok, Err, if◌then◌else◌, option_map, ⊤}
-use Rattle.cache_server.specs.Server.{ServerValue, ServerStands, IsOpenAt, session_at}
+use Rattle.cache_server.specs.Server.{ServerValue, ServerStands, LeadsTo, IsOpenAt, session_at}
+use Rattle.cache_server.specs.declared.error.ConnError.{ConnError}
 use Rattle.cache_server.specs.declared.error.ConnError.TheVariants.{Memory, ReadFault}
-use Rattle.service.specs.Sockets.{Cause, EndsAs, Failed, Finished, Shut, Silent, Stays, Why}
+use Rattle.service.specs.Sockets.{Cause, EndsAs, EndsAtOnce, Failed, Finished, Shut, Silent, Stays, Why}
 use Rattle.service.specs.Talks.{entry_number, AreOfOthers, IsShut, IsReason, OrCutOff, HasEnded, AreBelow, ServesEach}
 use Rattle.service.specs.Talks as talks
 use Rattle.service.specs.Member.{MemberValue, TalksOn, MayEndNow, AreOf, HasMovedOn, IsLetGo, in_queue, marked_by, new_member, roused, tells_of}
@@ -374,6 +375,62 @@ module _ {S : Type 0} (cut : Bool) (spoke : ℕ → S → List ℕ → List ℕ 
   pub keeps_entered : (members members' : Members S) (accepted : ℕ) (server : ServerValue) (stream : S) (now : ℕ)
       → spoke accepted stream [] [] → EntersAt accepted stream now members members' → GoesOnTogether cut spoke ended lost members accepted server members' (accepted + 1) server
   keeps_entered members members' accepted server stream now said enters = record { on = keeps_entered_so members members' accepted server stream now said enters }
+
+  -- it has ended as it was accepted, and the server was told
+  pub keeps_refused : (members members' : Members S) (accepted : ℕ) (old new : ServerValue) (why : ConnError)
+      → EndsAtOnce ended lost accepted why → AreSame members members' → new.prefix ≡ old.prefix → LeadsTo old (End accepted) new
+      → GoesOnTogether cut spoke ended lost members accepted old members' (accepted + 1) new
+  keeps_refused members members' accepted old new why e same prefix_is leads = record { on = so }
+    where
+      reason : (shut : Type 0) → (why ≡ Memory) ⊎ lost accepted (Failed why) → IsReason (lost accepted) shut [] [] (Err why)
+      reason shut (inl none) = inl none
+      reason shut (inr failed) = inr (inl failed)
+
+      less : (j : ℕ) → j < accepted + 1 → (j ≡ accepted → ⊥) → (j < accepted) ⊎ (accepted ≤ j) → j < accepted
+      less j below n (inl h) = h
+      less j below n (inr h) = absurd (n (omega arith))
+
+      so : KeepsSo members accepted old members' (accepted + 1) new
+      so prefix opening history keeps = record {
+        entries = keeps.entries ++ End accepted ∷ [];
+        stands = subst (λ (z : List HistoryEntry). ServerStands opening new z) (append_assoc history keeps.entries (End accepted ∷ [])) (leads opening (history ++ keeps.entries) keeps.stands);
+        same = prefix_is ∙ keeps.same;
+        theirs = both_below (accepted + 1) keeps.entries (End accepted ∷ []) (below_more accepted keeps.entries keeps.theirs) (omega arith, tt);
+        each = λ j below. by_test j below (eqb_tells j accepted);
+        fresh = λ j above. same.0 j ∙ keeps.fresh j (omega arith);
+      }
+        where
+          own : HasEnded cut ended lost prefix opening history (keeps.entries ++ End accepted ∷ []) accepted
+          own = record {
+            before = keeps.entries;
+            after = [];
+            whole = refl;
+            last = tt;
+            read = [];
+            sent = [];
+            left = [];
+            unsent = [];
+            why = Err why;
+            is = e.is;
+            talks = record {
+              came = [];
+              earlier = [];
+              part = [];
+              reading = refl;
+              sending = refl;
+              answered = answered_apart prefix opening history accepted keeps.entries [] [] [] [] (apart_from_below accepted keeps.entries keeps.theirs) talks.none;
+            };
+            may = uncut cut (Err why) (IsReason (lost accepted) (IsShut prefix accepted (history ++ keeps.entries)) [] [] (Err why)) (reason (IsShut prefix accepted (history ++ keeps.entries)) e.may);
+          }
+
+          by_test : (j : ℕ) → j < accepted + 1 → ((eqb j accepted ≡ true) × (j ≡ accepted)) ⊎ ((eqb j accepted ≡ false) × (j ≡ accepted → ⊥))
+              → TalksOrEnded cut spoke ended lost prefix opening history (keeps.entries ++ End accepted ∷ []) j (member_at members' j)
+          by_test j below (inl (t, is)) =
+              subst (λ (i : ℕ). TalksOrEnded cut spoke ended lost prefix opening history (keeps.entries ++ End accepted ∷ []) i (member_at members' i)) (sym is)
+              (subst (TalksOrEnded cut spoke ended lost prefix opening history (keeps.entries ++ End accepted ∷ []) accepted) (sym (same.0 accepted ∙ keeps.fresh accepted (omega arith))) own)
+          by_test j below (inr (f, n)) =
+              subst (TalksOrEnded cut spoke ended lost prefix opening history (keeps.entries ++ End accepted ∷ []) j) (sym (same.0 j))
+              (either_apart prefix opening history j (member_at members j) (End accepted ∷ []) keeps.entries ((λ (x : accepted ≡ j). n (sym x)), tt) (keeps.each j (less j below n (cases_lt j accepted))))
 
   -- ---- the whole run
 

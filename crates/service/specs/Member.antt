@@ -29,7 +29,8 @@ pub record WatchedValue (S : Type 0) : Type 0 where
   pub stream : S
   pub moved : ℕ
 
--- its stream, what was read and hasn't come to the server, and what of the answers isn't sent
+-- a connection: its stream, what was read and hasn't come to the server, and what of the answers
+-- isn't sent
 pub record MemberValue (S : Type 0) : Type 0 where
   pub stream : S
   pub left : List ℕ
@@ -41,10 +42,10 @@ pub record MemberValue (S : Type 0) : Type 0 where
   pub moved : ℕ
   -- what is left to do after its last answer
   pub lingering : Option Lingering
-  -- there may be something to read; and the system told that its peer sends no more
+  -- whether there may be something to read, and whether the system told that the peer sends no more
   pub readable : Bool
   pub closed : Bool
-  -- it waits for others; and it is queued for a turn
+  -- whether the connection waits for others, and whether it is queued for a turn
   pub held : Bool
   pub queued : Bool
 
@@ -69,7 +70,7 @@ abbrev pub answer_size : Option AnswerValue → ℕ
 answer_size None = 0
 answer_size (Some answer) = length answer.body
 
--- and how many bytes of it nobody else can hold
+-- how many bytes of the body of an answer nobody else can hold
 abbrev pub own_size : Option AnswerValue → ℕ
 own_size None = 0
 own_size (Some answer) = if answer.shared then 0 else length answer.body
@@ -91,7 +92,7 @@ new_member stream now = record {
   queued = false;
 }
 
--- it is queued for a turn
+-- the connection queued for a turn
 abbrev pub in_queue : {S : Type 0} → MemberValue S → MemberValue S
 in_queue m = record m { queued = true }
 
@@ -99,28 +100,30 @@ in_queue m = record m { queued = true }
 abbrev pub tells_of : ℕ → Ready → Bool
 tells_of k event = option_map_or (λ number. number == k) event.number false
 
--- as the event tells there may be something to read, if only the end
+-- the connection after an event: as this tells there may be something to read, if only the end
 abbrev pub roused : {S : Type 0} → Ready → MemberValue S → MemberValue S
 roused event m = record m {
   readable = m.readable || (event.readable || event.read_closed);
   closed = m.closed || event.read_closed;
 }
 
--- what it is once these events are noted: each of its own rouses it, and it is queued
+-- the connection once these events are noted: each of its own rouses it, and it is queued
 abbrev pub marked_by : {S : Type 0} → List Ready → ℕ → MemberValue S → MemberValue S
 marked_by [] k m = m
 marked_by (event ∷ events) k m =
     marked_by events k (if tells_of k event then in_queue (roused event m) else m)
 
--- So many bytes of its answer nobody else holds: all, or none where others can hold them.
+-- How many bytes of a connection's answer nobody else holds: all, or none where others can hold
+-- them.
 abbrev pub HoldsAlone : {S : Type 0} → MemberValue S → ℕ → Type 0
 HoldsAlone m count = (count ≡ m.load.answers) ⊎ ((count ≡ 0) × (m.own ≡ 0))
 
--- it waits for others no more, its silence counts from this time on, and it is queued for a turn
+-- a connection that waits for others no more: its silence counts from this time on, and it is
+-- queued
 abbrev pub let_go : {S : Type 0} → ℕ → S → MemberValue S → MemberValue S
 let_go now stream m = record m { stream = stream; moved = now; held = false; queued = true }
 
--- so one does, if there is one
+-- the connection, if there is one, waits for others no more
 abbrev pub IsLetGo :
     {S : Type 0} → (ℕ → S → List ℕ → List ℕ → Type 0) → ℕ
     → Option (MemberValue S) → Option (MemberValue S) → Type 0
@@ -141,15 +144,16 @@ deadline_of None false moved limit =
 abbrev pub deadline_at : {S : Type 0} → MemberValue S → Option ℕ → Option ℕ
 deadline_at m limit = deadline_of m.lingering m.held m.moved limit
 
--- so many milliseconds, as far as a machine word goes
+-- a time in milliseconds, as far as a machine word goes
 abbrev pub millis_of : Duration → ℕ
 millis_of time = min (as_nanos time / 1000000) 18446744073709551615
 
--- for how long one may be silent that holds much, where others wait for memory: 5 seconds at most
+-- for how long a connection may be silent that holds much, where others wait for memory: 5 seconds
+-- at most
 abbrev pub pressed_limit : Option ℕ → ℕ
 pressed_limit idle = min (unwrap_or idle 5000) 5000
 
--- It is its deadline: where others wait for memory, a sooner one if it may hold much.
+-- The deadline of a connection: where others wait for memory, a sooner one if it may hold much.
 abbrev pub IsDeadline : {S : Type 0} → MemberValue S → Option ℕ → Bool → Option ℕ → Type 0
 IsDeadline m idle pressed deadline =
     (deadline ≡ deadline_at m idle)
@@ -171,9 +175,9 @@ CountsRead end now old new before after =
 
 -- `full` says of a stream that it takes no more bytes, and `dry` that no byte is at hand there.
 module _ {S : Type 0} (full dry : S → Type 0) where
-  -- It waits for an event: some of an answer isn't sent, and its stream takes no more; or neither a
-  -- byte nor the end is at hand there, and what was read has come to the server, up to its last
-  -- answer.
+  -- The connection waits for an event: some of an answer isn't sent, and its stream takes no more;
+  -- or neither a byte nor the end is at hand there, and what was read has come to the server, up to
+  -- its last answer.
   abbrev pub AwaitsEvent : MemberValue S → Type 0
   AwaitsEvent m =
       ((m.unsent ≡ [] → ⊥) × full m.stream)
@@ -186,12 +190,12 @@ module _ {S : Type 0} (full dry : S → Type 0) where
   PausesFor held Held m = held
   PausesFor held (Ends why) m = ⊤
 
--- it has no leave to answer more, or to read more of a request of which it keeps so much
+-- a connection has no leave to answer more, or to read more of a request of which it keeps so much
 abbrev pub HasNoLeave : Leave → Load → Type 0
 HasNoLeave leave load = (leave.answers ≡ false) ⊎ (leave.kept < load.requests)
 
--- It went ahead at this time: a call was made on its stream, or its stream is the same, and less is
--- left of what was read.
+-- A connection went ahead at this time: a call was made on its stream, or its stream is the same,
+-- and less is left of what was read.
 abbrev pub GoesAhead :
     {S : Type 0} → (S → ℕ → Type 0) → ℕ → MemberValue S → MemberValue S → Type 0
 GoesAhead tried now old new =
@@ -201,14 +205,14 @@ GoesAhead tried now old new =
 abbrev pub CountsKept : {S : Type 0} → ServerValue → ℕ → MemberValue S → Type 0
 CountsKept server k m = m.load.requests ≡ held_bytes_at (session_at server k)
 
--- why it ends with this turn, if it does
+-- why a connection ends with this turn, if it does
 abbrev pub end_of : Turn → Option Why
 end_of Again = None
 end_of Waits = None
 end_of Held = None
 end_of (Ends why) = Some why
 
--- it ends only with a fault: memory is wanting, or this holds of it
+-- a connection ends only with a fault: memory is wanting, or this holds of the fault
 abbrev pub FailsFor : (ConnError → Type 0) → Option Why → Type 0
 FailsFor fails None = ⊤
 FailsFor fails (Some (Ok done)) = ⊥
@@ -224,7 +228,7 @@ GoesAfter fault other (Ends (Ok done)) = ⊥
 GoesAfter fault other (Ends (Err e)) =
     ((error_kind fault ≡ OutOfMemory) × (e ≡ Memory)) ⊎ (IsBroken fault × (e ≡ other))
 
--- it ends only without a fault, where this holds
+-- a connection ends only without a fault, where this holds
 abbrev pub EndsWell : Type 0 → Option Why → Type 0
 EndsWell holds None = ⊤
 EndsWell holds (Some (Ok done)) = holds
@@ -245,14 +249,14 @@ is_piece other = false
 module _
     {S : Type 0} (spoke : ℕ → S → List ℕ → List ℕ → Type 0) (prefix : List ℕ)
     (opening : CacheValue) (history entries : List HistoryEntry) (k : ℕ) where
-  -- it goes on: what was read and what was sent is as the entries say
+  -- the connection goes on: what was read and what was sent is as the entries say
   pub record TalksOn (m : MemberValue S) : Type 0 where
     pub read : List ℕ
     pub sent : List ℕ
     pub said : spoke k m.stream read sent
     pub talks : Talks prefix opening history entries k read sent m.left m.unsent
 
-  -- it may end, for this reason
+  -- the connection may end, for this reason
   pub record MayEndNow (over : S → Cause → Type 0) (stream : S) (why : Why) : Type 0 where
     pub read : List ℕ
     pub sent : List ℕ
@@ -262,7 +266,7 @@ module _
     pub talks : Talks prefix opening history entries k read sent left unsent
     pub may : IsReason (over stream) (IsShut prefix k (history ++ entries)) left unsent why
 
-  -- it goes on, or ends for this reason
+  -- the connection goes on, or ends for this reason
   abbrev pub TalksOnUnless : (S → Cause → Type 0) → Option Why → MemberValue S → Type 0
   TalksOnUnless over None m = TalksOn m
   TalksOnUnless over (Some why) m = MayEndNow over m.stream why
@@ -283,7 +287,8 @@ module _
     pub same : server.prefix ≡ prefix
     pub holds : TalksOnUnless spoke prefix opening history (entries ++ more) k over end m
 
-  -- so it is whatever history had led to the server
+  -- whatever history had led to the server, entries of the connection alone lead on, and it goes
+  -- on, or ends
   pub record MovesOn
       (most : ℕ) (end : Option Why) (k : ℕ) (old : ServerValue) (before : MemberValue S)
       (new : ServerValue) (after : MemberValue S) : Type 0 where
@@ -298,7 +303,8 @@ module _
         (k : ℕ) → TalksOn spoke prefix opening history entries k before
         → TalksOnUnless spoke prefix opening history entries k over end after
 
-  -- so it is, where so many bytes of what wasn't sent were sent before it
+  -- As many bytes as were sent before are taken off what isn't sent; nothing more is read or sent.
+  -- It ends only with a fault.
   pub record PassesSent (end : Option Why) (count : ℕ) (before after : MemberValue S)
       : Type 0 where
     pub left : end ≡ None → after.left ≡ before.left

@@ -26,19 +26,20 @@ module _ {S : Type 0} (tried : S → ℕ → Type 0) where
         ⊎ ((new.ready.items ≡ others ++ first ∷ [])
         × GoesAheadAt now first old.members.entries new.members.entries)
 
-  -- so it is, or the queue was empty and still is, and the connections are the same
+  -- the first in the queue had a turn, or the queue was empty and still is, and the connections are
+  -- the same
   abbrev pub HasTurn : ℕ → Together S → Together S → Type 0
   HasTurn now old new =
       ((old.ready.items ≡ []) × (new.ready.items ≡ []) × (new.members ≡ old.members))
       ⊎ FirstHasTurn now old new
 
-  -- so many turns, one after another
+  -- a number of turns, one after another
   pub data TakeTurns : ℕ → Together S → Together S → Type 0 where
     NoTurn : (all : Together S) → TakeTurns 0 all all
     OneTurn : (count now : ℕ) (old mid new : Together S)
         → TakeTurns count old mid → HasTurn now mid new → TakeTurns (count + 1) old new
 
-  -- so many turns, and then those that waited for others may wait no more
+  -- a number of turns, and then some that waited for others may wait no more
   pub record TakesTurns
       (spoke : ℕ → S → List ℕ → List ℕ → Type 0) (count : ℕ) (old new : Together S)
       : Type 0 where
@@ -69,7 +70,7 @@ pub record EndsLate
   pub others : OthersAreSame k members members'
   pub less : load' ≡ load_after load m.load no_load
 
--- so were some, one after another
+-- connections whose deadlines were over were ended, one after another
 pub data EndLate {S : Type 0} (idle : Option ℕ) (now : ℕ)
     : Members S → Load → Members S → Load → Type 0 where
   NoneEnds : (members : Members S) (load : Load) → EndLate idle now members load members load

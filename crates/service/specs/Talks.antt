@@ -16,7 +16,7 @@ use Rattle.cache_server.specs.declared.error.ConnError.TheVariants.{Memory, Read
 use Rattle.service.specs.Sockets.{Cause, Failed, Finished, Shut, Silent, Why}
 use Rattle.service.specs.Turns.{FailsAfter}
 
--- which connection an entry of a history is of
+-- the number of the connection that an entry of a history is of
 abbrev pub entry_number : HistoryEntry → ℕ
 entry_number (Piece k bytes) = k
 entry_number (Fail k) = k
@@ -32,9 +32,9 @@ IsShut prefix k history =
 abbrev pub AreOfOthers : ℕ → List HistoryEntry → Type 0
 AreOfOthers k entries = AllByRecursion (λ entry. entry_number entry ≡ k → ⊥) entries
 
--- In the entries after the history these bytes came over the connection, one request at a time and
--- as long as more could be answered; the answers to all but the last are `earlier`, and `last` is
--- that to the last. What was at hand as memory was wanting has none.
+-- What came over the connection in the entries after the history, one request at a time and as long
+-- as more could be answered; the answers to all but the last are `earlier`, and `last` is that to
+-- the last. What was at hand as memory was wanting has none.
 pub data Answered (prefix : List ℕ) (opening : CacheValue) (history : List HistoryEntry) (k : ℕ)
     : List HistoryEntry → List ℕ → List ℕ → List ℕ → Type 0 where
   none : Answered prefix opening history k [] [] [] []
@@ -80,7 +80,7 @@ IsReason over shut left unsent (Ok done) =
 IsReason over shut left unsent (Err e) =
     (e ≡ Memory) ⊎ (over (Failed e) ⊎ (over Silent × (e ≡ fault_of_silence unsent)))
 
--- so it is, or the whole run was cut off, which is told as a fault of reading
+-- a reason is given, or the whole run was cut off, which is told as a fault of reading
 abbrev pub OrCutOff : Bool → Why → Type 0 → Type 0
 OrCutOff false why P = P
 OrCutOff true why P = P ⊎ (why ≡ Err ReadFault)
@@ -121,7 +121,8 @@ pub record ServesEach
   pub theirs : AreBelow count entries
   pub each : (k : ℕ) → k < count → HasEnded cut ended lost prefix opening history entries k
 
--- so it is, whatever history had led to the server
+-- Whatever history had led to the server, each of the connections has ended, and what came over
+-- them alone led to the new one.
 abbrev pub ServesConnections :
     Bool → (ℕ → List ℕ → List ℕ → Why → Type 0) → (ℕ → Cause → Type 0)
     → ServerValue → ℕ → ServerValue → Type 0
@@ -154,7 +155,8 @@ pub record ComesOfEach
   pub theirs : AreBelow count entries
   pub each : (k : ℕ) → k < count → ComesToEnd prefix opening history entries k
 
--- so it is, whatever history had led to the server
+-- Whatever history had led to the server, what came over the connections and their ends alone led
+-- to the new one.
 abbrev pub LedByConnections : ServerValue → ℕ → ServerValue → Type 0
 LedByConnections old count new =
     (opening : CacheValue) (history : List HistoryEntry)

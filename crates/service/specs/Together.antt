@@ -41,7 +41,8 @@ module _
   TalksOrEnded prefix opening history entries k (Some m) =
       TalksOn spoke prefix opening history entries k m
 
-  -- so many connections were accepted, and the entries are of these alone
+  -- Each connection that was accepted goes on or has ended, and the entries that led to the server
+  -- are of these alone.
   pub record KeepsTogether
       (prefix : List ℕ) (opening : CacheValue) (history : List HistoryEntry)
       (members : Members S) (accepted : ℕ) (server : ServerValue) : Type 0 where
@@ -53,7 +54,7 @@ module _
         → TalksOrEnded prefix opening history entries k (member_at members k)
     pub fresh : (k : ℕ) → accepted ≤ k → member_at members k ≡ None
 
-  -- so it is afterwards, where it was so before
+  -- what `KeepsTogether` says holds afterwards, where it held before
   pub record GoesOnTogether
       (members : Members S) (accepted : ℕ) (server : ServerValue)
       (members' : Members S) (accepted' : ℕ) (server' : ServerValue) : Type 0 where
@@ -61,39 +62,42 @@ module _
         → KeepsTogether prefix opening history members accepted server
         → KeepsTogether prefix opening history members' accepted' server'
 
--- so it is after a call, however many were accepted
+-- after a call what `KeepsTogether` says holds as before, however many were accepted
 abbrev pub LeavesTogether :
     {S : Type 0} → (ℕ → S → List ℕ → List ℕ → Type 0) → (ℕ → List ℕ → List ℕ → Why → Type 0)
     → (ℕ → Cause → Type 0) → (old new : Members S × ServerValue) → Type 0
 LeavesTogether spoke ended lost old new =
     (accepted : ℕ) → GoesOnTogether false spoke ended lost old.0 accepted old.1 new.0 accepted new.1
 
--- `places` says of the sockets how many more connections may be open.
-module _ {N S : Type 0} (places : N → ℕ → Type 0) where
-  -- Of so many places each is free or a connection's, whose number is below this one.
-  pub record ArePlaced (all : ℕ) (sockets : N) (members : Members S) (accepted : ℕ)
+-- `places` says of the sockets how many more connections may be open, and how many were accepted.
+module _ {N S : Type 0} (places : N → ℕ → ℕ → Type 0) where
+  -- Of all places each is free or a connection's, whose number is below the count of those that
+  -- were accepted here; the sockets count with them those that were accepted before.
+  pub record ArePlaced (all before : ℕ) (sockets : N) (members : Members S) (accepted : ℕ)
       : Type 0 where
     pub free : ℕ
-    pub are : places sockets free
+    pub are : places sockets free (before + accepted)
     pub sum : free + length members ≡ all
     pub fresh : (k : ℕ) → accepted ≤ k → member_at members k ≡ None
 
-  -- so it is afterwards, where it was so before
+  -- what `ArePlaced` says holds afterwards, where it held before
   pub record StaysPlaced
       (all : ℕ) (sockets : N) (members : Members S) (accepted : ℕ)
       (sockets' : N) (members' : Members S) (accepted' : ℕ) : Type 0 where
-    pub on : ArePlaced all sockets members accepted → ArePlaced all sockets' members' accepted'
+    pub on : (before : ℕ) → ArePlaced all before sockets members accepted
+        → ArePlaced all before sockets' members' accepted'
 
-  -- so it is after a call, however many places there are, and however many were accepted
+  -- after a call what `ArePlaced` says holds as before, however many places there are, and however
+  -- many connections were accepted
   abbrev pub LeavesPlaced : (old new : N × Members S) → Type 0
   LeavesPlaced old new =
       (all accepted : ℕ) → StaysPlaced all old.0 old.1 accepted new.0 new.1 accepted
 
--- the same connections
+-- no connection differs, and as many are open
 abbrev pub AreSame : {S : Type 0} → Members S → Members S → Type 0
 AreSame old new = ((j : ℕ) → member_at new j ≡ member_at old j) × (length new ≡ length old)
 
--- so they are, but that some wait for others no more
+-- no connection differs, but that some wait for others no more
 abbrev pub AreSameButHeld :
     {S : Type 0} → (ℕ → S → List ℕ → List ℕ → Type 0) → ℕ → Members S → Members S → Type 0
 AreSameButHeld spoke now old new =
@@ -101,11 +105,12 @@ AreSameButHeld spoke now old new =
     ⊎ IsLetGo spoke now (member_at old j) (member_at new j))
     × (length new ≡ length old)
 
--- it waits for no others, its silence counts from this time on, and it is queued for a turn
+-- the connection waits for no others, its silence counts from this time on, and it is queued for a
+-- turn
 abbrev pub IsFree : {S : Type 0} → ℕ → Option (MemberValue S) → Type 0
 IsFree now member = IfSome member (λ m. (m.held ≡ false) × (m.moved ≡ now) × (m.queued ≡ true))
 
--- the same connections, for which these events are noted
+-- no connection differs, but that these events are noted for it
 abbrev pub AreMarkedBy : {S : Type 0} → List Ready → Members S → Members S → Type 0
 AreMarkedBy events old new =
     ((j : ℕ) → member_at new j ≡ option_map (marked_by events j) (member_at old j))
@@ -157,13 +162,13 @@ module _
     pub same : new.prefix ≡ old.prefix
     pub stands : LeadsTo old (End k) new
 
-  -- it was ended, or there was none
+  -- the connection with the number was ended, or there was none
   abbrev pub EndsIfAny : Type 0
   EndsIfAny = EndsAt ⊎ ((member_at members k ≡ None) × (new ≡ old) × AreSame members members')
 
 -- ---- what they hold, and how long they are silent
 
--- so many bytes of answers nobody else holds
+-- how many bytes of answers nobody else holds
 abbrev pub HoldAlone : {S : Type 0} → Members S → ℕ → Type 0
 HoldAlone [] count = count ≡ 0
 HoldAlone (member ∷ members) count =
@@ -176,7 +181,7 @@ AreFull members load full =
     (alone : ℕ) × HoldAlone members alone
     × (full ≡ (nat_le 268435456 load.answers && nat_le 268435456 alone))
 
--- when the first of them will have been silent for too long
+-- when the first of the connections will have been silent for too long
 abbrev pub first_deadline : {S : Type 0} → Option ℕ → Members S → ℕ
 first_deadline idle [] = 18446744073709551615
 first_deadline idle (member ∷ members) =
@@ -193,17 +198,18 @@ IsInTime calm m idle now =
     (pressed : Bool) (deadline : ℕ) → (calm ≡ true → pressed ≡ false)
     → IsDeadline m idle pressed (Some deadline) → now < deadline
 
--- if it holds much, its sooner deadline, which counts where others wait for memory, isn't over
+-- if a connection holds much, its sooner deadline, which counts where others wait for memory, isn't
+-- over
 abbrev pub IsHeavyInTime : {S : Type 0} → Option ℕ → ℕ → MemberValue S → Type 0
 IsHeavyInTime idle now m =
     (65536 < m.own) ⊎ (65536 < m.load.requests)
     → IfSome (deadline_at m (Some (pressed_limit idle))) (λ deadline. now < deadline)
 
--- so each of them is
+-- each connection that holds much is in time by its sooner deadline
 abbrev pub AreHeavyInTime : {S : Type 0} → Option ℕ → ℕ → Members S → Type 0
 AreHeavyInTime idle now members = AllByRecursion (λ it. IsHeavyInTime idle now it.1) members
 
--- those that are in time stay as they are
+-- connections that are in time stay as they are
 abbrev pub SparesInTime : {S : Type 0} → Bool → Option ℕ → ℕ → Members S → Members S → Type 0
 SparesInTime calm idle now old new =
     (k : ℕ) → IfSome (member_at old k)
@@ -213,7 +219,8 @@ SparesInTime calm idle now old new =
 abbrev pub WakesAfter : ℕ → ℕ → Type 0
 WakesAfter now wake = (now < wake) ⊎ (wake ≡ 18446744073709551615)
 
--- and no later than the first of their deadlines
+-- the next wake comes after this time, if ever, and no later than the first of the connections'
+-- deadlines
 abbrev pub WakesInTime : {S : Type 0} → Option ℕ → Members S → ℕ → ℕ → Type 0
 WakesInTime idle members now wake = WakesAfter now wake × (wake ≤ first_deadline idle members)
 
@@ -234,7 +241,7 @@ module _ {S : Type 0} (full dry : S → Type 0) (all : Together S) where
     pub goes : (IsTrue m.queued ⊎ IsTrue m.held) ⊎ AwaitsEvent full dry m
     pub wakes : all.wake ≤ unwrap_or (deadline_at m all.idle) 18446744073709551615
 
-  -- so it is with each of them, and each may be silent for some time
+  -- each connection is seen to, and each may be silent for some time
   pub record AreSeenTo : Type 0 where
     pub each : (k : ℕ) → IfSome (member_at all.members.entries k) (IsSeenTo k)
     pub patient : IfSome all.idle (λ time. 0 < time)

@@ -2,19 +2,22 @@
 ghost use Rattle.std.specs.Prelude.{◌≡◌, ◌+◌, ◌<◌, ◌≤◌, ◌⊎◌, [], IfErr, IfNone, IfOk, IfSome};
 ghost use Rattle.std.specs.Prelude.{IsTrue, OnErr, OnOk, false, length, min};
 ghost use Rattle.std.specs.Option.{unwrap_or};
-ghost use Rattle.cache_server.specs.Server.{ServerValue};
+ghost use Rattle.cache_server.specs.History.{End};
+ghost use Rattle.cache_server.specs.Server.{LeadsTo};
 ghost use Rattle.service.specs.Member.{deadline_at, new_member};
-ghost use Rattle.service.specs.Sockets.{KeepsPlaces, TakesPlace};
+ghost use Rattle.service.specs.Sockets.{IsAccepted, KeepsPlaces};
 ghost use Rattle.service.specs.Talks.{AcceptsNone, FindsNone};
 ghost use Rattle.service.specs.Together.{AreSame, AreSeenTo, EntersAt, GoesOnTogether};
 ghost use Rattle.service.specs.Together.{StaysPlaced, WakesAfter};
 
+use crate::accepted::Accepted;
 use crate::error::finds_none;
 use crate::member::Member;
 use crate::serving::TRIES;
 use crate::sockets::{Peer, Sockets};
+use crate::telling::{Traffic, tell};
 use crate::together::Together;
-use cache_server::ConnError;
+use cache_server::{ConnError, Server};
 use log::{Log, warn};
 use std::alloc::Global;
 use std::io;
@@ -33,12 +36,13 @@ impl<S: Peer + Drop> Together<S> {
         accepted: &mut u64,
         connections: u64,
         at_once: usize,
+        server: &mut Server<Global>,
         now: u64,
     ) -> io::Result<()>
         requires { accepted.old ≤ connections }
-        ensures keeps { (server : ServerValue) → GoesOnTogether false S.spoke N.ended N.lost
-            self.old.members.entries accepted.old server
-            self.new.members.entries accepted.new server }
+        ensures keeps { GoesOnTogether false S.spoke N.ended N.lost
+            self.old.members.entries accepted.old server.old
+            self.new.members.entries accepted.new server.new }
         ensures places { StaysPlaced N.places at_once
             sockets.old self.old.members.entries accepted.old
             sockets.new self.new.members.entries accepted.new }
@@ -67,12 +71,13 @@ impl<S: Peer + Drop> Together<S> {
             if !self.waits || *accepted >= connections || self.members.len() >= at_once {
                 return Ok(());
             }
-            self.accept_one(rt, sockets, accepted, connections, at_once, now)?;
+            self.accept_one(rt, sockets, accepted, connections, at_once, server, now)?;
         }
         Ok(())
     }
 
-    /// Accepts a connection, if one waits. One for which memory is wanting is ended at once.
+    /// Accepts a connection, if one waits. One for which memory is wanting, or a call fails, is
+    /// ended at once, and none is accepted for a while.
     fn accept_one<R: AllocGlobal + Log, N: Sockets<Stream = S>>(
         &mut self,
         rt: &R,
@@ -80,13 +85,14 @@ impl<S: Peer + Drop> Together<S> {
         accepted: &mut u64,
         connections: u64,
         at_once: usize,
+        server: &mut Server<Global>,
         now: u64,
     ) -> io::Result<()>
         requires more { accepted.old < connections }
         requires place { length self.old.members.entries < at_once }
-        ensures keeps { (server : ServerValue) → GoesOnTogether false S.spoke N.ended N.lost
-            self.old.members.entries accepted.old server
-            self.new.members.entries accepted.new server }
+        ensures keeps { GoesOnTogether false S.spoke N.ended N.lost
+            self.old.members.entries accepted.old server.old
+            self.new.members.entries accepted.new server.new }
         ensures places { StaysPlaced N.places at_once
             sockets.old self.old.members.entries accepted.old
             sockets.new self.new.members.entries accepted.new }
@@ -111,19 +117,46 @@ impl<S: Peer + Drop> Together<S> {
         } }
     {
         let number = *accepted;
-        let Some((stream, peer)) = self.next(rt, sockets, number, now)? else {
+        let Some(Accepted { peer, opened }) = self.next(rt, sockets, number, now)? else {
             return Ok(());
         };
-        match self.enter(rt.alloc(), number, stream, peer, now) {
-            Ok(()) => *accepted = number + 1,
-            Err(stream) => {
-                sockets.end(stream, Err(ConnError::Memory));
-                self.line.clear();
-                warn!(rt; "{number}: not accepted: out of memory");
-                self.put_off(now);
-            }
+        *accepted = number + 1;
+        match opened {
+            Ok(stream) => match self.enter(rt.alloc(), number, stream, peer, now) {
+                Ok(()) => (),
+                Err(stream) => {
+                    sockets.end(stream, Err(ConnError::Memory));
+                    self.let_go(rt, server, number, &peer, ConnError::Memory, now);
+                }
+            },
+            Err(why) => self.let_go(rt, server, number, &peer, why, now),
         }
         Ok(())
+    }
+
+    /// Tells of a connection that has ended as it was accepted, after which none is accepted for a
+    /// while.
+    fn let_go<R: Log>(
+        &mut self,
+        rt: &R,
+        server: &mut Server<Global>,
+        number: u64,
+        peer: &SocketAddr,
+        why: ConnError,
+        now: u64,
+    )
+        ensures ends { LeadsTo server.old (End number) server.new }
+        ensures prefix { server.new.prefix ≡ server.old.prefix }
+        ensures rest { self.new ≡ record self.old {
+          waits = false;
+          retry = min (now + 500) u64.MAX;
+          line = self.new.line;
+        } }
+    {
+        server.end(number);
+        self.line.clear();
+        tell(rt, number, peer, &Traffic::none(), &Err(why));
+        self.put_off(now);
     }
 
     /// The next connection, if one waits, or the last of so many faults in a row, while none is
@@ -135,11 +168,9 @@ impl<S: Peer + Drop> Together<S> {
         sockets: &mut N,
         number: u64,
         now: u64,
-    ) -> io::Result<Option<(S, SocketAddr)>>
-        ensures said { IfOk result (λ found. IfSome found (λ it. S.spoke number it.0 [] [])) }
-        ensures quiet { IfOk result (λ found. IfSome found (λ it. S.quiet it.0 now)) }
-        ensures takes { IfOk result (λ found. IfSome found (λ it.
-            TakesPlace N.places sockets.old sockets.new)) }
+    ) -> io::Result<Option<Accepted<S>>>
+        ensures accepts { IfOk result (λ found. IfSome found (λ it. IsAccepted S.spoke S.quiet
+            N.ended N.lost N.places number now sockets.old sockets.new it.opened)) }
         ensures keeps { IfOk result (λ found.
             IfNone found (KeepsPlaces N.places sockets.old sockets.new)) }
         ensures fails { IfErr result (AcceptsNone N.failed N.refused sockets.new) }

@@ -1,10 +1,17 @@
+ghost use Rattle.std.specs.Prelude.{◌≡◌, ℕ, IfOk};
+ghost use Rattle.service.specs.Sockets.{HasGiven};
+
+use crate::accepted::{Accepted, lost_by};
 use crate::sockets::{Peer, Ready, Sockets};
 use cache_server::ConnError;
-use mio::net::{TcpListener, TcpStream};
+use mio::net::TcpStream;
+use mio::unix::SourceFd;
 use mio::{Events, Interest, Poll, Token};
 use std::alloc::Global;
 use std::io::{Read, Write};
-use std::net::{Net, Shutdown, SocketAddr};
+use std::marker::Model;
+use std::net::{Net, Shutdown, TcpListener};
+use std::os::fd::AsRawFd;
 use std::time::Duration;
 use std::{io, net};
 
@@ -14,30 +21,51 @@ const LISTENER: Token = Token(usize::MAX);
 /// How many events are taken from the system at once.
 pub(crate) const EVENTS: usize = 256;
 
-/// A listener of the system, and epoll.
+/// A listener of the system, and epoll. Clauses see how many connections were accepted.
 #[derive(Drop)]
-pub(crate) struct Epoll {
+pub struct SystemSockets {
     poll: Poll,
     events: Events<Global>,
     listener: TcpListener,
+    accepted: u64,
 }
 
-impl Epoll {
-    pub(crate) fn new<R: AllocGlobal + Net>(
-        rt: &R,
-        listener: net::TcpListener,
-    ) -> io::Result<Epoll> {
+impl Model for SystemSockets {
+    ghost Value = { ℕ };
+
+    ghost view = { λ it. it.accepted };
+}
+
+impl SystemSockets {
+    pub fn new<R: AllocGlobal + Net>(rt: &R, listener: TcpListener) -> io::Result<SystemSockets>
+        ensures { IfOk result (λ sockets. sockets ≡ 0) }
+    {
         listener.set_nonblocking(true)?;
-        let mut listener = TcpListener::from_std(listener);
         let poll = Poll::new(rt)?;
-        poll.registry()
-            .register(&mut listener, LISTENER, Interest::READABLE)?;
+        poll.registry().register(
+            &mut SourceFd(&listener.as_raw_fd()),
+            LISTENER,
+            Interest::READABLE,
+        )?;
         let events = Events::with_capacity(rt.alloc(), EVENTS)?;
-        Ok(Epoll {
+        Ok(SystemSockets {
             poll,
             events,
             listener,
+            accepted: 0,
         })
+    }
+
+    /// The stream of a connection with this number, of which the system tells from here on.
+    fn open(&self, number: u64, stream: net::TcpStream) -> io::Result<TcpStream> {
+        stream.set_nonblocking(true)?;
+        let _set = stream.set_nodelay(true);
+        let mut stream = TcpStream::from_std(stream);
+        let interests = Interest::READABLE | Interest::WRITABLE;
+        self.poll
+            .registry()
+            .register(&mut stream, Token(number as usize), interests)?;
+        Ok(stream)
     }
 }
 
@@ -81,14 +109,14 @@ impl Peer for TcpStream {
     }
 }
 
-impl Sockets for Epoll {
+impl Sockets for SystemSockets {
     type Stream = TcpStream;
 
     ghost ended = { λ _ _ _ _. Unit {0} };
 
     ghost lost = { λ _ _. Unit {0} };
 
-    ghost places = { λ _ _. Unit {0} };
+    ghost places = { HasGiven };
 
     ghost failed = { λ _ _. Unit {0} };
 
@@ -98,15 +126,14 @@ impl Sockets for Epoll {
 
     ghost waited = { λ _ _ _. Unit {0} };
 
-    fn accept(&mut self, number: u64, _now: u64) -> io::Result<(TcpStream, SocketAddr)> {
+    fn accept(&mut self, number: u64, _now: u64) -> io::Result<Accepted<TcpStream>> {
         let (stream, peer) = self.listener.accept()?;
-        let mut stream = stream;
-        let _set = stream.set_nodelay(true);
-        let interests = Interest::READABLE | Interest::WRITABLE;
-        self.poll
-            .registry()
-            .register(&mut stream, Token(number as usize), interests)?;
-        Ok((stream, peer))
+        self.accepted = self.accepted.saturating_add(1);
+        let opened = match self.open(number, stream) {
+            Ok(stream) => Ok(stream),
+            Err(fault) => Err(lost_by(&fault)),
+        };
+        Ok(Accepted { peer, opened })
     }
 
     fn end(&mut self, _stream: TcpStream, _why: Result<(), ConnError>) {}

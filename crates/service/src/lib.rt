@@ -3,6 +3,7 @@
 //! it has ended.
 #![tactic(auto)]
 
+mod accepted;
 mod closing;
 mod desk;
 mod door;
@@ -27,8 +28,10 @@ mod together;
 mod turn;
 mod watched;
 
+pub use accepted::{Accepted, Streams};
+pub use epoll::SystemSockets;
 pub use error::NotAccepted;
-pub use listening::{Accepted, Listener};
+pub use listening::{Listener, SystemListener};
 pub use serving::{serve, serve_listener};
 pub use sockets::{Peer, Ready, Sockets};
 pub use status::ErrorTerminal;

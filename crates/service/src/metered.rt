@@ -9,7 +9,7 @@ use std::net::TcpStream;
 
 /// One way of a stream, and how many bytes have passed there.
 #[derive(Drop)]
-pub(crate) struct Metered {
+pub struct Metered {
     pub(crate) stream: TcpStream,
     pub(crate) bytes: u64,
 }

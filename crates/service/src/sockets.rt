@@ -6,17 +6,17 @@ ghost use Rattle.std.specs.Io.{ReadsAtMost, WritesAtMost};
 ghost use Rattle.std.specs.IoError.{error_kind};
 ghost use Rattle.std.specs.declared.io.Error.{Error};
 ghost use Rattle.std.specs.declared.io.ErrorKind.TheVariants.{Interrupted, WouldBlock};
-ghost use Rattle.service.specs.Sockets.{Cause, EndsAs, Failed, Finished, GivesPlace, IsBroken};
-ghost use Rattle.service.specs.Sockets.{IsQuietAfter, KeepsPlaces, ReadsFrom, SendsTo, Shut};
-ghost use Rattle.service.specs.Sockets.{Silent, Stays, StaysDry, StaysQuiet, StaysShut};
-ghost use Rattle.service.specs.Sockets.{TakesPlace, Why};
+ghost use Rattle.service.specs.Sockets.{Cause, EndsAs, Failed, Finished, GivesPlace, IsAccepted};
+ghost use Rattle.service.specs.Sockets.{IsBroken, IsQuietAfter, KeepsPlaces, ReadsFrom, SendsTo};
+ghost use Rattle.service.specs.Sockets.{Shut, Silent, Stays, StaysDry, StaysQuiet, StaysShut};
+ghost use Rattle.service.specs.Sockets.{Why};
 ghost use Rattle.service.specs.Turns.{FailsAfter};
 ghost use Rattle.service.specs.declared.sockets.Ready.{Ready};
 
+use crate::accepted::Accepted;
 use cache_server::ConnError;
 use std::alloc::Global;
 use std::io;
-use std::net::SocketAddr;
 use std::time::Duration;
 
 /// What the system has for a connection, or for the listener, which has no number.
@@ -128,8 +128,9 @@ pub trait Sockets {
     /// That it was over then, and why.
     ghost lost: { ℕ → Cause → Type 0 };
 
-    /// That so many more connections may be open. Only the calls that open and end them change it.
-    ghost places: { Self → ℕ → Type 0 };
+    /// That so many more connections may be open, and so many were accepted. Only the calls that
+    /// accept and end them change it.
+    ghost places: { Self → ℕ → ℕ → Type 0 };
 
     /// That so many accepts in a row have failed, up to the last, and not for want of a connection.
     ghost failed: { Self → ℕ → Type 0 };
@@ -144,14 +145,14 @@ pub trait Sockets {
     /// the system told.
     ghost waited: { Self → Option ℕ → List Ready → Type 0 };
 
-    /// The next connection, under this number, or `WouldBlock` where none waits.
-    fn accept(&mut self, number: u64, now: u64) -> io::Result<(Self::Stream, SocketAddr)>
-        ensures said { IfOk result (λ accepted. Self.Stream.spoke number accepted.0 [] []) }
-        ensures quiet { IfOk result (λ accepted. Self.Stream.quiet accepted.0 now) }
+    /// The next connection, under this number, or `WouldBlock` where none waits. One for which
+    /// memory is wanting, or a call fails, was accepted too, and has ended.
+    fn accept(&mut self, number: u64, now: u64) -> io::Result<Accepted<Self::Stream>>
+        ensures accepts { IfOk result (λ it. IsAccepted Self.Stream.spoke Self.Stream.quiet
+            ended lost places number now self.old self.new it.opened) }
         ensures fails { IfErr result (λ e. (error_kind e ≡ WouldBlock → ⊥)
             → FailsAfter failed 0 1 self.old self.new) }
         ensures last { IfErr result (refused self.new) }
-        ensures takes { OnOk result (TakesPlace places self.old self.new) }
         ensures keeps { OnErr result (KeepsPlaces places self.old self.new) };
 
     /// Ends a connection, and is told why.

@@ -1,5 +1,5 @@
-ghost use Rattle.std.specs.Prelude.{◌≡◌, ◌/◌, ◌<◌, ◌≤◌, ◌⊎◌, ◌||◌, ℕ, List, [], None, IfErr, IfOk};
-ghost use Rattle.std.specs.Prelude.{IsTrue, OnOk, false, max, option_map, true};
+ghost use Rattle.std.specs.Prelude.{◌≡◌, ◌/◌, ◌<◌, ◌≤◌, ◌⊎◌, ◌||◌, ℕ, List, [], None, IfErr};
+ghost use Rattle.std.specs.Prelude.{IfOk, IsTrue, OnOk, false, max, option_map, true};
 ghost use Rattle.std.specs.Duration.{as_nanos};
 ghost use Rattle.std.specs.IoError.{error_kind};
 ghost use Rattle.std.specs.List.{list_any};
@@ -7,6 +7,7 @@ ghost use Rattle.std.specs.Option.{is_none};
 ghost use Rattle.std.specs.declared.io.ErrorKind.TheVariants.{OutOfMemory};
 ghost use Rattle.cache_server.specs.Server.{ServerValue};
 ghost use Rattle.service.specs.Member.{millis_of, no_load};
+ghost use Rattle.service.specs.Sockets.{HasGiven, ServesPlaces};
 ghost use Rattle.service.specs.Talks.{LedByConnections, ServesConnections, Stops};
 ghost use Rattle.service.specs.Together.{AreMarkedBy, AreSeenTo, GoesOnTogether, LeavesPlaced};
 ghost use Rattle.service.specs.Together.{LeavesTogether, StaysPlaced, WakesAfter, member_at};
@@ -14,7 +15,7 @@ ghost use Rattle.service.specs.Together.{pause_of};
 ghost use Rattle.service.specs.declared.sockets.Ready.{Ready};
 
 use crate::desk::Desk;
-use crate::epoll::{EVENTS, Epoll};
+use crate::epoll::{EVENTS, SystemSockets};
 use crate::error::NotAccepted;
 use crate::load::{GREATEST, Scales};
 use crate::member::Member;
@@ -25,10 +26,9 @@ use cache_server::Server;
 use log::Log;
 use std::alloc::Global;
 use std::collections::{BTreeMap, VecDeque};
+use std::io;
 use std::io::{ErrorKind, Stderr};
-use std::net::Net;
 use std::time::{Clock, Duration};
-use std::{io, net};
 
 /// Connections that are served at once.
 #[derive(Drop)]
@@ -57,10 +57,10 @@ pub(crate) struct Together<S: Peer> {
 /// Serves so many connections of the listener, up to `at_once` of them at a time, none of which
 /// waits for another, but where all together hold too much: `serve_sockets` over epoll. Where
 /// standard error is a terminal, a line there says how many are open, and the hits so far.
-#[tactic(auto, using(crate::proofs::Whole::led_by_none, crate::proofs::Whole::led_by_served))]
-pub fn serve_together<R: AllocGlobal + Clock + ErrorTerminal + Log + Net>(
+#[tactic(auto, using(crate::proofs::Whole::led_by_served))]
+pub fn serve_together<R: AllocGlobal + Clock + ErrorTerminal + Log>(
     rt: &R,
-    listener: net::TcpListener,
+    sockets: &mut SystemSockets,
     connections: u64,
     at_once: usize,
     idle: Option<Duration>,
@@ -72,14 +72,15 @@ pub fn serve_together<R: AllocGlobal + Clock + ErrorTerminal + Log + Net>(
     ensures err { IfErr result (λ fault.
         LedByConnections server.old fault.accepted server.new) }
     ensures few { IfErr result (λ fault. fault.accepted ≤ connections) }
+    // So many were accepted.
+    ensures places { OnOk result
+        (ServesPlaces HasGiven at_once connections sockets.old sockets.new) }
+    ensures placed { IfErr result (λ fault.
+        ServesPlaces HasGiven at_once fault.accepted sockets.old sockets.new) }
 {
-    let mut sockets = match Epoll::new(rt, listener) {
-        Ok(sockets) => sockets,
-        Err(fault) => return Err(NotAccepted { accepted: 0, fault }),
-    };
     serve_sockets(
         rt,
-        &mut sockets,
+        sockets,
         connections,
         at_once,
         idle,
@@ -110,8 +111,11 @@ pub fn serve_sockets<R: AllocGlobal + Clock + Log, N: Sockets>(
     ensures err { IfErr result (λ fault.
         ServesConnections true N.ended N.lost server.old fault.accepted server.new) }
     ensures few { IfErr result (λ fault. fault.accepted ≤ connections) }
-    // Never were more than so many open, and none is in the end.
-    ensures places { N.places sockets.old at_once → N.places sockets.new at_once }
+    // Never were more than so many open, and none is in the end. No others were accepted.
+    ensures places { OnOk result
+        (ServesPlaces N.places at_once connections sockets.old sockets.new) }
+    ensures placed { IfErr result (λ fault.
+        ServesPlaces N.places at_once fault.accepted sockets.old sockets.new) }
     // It was cut off; or none was open, and a hundred accepts in a row failed.
     ensures stops { IfErr result (λ fault. Stops N.failed N.refused N.broken
         (ServesConnections false N.ended N.lost server.old fault.accepted server.new)
@@ -262,7 +266,7 @@ impl<S: Peer + Drop> Together<S> {
         for _ in 0..u64::MAX {
             let now = self.timer.now(rt);
             self.sweep(rt, sockets, server, now);
-            self.accept_some(rt, sockets, accepted, connections, at_once, now)?;
+            self.accept_some(rt, sockets, accepted, connections, at_once, server, now)?;
             if *accepted >= connections && self.members.is_empty() {
                 return Ok(());
             }

@@ -2,7 +2,7 @@
 use crate::rows::Row;
 use crate::servers::{cache_of, prefix_of};
 use crate::turns::first_length;
-use cache_server::{ConnError, run};
+use cache_server::{ConnError, Counted, run};
 use http_core::FailStream;
 use std::alloc::{AllocError, Allocator};
 use test_support::Refusing;
@@ -55,10 +55,11 @@ fn run_over<A: Allocator + Copy>(
     let mut cache = cache_of(alloc, row)?;
     let prefix = prefix_of(alloc, row)?;
     let most = most.max(1);
-    let mut reader = FailStream::new(heap, Vec::from_slice(heap, stream)?, most, read);
+    let bytes = Vec::from_slice(heap, stream)?;
+    let mut reader = Counted::new(FailStream::new(heap, bytes, most, read));
     let mut writer = FailStream::new(heap, Vec::new(heap), most, write);
     let end = run(alloc, &mut reader, &mut writer, &mut cache, &prefix);
-    let mut later = row.next;
+    let mut later = Counted::new(row.next);
     let mut after = Vec::new(heap);
     if run(alloc, &mut later, &mut after, &mut cache, &prefix).is_err() {
         return Err(AllocError);

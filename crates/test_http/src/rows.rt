@@ -10,7 +10,7 @@ pub struct Row<'a> {
     pub words: &'a str,
     /// The bytes of a stream.
     pub stream: &'a [u8],
-    /// Those of the stream that is opened after it.
+    /// The bytes of the stream that is opened after it.
     pub next: &'a [u8],
     /// The lengths of the pieces in which they come, in turn.
     pub lengths: [usize; 3],

@@ -87,7 +87,7 @@ fn run_over<A: Allocator + Copy>(
 ) -> Result<u64, AllocError> {
     let mut cache = cache_of(alloc, row)?;
     let prefix = prefix_of(alloc, row)?;
-    let mut reader = row.stream;
+    let mut reader = Counted::new(row.stream);
     if run(alloc, &mut reader, answers, &mut cache, &prefix).is_err() {
         return Err(AllocError);
     }
@@ -244,7 +244,7 @@ pub fn count<A: Allocator + Copy>(
 fn counted<A: Allocator + Copy>(alloc: A, row: &Row<'_>) -> Result<Counts, AllocError> {
     let mut cache = cache_of(alloc, row)?;
     let prefix = prefix_of(alloc, row)?;
-    let mut reader = row.stream;
+    let mut reader = Counted::new(row.stream);
     let mut answers = Vec::new(row.heap);
     if run(alloc, &mut reader, &mut answers, &mut cache, &prefix).is_ok() {
         Ok(cache.counts())

@@ -8,9 +8,9 @@ use std::{io, mem};
 /// What there is after the first stream.
 #[derive(Drop)]
 pub enum Next {
-    /// It can't be opened anew.
+    /// The stream can't be opened anew.
     Never,
-    /// It can, but that fails.
+    /// The stream can be opened anew, but that fails.
     Refused,
     /// A stream that gives these bytes.
     Gives(Vec<u8>),
@@ -52,7 +52,7 @@ impl Streams {
         self.now.sent()
     }
 
-    /// Which call from here on fails; 0 where none will.
+    /// The call from here on that fails; 0 where none will.
     pub fn until_failure(&self) -> u64 {
         self.now.until_failure()
     }

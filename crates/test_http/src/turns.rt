@@ -5,7 +5,7 @@ use crate::noting::{NotingWriter, TurnReader};
 use crate::rows::Row;
 use crate::servers::{cache_of, prefix_of};
 use blob_digest::Digest;
-use cache_server::{ConnError, run};
+use cache_server::{ConnError, Counted, run};
 use std::alloc::{AllocError, Allocator};
 use std::cell::Cell;
 
@@ -19,14 +19,14 @@ pub fn turns<A: Allocator + Copy>(
 ) -> Result<(), AllocError> {
     let pieces = pieces_of(row)?;
     let flushed = Cell::new(0);
-    let mut reader = TurnReader {
+    let mut reader = Counted::new(TurnReader {
         pieces: &pieces,
         flushed: &flushed,
         noted: Vec::new(row.heap),
-    };
+    });
     let mut writer = NotingWriter::new(Vec::new(row.heap), &flushed);
     let end = run_turns(alloc, row, &mut reader, &mut writer);
-    tell_reads(&reader.noted, text)?;
+    tell_reads(&reader.reader.noted, text)?;
     if writer.taken.len() != flushed.get() {
         text.push_str("not flushed at the end\n")?;
     }
@@ -46,11 +46,11 @@ pub fn digest<A: Allocator + Copy>(
 ) -> Result<(), AllocError> {
     let pieces = row.pieces()?;
     let flushed = Cell::new(0);
-    let mut reader = TurnReader {
+    let mut reader = Counted::new(TurnReader {
         pieces: &pieces,
         flushed: &flushed,
         noted: Vec::new(row.heap),
-    };
+    });
     let mut writer = NotingWriter::new(Vec::new(row.heap), &flushed);
     if run_turns(alloc, row, &mut reader, &mut writer).is_err() {
         return Err(AllocError);
@@ -62,7 +62,7 @@ pub fn digest<A: Allocator + Copy>(
 fn run_turns<A: Allocator + Copy>(
     alloc: A,
     row: &Row<'_>,
-    reader: &mut TurnReader<'_>,
+    reader: &mut Counted<TurnReader<'_>>,
     writer: &mut NotingWriter<'_>,
 ) -> Result<(), ConnError> {
     let mut cache = cache_of(alloc, row)?;

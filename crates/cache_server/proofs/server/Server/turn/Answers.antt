@@ -27,6 +27,6 @@ returns-in-Ok-clause-ok g c =
 pub returns-in-Err-clause-err : goal.returns-in-Err-clause-err
 returns-in-Err-clause-err g c =
     let mid : ServerValue = record { cache = c.self.inside.cache; prefix = c.self.inside.prefix; sessions = c.self.inside.sessions.entries } in
-    let served : ServerValue = record { cache = c.answer.new.self; prefix = c.self.inside.prefix; sessions = c.self.inside.sessions.entries } in
+    let served : ServerValue = record { cache = c.answer_to.new.self; prefix = c.self.inside.prefix; sessions = c.self.inside.sessions.entries } in
     closes_fed c.args.self.now mid served c.close.new.self c.args.connection c.args.piece.now c.in_ok-taken.taken (option_map event_of c.in_ok-taken.event)
     (subst (FeedsFirstAt c.args.self.now c.args.connection c.args.piece.now c.in_ok-taken.taken (option_map event_of c.in_ok-taken.event)) (sym c.self.view_is) c.in_ok-taken.ensures.ok) c.in-Err.ensures.err refl refl c.close.ensures

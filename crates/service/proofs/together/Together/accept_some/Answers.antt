@@ -9,14 +9,14 @@ use Rattle.service.proofs.Seeing.{seen_same}
 use Rattle.service.proofs.together.Together.accept_some.Goals as goal
 
 pub returns-in_err-accept_one-clause-keeps : goal.returns-in_err-accept_one-clause-keeps
-returns-in_err-accept_one-clause-keeps g c server = keeps_further (c.loop.invariant.keeps server) (c.accept_one.ensures.keeps server)
+returns-in_err-accept_one-clause-keeps g c = keeps_further c.loop.invariant.keeps c.accept_one.ensures.keeps
 
 pub returns-in_err-accept_one-clause-places : goal.returns-in_err-accept_one-clause-places
 returns-in_err-accept_one-clause-places g c = placed_further c.loop.invariant.places c.accept_one.ensures.places
 
 pub loop-preserved : goal.loop-preserved
 loop-preserved g c = record {
-  keeps = λ server. keeps_further (c.loop.invariant.keeps server) (c.accept_one.ensures.keeps server);
+  keeps = keeps_further c.loop.invariant.keeps c.accept_one.ensures.keeps;
   places = placed_further c.loop.invariant.places c.accept_one.ensures.places;
   count = counts_on c.loop.self.waits c.accept_one.new.self.waits c.args.accepted.now c.loop.counter c.loop.accepted c.accept_one.new.accepted (search rules) c.loop.invariant.count c.in_ok-accept_one.ensures.one;
   within = c.accept_one.ensures.within;
@@ -33,7 +33,7 @@ loop-init g c =
     let rest = c.try_again.ensures.rest in
     let same : AreSame f t = (λ j. ap (λ z. member_at z.members.entries j) rest, ap (λ z. length z.members.entries) rest) in
     record {
-      keeps = λ server. keeps_same false g.S.Peer.spoke g.N.Sockets.ended g.N.Sockets.lost f t c.args.accepted.now server same;
+      keeps = keeps_same false g.S.Peer.spoke g.N.Sockets.ended g.N.Sockets.lost f t c.args.accepted.now c.args.server.now same;
       places = placed_still c.args.sockets.now f t c.args.accepted.now same;
       count = inr (omega arith);
       within = c.requires;

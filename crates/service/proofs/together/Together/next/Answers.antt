@@ -9,7 +9,7 @@ pub loop-failed-preserved : goal.loop-failed-preserved
 loop-failed-preserved g c = record {
   tried = fails_on g.N.Sockets.failed 0 c.loop-failed.failed 1 c.args.sockets.now c.loop-failed.sockets c.accept.new.self c.loop-failed.invariant.tried
       (c.in-Err.ensures.fails (λ e. not_both c.finds_none.result c.if-finds_none.false (c.finds_none.ensures.1 e)));
-  places = λ free h. c.in-Err.ensures.keeps free (c.loop-failed.invariant.places free h);
+  places = λ free given h. c.in-Err.ensures.keeps free given (c.loop-failed.invariant.places free given h);
   few = search rules;
   same = ap (λ (z : Together g.row.S.Denot). record z { line = c.clear.new.self }) c.loop-failed.invariant.same;
 }

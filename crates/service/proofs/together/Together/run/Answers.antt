@@ -40,7 +40,7 @@ loop-init g c = record {
   turns = NoTurn c.args.self.now;
   seen = λ seen. seen;
   eased = λ eased. eased;
-  places = λ all accepted. record { on = λ placed. placed };
+  places = λ all accepted. record { on = λ before placed. placed };
   waits = λ was. was;
   share = refl;
   retry = refl;

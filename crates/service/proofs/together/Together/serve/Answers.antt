@@ -7,7 +7,7 @@ use Rattle.service.proofs.together.Together.serve.Goals as goal
 
 pub returns-in_err-accept_some-clause-keeps : goal.returns-in_err-accept_some-clause-keeps
 returns-in_err-accept_some-clause-keeps g c =
-    keeps_further c.loop.invariant.keeps (keeps_further (c.sweep.ensures.keeps c.loop.accepted) (c.accept_some.ensures.keeps c.sweep.new.server))
+    keeps_further c.loop.invariant.keeps (keeps_further (c.sweep.ensures.keeps c.loop.accepted) c.accept_some.ensures.keeps)
 
 pub returns-in_err-accept_some-clause-places : goal.returns-in_err-accept_some-clause-places
 returns-in_err-accept_some-clause-places g c =
@@ -15,7 +15,7 @@ returns-in_err-accept_some-clause-places g c =
 
 pub returns-then-is_empty-clause-keeps : goal.returns-then-is_empty-clause-keeps
 returns-then-is_empty-clause-keeps g c =
-    keeps_further c.loop.invariant.keeps (keeps_further (c.sweep.ensures.keeps c.loop.accepted) (c.accept_some.ensures.keeps c.sweep.new.server))
+    keeps_further c.loop.invariant.keeps (keeps_further (c.sweep.ensures.keeps c.loop.accepted) c.accept_some.ensures.keeps)
 
 pub returns-then-is_empty-clause-places : goal.returns-then-is_empty-clause-places
 returns-then-is_empty-clause-places g c =
@@ -25,8 +25,8 @@ pub returns-in_err-pause-clause-keeps : goal.returns-in_err-pause-clause-keeps
 returns-in_err-pause-clause-keeps g c =
     let n = c.accept_some.new.accepted in
     let shown : AreSame c.accept_some.new.self.members.entries c.show.new.self.members.entries = (λ j. ap (λ z. member_at z.members.entries j) c.show.ensures, ap (λ z. length z.members.entries) c.show.ensures) in
-    keeps_further c.loop.invariant.keeps (keeps_further (c.sweep.ensures.keeps c.loop.accepted) (keeps_further (c.accept_some.ensures.keeps c.sweep.new.server)
-    (keeps_further (keeps_same false g.S.Peer.spoke g.N.Sockets.ended g.N.Sockets.lost _ _ n c.sweep.new.server shown) (c.pause.ensures.keeps c.sweep.new.server n))))
+    keeps_further c.loop.invariant.keeps (keeps_further (c.sweep.ensures.keeps c.loop.accepted) (keeps_further c.accept_some.ensures.keeps
+    (keeps_further (keeps_same false g.S.Peer.spoke g.N.Sockets.ended g.N.Sockets.lost _ _ n c.accept_some.new.server shown) (c.pause.ensures.keeps c.accept_some.new.server n))))
 
 pub returns-in_err-pause-clause-places : goal.returns-in_err-pause-clause-places
 returns-in_err-pause-clause-places g c =
@@ -40,8 +40,8 @@ loop-preserved g c =
     let n = c.accept_some.new.accepted in
     let shown : AreSame c.accept_some.new.self.members.entries c.show.new.self.members.entries = (λ j. ap (λ z. member_at z.members.entries j) c.show.ensures, ap (λ z. length z.members.entries) c.show.ensures) in
     record {
-      keeps = keeps_further c.loop.invariant.keeps (keeps_further (c.sweep.ensures.keeps c.loop.accepted) (keeps_further (c.accept_some.ensures.keeps c.sweep.new.server)
-          (keeps_further (keeps_same false g.S.Peer.spoke g.N.Sockets.ended g.N.Sockets.lost _ _ n c.sweep.new.server shown) (keeps_further (c.pause.ensures.keeps c.sweep.new.server n) (c.run.ensures.keeps n)))));
+      keeps = keeps_further c.loop.invariant.keeps (keeps_further (c.sweep.ensures.keeps c.loop.accepted) (keeps_further c.accept_some.ensures.keeps
+          (keeps_further (keeps_same false g.S.Peer.spoke g.N.Sockets.ended g.N.Sockets.lost _ _ n c.accept_some.new.server shown) (keeps_further (c.pause.ensures.keeps c.accept_some.new.server n) (c.run.ensures.keeps n)))));
       places = placed_further c.loop.invariant.places (placed_further (c.sweep.ensures.places c.args.at_once c.loop.accepted) (placed_further c.accept_some.ensures.places
           (placed_further (placed_still c.accept_some.new.sockets _ _ n shown) (placed_further (c.pause.ensures.places c.args.at_once n) (c.run.ensures.places c.args.at_once n)))));
       share = c.run.ensures.share ∙ ap (λ z. z.share) c.pause.ensures.rest ∙ ap (λ z. z.share) c.show.ensures ∙ ap (λ z. z.share) c.accept_some.ensures.rest ∙ ap (λ z. z.share) c.sweep.ensures.rest ∙ c.loop.invariant.share;
