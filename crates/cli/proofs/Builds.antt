@@ -86,19 +86,13 @@ text_of_flag (Some text) = (
   λ e. let same : text ≡ codes "true" = cc in (bytes_eq-Decides text (codes "true")).1 same,
 )
 
--- the errors of steps are shown on a terminal, or where the flag is given, and else not
-pub shown_on_terminal : (terminal : Bool) (options : List Row) → terminal ≡ true → Shown ≡ errors_asked terminal options
-shown_on_terminal true options on = refl
-shown_on_terminal false options on = absurd cc
-
-pub shown_by_flag : (terminal : Bool) (options : List Row) → IsSet options (codes "verbose") → Shown ≡ errors_asked terminal options
-shown_by_flag true options given = refl
-shown_by_flag false options given =
+-- the errors of steps are shown where the flag is given, and else not
+pub shown_by_flag : (options : List Row) → IsSet options (codes "verbose") → Shown ≡ errors_asked options
+shown_by_flag options given =
     sym (ap (λ (b : Bool). if b then Shown else Discarded) ((text_of_flag (first_of (codes "verbose") options)).1 given))
 
-pub not_shown : (terminal : Bool) (options : List Row) → terminal ≡ false → (IsSet options (codes "verbose") → ⊥) → Discarded ≡ errors_asked terminal options
-not_shown true options off none = absurd cc
-not_shown false options off none =
+pub not_shown : (options : List Row) → (IsSet options (codes "verbose") → ⊥) → Discarded ≡ errors_asked options
+not_shown options none =
     sym (ap (λ (b : Bool). if b then Shown else Discarded) (none_set (bytes_eq (option_text options (codes "verbose")) (codes "true")) (text_of_flag (first_of (codes "verbose") options)) none))
   where
     none_set : {P : Type 0} (b : Bool) → Decides b P → (P → ⊥) → b ≡ false

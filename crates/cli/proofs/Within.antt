@@ -1,5 +1,5 @@
 -- What is said of a build by its runner and its watcher is said of it by what is known below a folder.
-use Rattle.std.proofs.Common.{◌≡◌, ◌∙◌, ◌++◌, List, [], Result, Ok, Err, ℕ, refl, subst, sym}
+use Rattle.std.proofs.Common.{◌≡◌, ◌++◌, List, [], Result, Ok, Err, ℕ, refl, subst, sym}
 use Rattle.std.specs.declared.alloc.Global.{Global}
 use Rattle.blob_digest.specs.Digest.{DigestValue}
 use Rattle.plan.specs.Values.{PlanValue}
@@ -25,11 +25,11 @@ pub record IsRunBelow (z : Yields) (old new : Seen) (processes : Processes) : Ty
   pub all : (started : List StartValue) → new.started started → processes.ran started
 
 -- it ran below the folder that was asked for
-pub run_below : (below : Below) {z : Yields} {old new : Seen} {asked given at : List ℕ} → given ≡ asked → at ≡ given → YieldsNoMore z (below given).yields → old.started [] → ((started : List StartValue) → new.started started → (below at).ran started) → IsRunBelow z old new (below asked)
-run_below below {z} is still within none all = record {
+pub run_below : (below : Below) {z : Yields} {old new : Seen} {asked given : List ℕ} → given ≡ asked → YieldsNoMore z (below given).yields → old.started [] → ((started : List StartValue) → new.started started → (below given).ran started) → IsRunBelow z old new (below asked)
+run_below below {z} is within none all = record {
   within = subst (λ w. YieldsNoMore z (below w).yields) is within;
   none = none;
-  all = λ started h. subst (λ w. (below w).ran started) (still ∙ is) (all started h);
+  all = λ started h. subst (λ w. (below w).ran started) is (all started h);
 }
 
 module _ (z : Yields) (most : ℕ) (plan : PlanValue) (sources : DigestValue) (old new : Seen) (processes : Processes) (below : IsRunBelow z old new processes) where

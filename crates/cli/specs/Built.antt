@@ -1,5 +1,5 @@
 -- What `build` prints.
-use Rattle.std.specs.Prelude.{◌≡◌, ◌⊎◌, ◌<◌, ℕ, Bool, true, false, List, [], ◌∷◌, Option, Some}
+use Rattle.std.specs.Prelude.{◌≡◌, ◌≢◌, ◌⊎◌, ◌<◌, ℕ, List, [], ◌∷◌, Option, Some}
 use Rattle.std.specs.Prelude.{None, Result, Ok, bytes_eq, codes, if◌then◌else◌, string_bytes}
 use Rattle.std.specs.Result.{IsErrAnd}
 use Rattle.std.specs.Io.KnownBytes.{Appends}
@@ -21,7 +21,8 @@ use Rattle.commands.specs.Places.{IsToldOver, puts_too}
 use Rattle.commands.specs.Printed.{IsConnectedTo}
 use Rattle.commands.specs.Refusal.{HasPlanRead}
 use Rattle.commands.specs.Told.{AppendsBeginning}
-use Rattle.commands.specs.Words.{AllValid, Check, IsUpTo, is_expected, server_words, where_said}
+use Rattle.commands.specs.Words.{AllValid, Check, IsUpTo, else_told, is_expected, server_words}
+use Rattle.commands.specs.Words.{where_said}
 use Rattle.commands.specs.World.{Sight}
 use Rattle.commands.specs.declared.ended.Ended.{Ended}
 use Rattle.commands.specs.declared.ended.Ended.TheVariants.{Done, No}
@@ -68,15 +69,15 @@ pub record IsToldBy (start : ConnectionValue) (processes : Processes) (most : �
   pub failed : Counts before.failures after.failures
       (IsErrAnd told (λ e. IsStoreFailure (fault_of e)))
 
--- Each Directory that was made for the root of a build that came to it was then told over the
--- connection, and no result was put since.
+-- Each Directory that was made for the root of a build that came to its root was later told over
+-- the connection, and no result was put since.
 abbrev pub HoldsRoot : ConnectionValue → Telling → Told Global → Type 0
 HoldsRoot start after (Built line noted directories) = (told : Telling)
     × (∥ IsToldOver puts_too start told ∥₁) × (told.puts ≡ after.puts)
     × HasAllRight told.blobs (items_of directories.items)
 HoldsRoot start after (Failed line why) = Unit {0}
 
--- and the Directories of the root are there
+-- what was told is of a build over the connection, and the Directories of its root are there
 pub record IsToldOf (start : ConnectionValue) (processes : Processes) (most : ℕ) (plan : PlanValue)
     (sources : DigestValue) (told : Told Global) : Type 0 where
   pub by : IsToldBy start processes most plan sources (Ok told)
@@ -99,7 +100,7 @@ IsNoted sees options (Failed line why) = Unit {0}
 
 -- ---- what the options ask for
 
--- so many steps may run at once, one where nothing is said of it
+-- how many steps may run at once: one where nothing is said of it
 abbrev pub jobs_asked : List Row → ℕ
 jobs_asked options = number_or 1 options (codes "jobs")
 
@@ -107,14 +108,19 @@ abbrev pub may_have_jobs : List Row → Check
 may_have_jobs options = where_said options (codes "jobs") (is_expected options (codes "jobs")
     (codes "a number from 1 to 64") (λ text. IsUpTo 64 text × (0 < decimal_number text)))
 
--- The errors of steps are shown on a terminal, and where the options want that.
-abbrev pub errors_asked : Bool → List Row → ChildErrors
-errors_asked true options = Shown
-errors_asked false options =
+-- The errors of steps are shown where the options want that.
+abbrev pub errors_asked : List Row → ChildErrors
+errors_asked options =
     if bytes_eq (option_text options (codes "verbose")) (codes "true") then Shown else Discarded
 
+-- the record isn't written over the plan: the options name two paths
+abbrev pub keeps_plan : List Row → Check
+keeps_plan options = else_told
+    (option_text options (codes "record") ≢ option_text options (codes "plan"))
+    (codes "--record cannot name the file of --plan")
+
 abbrev pub build_words : List Row → List Check
-build_words options = may_have_jobs options ∷ server_words options
+build_words options = may_have_jobs options ∷ keeps_plan options ∷ server_words options
 
 -- the words are valid, and ask for the plan whose text was read, over the sources whose digest they
 -- spell
@@ -150,7 +156,7 @@ pub record TellsAsked (sees : Sight) (below : Below) (options : List Row) (told 
   pub tells : IsToldOf start (below (option_text options (codes "work"))) (jobs_asked options) plan
       sources told
 
--- Its line was printed, and where it came to its root its record written.
+-- The line of a build was printed, and where the build came to its root its record was written.
 pub record PrintsBuild (sees : Sight) (below : Below) (options : List Row)
     (old new : Option (List ℕ)) (ended : Ended) : Type 0 where
   pub told : Told Global

@@ -30,12 +30,12 @@ WantsHelp words = IsAmong DisplayHelp (fault_of program_line words)
 abbrev pub WantsVersion : List Text → Type 0
 WantsVersion words = IsAmong DisplayVersion (fault_of program_line words)
 
--- it was printed
+-- the help or the version that the words ask for was printed
 pub data ShowsAsked (words : List Text) (old new : Option (List ℕ)) : Type 0 where
   help : WantsHelp words → Appends old new (help_asked words) → ShowsAsked words old new
   version : WantsVersion words → Appends old new version_line → ShowsAsked words old new
 
--- or a beginning of it, or nothing
+-- nothing was printed, or a beginning of the help or the version that the words ask for
 pub data BeginsShown (words : List Text) (old new : Option (List ℕ)) : Type 0 where
   nothing : new ≡ old → BeginsShown words old new
   help : WantsHelp words → AppendsBeginning old new (help_asked words) → BeginsShown words old new
@@ -71,7 +71,7 @@ pub data IsNo (sees : Sight) (below : Below) (words : List Text) (note : Option 
       → PrintsBuild sees below (options_of words) old new (No note)
       → IsNo sees below words note old new
 
--- with its note on standard error
+-- the words end in a no, with its note on standard error
 pub record EndsNo (sees : Sight) (below : Below) (words : List Text)
     (old new old_err new_err : Option (List ℕ)) : Type 0 where
   pub note : Option Note
@@ -80,7 +80,8 @@ pub record EndsNo (sees : Sight) (below : Below) (words : List Text)
 
 -- ---- why they come to neither
 
--- That was begun, or what the called command answers: of `verify` no line is whole.
+-- What the words ask for was begun: the help, the version, or what the called command answers. Of
+-- `verify` no line is whole.
 pub data BeginsAsked (sees : Sight) (below : Below) (words : List Text)
     (old new : Option (List ℕ)) : Type 0 where
   shown : BeginsShown words old new → BeginsAsked sees below words old new
@@ -102,7 +103,7 @@ pub record HasFault (words : List Text) : Type 0 where
   pub no_help : kind ≢ DisplayHelp
   pub no_version : kind ≢ DisplayVersion
 
--- and they ask for neither
+-- the words are at fault, and ask neither for help nor for the version
 pub record AreFaulty (words : List Text) : Type 0 where
   pub fault : HasFault words
   pub no_help : ¬ WantsHelp words

@@ -9,7 +9,7 @@ abbrev pub counts_text : Progress → List ℕ
 counts_text p = codes "build " ++ (decimal p.finished ++ (codes " of " ++ (decimal p.steps
     ++ (codes " steps, " ++ (decimal p.taken ++ codes " from the store")))))
 
--- then how many run, and the one that runs longest, where it is a step of the plan
+-- the counts, and then how many run, and the one that runs longest, where it is a step of the plan
 abbrev pub with_longest : List ℕ → ℕ → Option StepValue → List ℕ
 with_longest counts running None = counts
 with_longest counts running (Some step) =

@@ -1,6 +1,6 @@
--- Why `build` ends without its line: the first fault, in the order jobs, server, digest, plan,
--- connection, folder, record and work. Of a file, that it can't be read comes before what is wrong
--- in its text.
+-- Why `build` ends without its line: the first fault, in the order jobs, one path for plan and
+-- record, server, digest, plan, connection, folder, record and work. Of a file, that it can't be
+-- read comes before what is wrong in its text.
 use Rattle.std.specs.Prelude.{◌≡◌, ◌⊎◌, ◌<◌, ℕ, List, [], length, Result, Ok, Err, codes}
 use Rattle.std.specs.Prelude.{string_bytes}
 use Rattle.std.specs.IoError.{error_kind}
@@ -54,9 +54,10 @@ FailsAtPath sees path e = (f : FileError Global) × sees.fails path f × (e ≡ 
 abbrev pub FailsToWrite : Sight → List ℕ → CommandError → Type 0
 FailsToWrite sees path = OrMemory (IsFaultAtPath path (sees.unwritten path))
 
--- it is a folder that can't be read or isn't empty, or memory ran out
+-- no folder at the path can be listed, or it isn't empty, or memory ran out
 abbrev pub FailsFolder : Sight → List ℕ → CommandError → Type 0
-FailsFolder sees path = OrMemory (λ e. HasEntries sees path e ⊎ FailsAtPath sees path e)
+FailsFolder sees path = OrMemory (λ e. HasEntries sees path e
+    ⊎ ((f : FileError Global) × sees.unlisted path f × (e ≡ error_of_file f)))
 
 -- the cause for which a process came to nothing, as an error tells it
 abbrev pub process_cause : FailureCause → ProcessCause

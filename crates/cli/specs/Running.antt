@@ -13,9 +13,6 @@ use Rattle.commands.specs.declared.ended.Ended.{Ended}
 use Rattle.commands.specs.declared.ended.Ended.TheVariants.{Done, No}
 use Rattle.worker.specs.declared.error.StepRefusal.TheVariants.{Run}
 use Rattle.worker.specs.declared.runner.RunError.TheVariants.{Device}
-use Rattle.processes.specs.Running.{HaveStarted}
-use Rattle.processes.specs.Workshop.{Works}
-use Rattle.worker.specs.Values.{StartValue}
 use Rattle.cli.specs.declared.building.Stopped.{Stopped}
 
 -- what was printed, by what it came to
@@ -27,10 +24,6 @@ Ends sees below words old new (No note) = IsNo sees below words note old new
 abbrev pub TellsEnd : Ended → ℕ → Option (List ℕ) → Option (List ℕ) → Type 0
 TellsEnd Done status old new = (status ≡ 0) × (new ≡ old)
 TellsEnd (No note) status old new = (status ≡ 1) × TellsNoteOf note old new
-
--- these were started, each in a folder with a number below this one
-abbrev pub HaveRun : {R C E : Type 0} → Works R C E → List ℕ → List StartValue → Type 0
-HaveRun works work started = (next : ℕ) × HaveStarted works work next started
 
 -- a build ended with this error: that process came to nothing
 abbrev pub EndsFor : BuildPlanError Global → Stopped → Type 0

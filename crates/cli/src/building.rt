@@ -1,10 +1,11 @@
 ghost use Rattle.std.specs.Prelude.{◌≡◌, ◌<◌, ◌∷◌, [], IfErr, IfOk, IfSome, None, OnErr, OnOk};
-ghost use Rattle.std.specs.Prelude.{codes, is_some, string_bytes};
+ghost use Rattle.std.specs.Prelude.{codes, string_bytes};
 ghost use Rattle.std.specs.Io.KnownBytes.{Appends};
 ghost use Rattle.builder.specs.Faults.{IsRunnerFailure, fault_of};
 ghost use Rattle.clap.specs.Words.{found_of, rows_of};
 ghost use Rattle.cli.specs.Built.{BeginsBuild, HoldsRoot, IsNoted, IsReadOf, IsToldOf, PrintsBuild};
-ghost use Rattle.cli.specs.Built.{TellsAsked, ended_of, errors_asked, jobs_asked, may_have_jobs};
+ghost use Rattle.cli.specs.Built.{TellsAsked, ended_of, errors_asked, jobs_asked, keeps_plan};
+ghost use Rattle.cli.specs.Built.{may_have_jobs};
 ghost use Rattle.cli.specs.Built.{told_line};
 ghost use Rattle.cli.specs.Refused.{FailsBuild, FailsFolder, FailsTelling, FailsToWrite};
 ghost use Rattle.cli.specs.Refused.{TellsProcess, process_cause};
@@ -68,6 +69,17 @@ fn read_jobs(alloc: Global, matches: &ArgMatches<'_>) -> Result<usize, CommandEr
     }
 }
 
+/// The record isn't to be written over the plan.
+fn check_record(alloc: Global, matches: &ArgMatches<'_>) -> Result<(), CommandError>
+    ensures { IsCheckedBy (keeps_plan (rows_of (found_of matches.now)) ∷ []) result }
+{
+    if text_of(matches, "record") != text_of(matches, "plan") {
+        return Ok(());
+    }
+    let words = "--record cannot name the file of --plan";
+    Err(CommandError::Usage(String::from_str(alloc, words)?))
+}
+
 /// Reads what the words ask for: the number of jobs, the server, the digest, and then the plan; and
 /// copies the path of the folder of the jobs.
 fn read_asked<W: Inputs, P: Workplace>(
@@ -75,11 +87,13 @@ fn read_asked<W: Inputs, P: Workplace>(
     world: &W,
     matches: &ArgMatches<'_>,
 ) -> Result<BuildRequest, CommandError>
-    ensures read { IfOk result (IsReadOf W.sees (rows_of (found_of matches.now))) }
-    ensures refused { IfErr result (λ e. (errors : ChildErrors)
-        → FailsBuild W.sees (P.below errors) (rows_of (found_of matches.now)) e) }
+    ensures read { IfOk result (IsReadOf (W.sees world.now) (rows_of (found_of matches.now))) }
+    ensures refused { IfErr result (λ e. (workplace : P) (errors : ChildErrors)
+        → FailsBuild (W.sees world.now) (P.below workplace errors) (rows_of (found_of matches.now))
+        e) }
 {
     let jobs = read_jobs(alloc, matches)?;
+    check_record(alloc, matches)?;
     let server = read_server(alloc, matches)?;
     let sources = read_digest(alloc, matches, "sources")?;
     let plan = plan_in_file(alloc, world, matches)?;
@@ -93,13 +107,10 @@ fn read_asked<W: Inputs, P: Workplace>(
     })
 }
 
-/// The errors of a build's processes are shown on a terminal, and where the words want that.
-fn errors_of<T>(matches: &ArgMatches<'_>, terminal: &Option<T>) -> ChildErrors
-    ensures { result ≡ errors_asked (is_some terminal.now) (rows_of (found_of matches.now)) }
+/// The errors of a build's processes are shown where the words want that.
+fn errors_of(matches: &ArgMatches<'_>) -> ChildErrors
+    ensures { result ≡ errors_asked (rows_of (found_of matches.now)) }
 {
-    if terminal.is_some() {
-        return ChildErrors::Shown;
-    }
     if is_set(matches, "verbose") {
         return ChildErrors::Shown;
     }
@@ -200,10 +211,10 @@ fn build_in_folder<S: Stream + Drop, K: Opened, P: Workplace + Drop, T: Write + 
     requires start { K.start ≡ connection_of S.flow remote }
     requires fresh { IsFresh remote }
     ensures told { IfOk result (IsToldOf K.start
-        (P.below errors (string_bytes asked.now.work)) asked.now.jobs asked.now.plan
+        (P.below workplace errors (string_bytes asked.now.work)) asked.now.jobs asked.now.plan
         asked.now.sources) }
     ensures fault { IfErr result (FailsTelling K.start (string_bytes asked.now.server.address)
-        (P.below errors (string_bytes asked.now.work)) asked.now.jobs asked.now.plan
+        (P.below workplace errors (string_bytes asked.now.work)) asked.now.jobs asked.now.plan
         asked.now.sources) }
 {
     let work = String::from_str(alloc, asked.work.as_str())?;
@@ -239,8 +250,8 @@ fn build_in_folder<S: Stream + Drop, K: Opened, P: Workplace + Drop, T: Write + 
 
 /// The folder of the jobs is there, and nothing is in it.
 fn check_work<W: Inputs>(alloc: Global, world: &W, path: &str) -> Result<(), CommandError>
-    ensures empty { OnOk result (W.sees.lists path.now []) }
-    ensures fault { IfErr result (FailsFolder W.sees path.now) }
+    ensures empty { OnOk result ((W.sees world.now).lists path.now []) }
+    ensures fault { IfErr result (FailsFolder (W.sees world.now) path.now) }
 {
     let names = world.list(alloc, path)?;
     if names.is_empty() {
@@ -259,10 +270,12 @@ fn write_record<W: Outputs>(
     matches: &ArgMatches<'_>,
     told: &Told<Global>,
 ) -> Result<(), CommandError>
-    ensures noted { OnOk result (IsNoted W.sees (rows_of (found_of matches.now)) told.now) }
+    ensures noted { OnOk result (IsNoted (W.sees world.now) (rows_of (found_of matches.now))
+        told.now) }
     ensures whole { OnErr result (ended_of told.now ≡ Ended.Done) }
     ensures fault { IfErr result
-        (FailsToWrite W.sees (option_text (rows_of (found_of matches.now)) (codes "record"))) }
+        (FailsToWrite (W.sees world.now) (option_text (rows_of (found_of matches.now))
+        (codes "record"))) }
 {
     match told {
         Told::Built { record_text, .. } => {
@@ -288,18 +301,18 @@ fn build_asked<W: Inputs + Outputs, P: Workplace + Drop, T: Write + Drop>(
     asked: &BuildRequest,
     terminal: Option<T>,
 ) -> Result<Told<Global>, CommandError>
-    requires read { IsReadOf W.sees (rows_of (found_of matches.now)) asked.now }
-    ensures tells { IfOk result (TellsAsked W.sees
-        (P.below (errors_asked (is_some terminal) (rows_of (found_of matches.now))))
+    requires read { IsReadOf (W.sees world.now) (rows_of (found_of matches.now)) asked.now }
+    ensures tells { IfOk result (TellsAsked (W.sees world.now)
+        (P.below workplace (errors_asked (rows_of (found_of matches.now))))
         (rows_of (found_of matches.now))) }
-    ensures refused { IfErr result (FailsBuild W.sees
-        (P.below (errors_asked (is_some terminal) (rows_of (found_of matches.now))))
+    ensures refused { IfErr result (FailsBuild (W.sees world.now)
+        (P.below workplace (errors_asked (rows_of (found_of matches.now))))
         (rows_of (found_of matches.now))) }
 {
     let remote = open(alloc, world, &asked.server)?;
     check_work(alloc, world, asked.work.as_str())?;
     world.check_writable(alloc, text_of(matches, "record"))?;
-    let errors = errors_of(matches, &terminal);
+    let errors = errors_of(matches);
     let mut progress = BuildProgress::new(alloc, &asked.plan, terminal);
     let told = build_in_folder::<W::Link, Brand, P, T>(
         alloc,
@@ -348,16 +361,16 @@ pub(crate) fn run_build<W: Inputs + Outputs, P: Workplace + Drop, O: Write, T: W
     out: &mut O,
     terminal: Option<T>,
 ) -> Result<Ended, CommandError>
-    ensures printed { IfOk result (PrintsBuild W.sees
-        (P.below (errors_asked (is_some terminal) (rows_of (found_of matches.now))))
+    ensures printed { IfOk result (PrintsBuild (W.sees world.now)
+        (P.below workplace (errors_asked (rows_of (found_of matches.now))))
         (rows_of (found_of matches.now)) (O.contents out.old) (O.contents out.new)) }
     // A refusal leaves no byte that isn't of the line of such a build.
-    ensures begun { OnErr result (BeginsBuild W.sees
-        (P.below (errors_asked (is_some terminal) (rows_of (found_of matches.now))))
+    ensures begun { OnErr result (BeginsBuild (W.sees world.now)
+        (P.below workplace (errors_asked (rows_of (found_of matches.now))))
         (rows_of (found_of matches.now)) (O.contents out.old) (O.contents out.new)) }
     // It is for the first fault: what comes before it has none.
-    ensures refused { IfErr result (FailsBuild W.sees
-        (P.below (errors_asked (is_some terminal) (rows_of (found_of matches.now))))
+    ensures refused { IfErr result (FailsBuild (W.sees world.now)
+        (P.below workplace (errors_asked (rows_of (found_of matches.now))))
         (rows_of (found_of matches.now))) }
     ensures unprinted { IfErr result
         (λ fault. ¬ IsPrintFault fault → O.contents out.new ≡ O.contents out.old) }

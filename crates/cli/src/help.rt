@@ -55,6 +55,7 @@ Usage: buildcache verify [OPTIONS] --sources <DIGEST> --plan <FILE> --record <FI
 Options:
       --server <ADDR>      Server that has the recorded build, HOST:PORT
       --store <FOLDER>     Folder that has it: blobs in cas/HASH and results in ac/HASH
+      --results <FOLDER>   Folder of the results, in ac/HASH; --server is asked for blobs alone
       --prefix <P>         Path before /cas and /ac on the server, like /team/main
       --timeout <SECONDS>  Seconds of silence after which the server has failed; 0: never
                            [default: 60]
@@ -134,7 +135,7 @@ Options:
       --record <FILE>      Write the record to this file
       --work <FOLDER>      An existing empty folder, in which each step runs in a folder of its own
       --jobs <J>           Most steps that run at once, 1 to 64 [default: 1]
-      --verbose            Show the steps' standard error, which on a terminal is always shown
+      --verbose            Show the steps' standard error
   -h, --help               Print help
 
 Status:

@@ -1,4 +1,4 @@
-ghost use Rattle.std.specs.Prelude.{◌≡◌, ◌<◌, ◌≤◌, IfErr, IfOk, OnErr, is_some, map, string_bytes};
+ghost use Rattle.std.specs.Prelude.{◌≡◌, ◌<◌, ◌≤◌, IfErr, IfOk, OnErr, map, string_bytes};
 ghost use Rattle.cli.specs.Built.{errors_asked};
 ghost use Rattle.cli.specs.Ended.{AreFaulty, BeginsAsked, EndsNo, EndsRefused, Fails, IsDone};
 ghost use Rattle.cli.specs.Running.{Ends, TellsEnd};
@@ -36,19 +36,22 @@ where
     W: Inputs + Outputs + Hosting,
     ensures status { result < 4 }
     // With status 0 what the words ask for is done, and nothing else went to standard output.
-    ensures done { result ≡ 0 → IsDone W.sees
-        (P.below (errors_asked (is_some terminal) (options_of (map string_bytes words.now))))
+    ensures done { result ≡ 0 → IsDone (W.sees world.now)
+        (P.below workplace
+        (errors_asked (options_of (map string_bytes words.now))))
         (map string_bytes words.now) (O.contents out.old) (O.contents out.new) }
     // With status 1, the line of their no, or of a build's refusal; or the blob that they name
     // isn't there. Standard error grew at most by the line of the note that belongs to it.
-    ensures no { result ≡ 1 → EndsNo W.sees
-        (P.below (errors_asked (is_some terminal) (options_of (map string_bytes words.now))))
+    ensures no { result ≡ 1 → EndsNo (W.sees world.now)
+        (P.below workplace
+        (errors_asked (options_of (map string_bytes words.now))))
         (map string_bytes words.now)
         (O.contents out.old) (O.contents out.new) (E.contents err.old) (E.contents err.new) }
     // With another status the first fault was told: standard error grew by one line that begins
     // `error: `, or by a beginning of it. Nothing was printed, unless it is of printing or serving.
-    ensures refused { 2 ≤ result → EndsRefused W.sees
-        (P.below (errors_asked (is_some terminal) (options_of (map string_bytes words.now))))
+    ensures refused { 2 ≤ result → EndsRefused (W.sees world.now)
+        (P.below workplace
+        (errors_asked (options_of (map string_bytes words.now))))
         (map string_bytes words.now) result
         (O.contents out.old) (O.contents out.new) (E.contents err.old) (E.contents err.new) }
     // With status 0 standard error stays as it was.
@@ -58,8 +61,9 @@ where
     ensures silent { AreFaulty (map string_bytes words.now)
         → O.contents out.new ≡ O.contents out.old }
     // With another status than 0 and 1 what was printed is a beginning of what the words ask for.
-    ensures begun { 2 ≤ result → BeginsAsked W.sees
-        (P.below (errors_asked (is_some terminal) (options_of (map string_bytes words.now))))
+    ensures begun { 2 ≤ result → BeginsAsked (W.sees world.now)
+        (P.below workplace
+        (errors_asked (options_of (map string_bytes words.now))))
         (map string_bytes words.now) (O.contents out.old) (O.contents out.new) }
 {
     match run(rt, world, workplace, words, out, terminal) {
@@ -96,18 +100,21 @@ fn run<R, W, P: Workplace + Drop, O: Write, T: Write + Drop>(
 where
     R: AllocGlobal + Clock + Clone + Drop,
     W: Inputs + Outputs + Hosting,
-    ensures ended { IfOk result (Ends W.sees
-        (P.below (errors_asked (is_some terminal) (options_of (map string_bytes words.now))))
+    ensures ended { IfOk result (Ends (W.sees world.now)
+        (P.below workplace
+        (errors_asked (options_of (map string_bytes words.now))))
         (map string_bytes words.now) (O.contents out.old) (O.contents out.new)) }
-    ensures refused { IfErr result (Fails W.sees
-        (P.below (errors_asked (is_some terminal) (options_of (map string_bytes words.now))))
+    ensures refused { IfErr result (Fails (W.sees world.now)
+        (P.below workplace
+        (errors_asked (options_of (map string_bytes words.now))))
         (map string_bytes words.now)) }
     ensures unprinted { IfErr result (λ fault. ¬ IsPrintFault fault → ¬ IsAcceptFault fault
         → O.contents out.new ≡ O.contents out.old) }
     ensures silent { AreFaulty (map string_bytes words.now)
         → O.contents out.new ≡ O.contents out.old }
-    ensures begun { OnErr result (BeginsAsked W.sees
-        (P.below (errors_asked (is_some terminal) (options_of (map string_bytes words.now))))
+    ensures begun { OnErr result (BeginsAsked (W.sees world.now)
+        (P.below workplace
+        (errors_asked (options_of (map string_bytes words.now))))
         (map string_bytes words.now) (O.contents out.old) (O.contents out.new)) }
 {
     let matches = match parse(rt.alloc(), words) {

@@ -4,7 +4,10 @@ pub mod Checking
 pub mod Exits
 pub mod Failures
 pub mod Hints
+pub mod InMemory
+pub mod Lasting
 pub mod OneHint
+pub mod OneQuestion
 pub mod Unread
 pub mod Writing
 pub mod Taken
@@ -15,3 +18,4 @@ pub mod Gotten
 pub mod Order
 pub mod Refused
 pub mod Silent
+pub mod SmallExample

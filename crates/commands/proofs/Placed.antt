@@ -12,17 +12,18 @@ use Rattle.text_verifier.specs.Texts.{Question}
 use Rattle.verifier.specs.declared.verdict.Verdict.{Verdict}
 use Rattle.text_verifier.specs.declared.answering.Answer.{Answer}
 use Rattle.text_verifier.specs.declared.lack.Lack.{Lack}
+use Rattle.text_verifier.specs.declared.lack.Lack.TheVariants.{ActionResult, Blob}
 use Rattle.remote.specs.Line.{ConnectionValue}
 use Rattle.commands.specs.Faults.{OrMemory}
 use Rattle.commands.specs.Options.{IsServerOf}
-use Rattle.commands.specs.Places.{FailsInFolder, IsOfFolder, IsOfServer, IsConnected, IsAnsweredBy, LacksAtServer, LacksInFolder, gets_alone}
+use Rattle.commands.specs.Places.{FailsInFolder, FailsOfParts, IsOfBoth, IsOfFolder, IsOfServer, IsConnected, IsAnsweredBy, IsToldByParts, LacksAtServer, LacksInFolder, LacksOfBoth, LacksOfParts, gets_alone}
 use Rattle.commands.specs.Printed.{StartsPut, IsConnectedTo, IsOfPlace, IsNamedPlace, LacksAtPlace}
-use Rattle.commands.specs.Refusal.{FailsAtPlace, FailsServer}
+use Rattle.commands.specs.Refusal.{FailsAtPlace, FailsOfBoth, FailsServer}
 use Rattle.commands.specs.Words.{AllValid, server_words}
 use Rattle.commands.specs.World.{Sight}
 use Rattle.commands.specs.declared.connecting.ServerOptions.{ServerOptions}
 use Rattle.commands.specs.declared.error.CommandError.{CommandError}
-use Rattle.commands.specs.declared.verifying.RecordedBuild.TheVariants.{Folder, Server}
+use Rattle.commands.specs.declared.verifying.RecordedBuild.TheVariants.{Both, Folder, Server}
 use Rattle.commands.proofs.Refused.{or_weaker}
 
 -- ---- what is missing
@@ -80,15 +81,44 @@ module _ (sees : Sight) (options : List Row) where
 
   module _ (server : ServerOptions) where
     pub on_server : (question : Question) (result : Result (Answer Global) CommandError) → IsNamedPlace options (Server server)
-        → IfOk result (IsAnsweredBy (IsOfServer gets_alone sees server) (LacksAtServer sees server) question)
+        → IfOk result (IsAnsweredBy (IsOfServer gets_alone sees server) (LacksAtServer gets_alone sees server) question)
         → IfOk result (IsAnsweredBy (IsOfPlace sees options) (LacksAtPlace sees options) question)
     on_server question result place h =
-        place_weaker question result (IsOfServer gets_alone sees server) (IsOfPlace sees options) (LacksAtServer sees server) (LacksAtPlace sees options)
-        (λ t told. inr (place.0, (server, place.1, told))) (λ l lacks. inr (place.0, (server, place.1, lacks))) h
+        place_weaker question result (IsOfServer gets_alone sees server) (IsOfPlace sees options) (LacksAtServer gets_alone sees server) (LacksAtPlace sees options)
+        (λ t told. inr (inl (place.0, (server, place.1, told)))) (λ l lacks. inr (inl (place.0, (server, place.1, lacks)))) h
 
     pub on_server_fails : (result : Result (Answer Global) CommandError) → IsNamedPlace options (Server server)
         → IfErr result (OrMemory (λ e. ∥ FailsServer gets_alone sees server e ∥₁)) → IfErr result (OrMemory (λ e. ∥ FailsAtPlace sees options e ∥₁))
-    on_server_fails result place h = place_fails result (FailsServer gets_alone sees server) (λ e fails. inr (place.0, (server, place.1, fails))) h
+    on_server_fails result place h = place_fails result (FailsServer gets_alone sees server) (λ e fails. inr (inl (place.0, (server, place.1, fails)))) h
+
+    module _ (folder : String Global) where
+      pub in_both : (question : Question) (result : Result (Answer Global) CommandError) → IsNamedPlace options (Both server folder)
+          → IfOk result (IsAnsweredBy (IsOfBoth sees server (string_bytes folder)) (LacksOfBoth sees server (string_bytes folder)) question)
+          → IfOk result (IsAnsweredBy (IsOfPlace sees options) (LacksAtPlace sees options) question)
+      in_both question result place h =
+          place_weaker question result (IsOfBoth sees server (string_bytes folder)) (IsOfPlace sees options)
+          (LacksOfBoth sees server (string_bytes folder)) (LacksAtPlace sees options)
+          (λ t told. inr (inr (place.0, (server, place.1, subst (λ f. IsOfBoth sees server f t) place.2 told))))
+          (λ l lacks. inr (inr (place.0, (server, place.1, subst (λ f. LacksOfBoth sees server f l) place.2 lacks)))) h
+
+      pub in_both_fails : (result : Result (Answer Global) CommandError) → IsNamedPlace options (Both server folder)
+          → IfErr result (OrMemory (λ e. ∥ FailsOfBoth sees server (string_bytes folder) e ∥₁)) → IfErr result (OrMemory (λ e. ∥ FailsAtPlace sees options e ∥₁))
+      in_both_fails result place h = place_fails result (FailsOfBoth sees server (string_bytes folder))
+          (λ e fails. inr (inr (place.0, (server, place.1, subst (λ f. FailsOfBoth sees server f e) place.2 fails)))) h
+
+-- ---- blobs over a connection, and results of a folder
+
+module _ (sees : Sight) (server : ServerOptions) (start : ConnectionValue) (opened : IsConnected sees server start) (folder : List ℕ) where
+  pub of_parts : (told : Telling) → IsToldByParts start sees folder told → IsOfBoth sees server folder told
+  of_parts told parts = record { start = start; opened = opened; parts = parts }
+
+  pub lacked_of_parts : (lack : Lack) → LacksOfParts start sees folder lack → LacksOfBoth sees server folder lack
+  lacked_of_parts (Blob d) lacks = record { start = start; opened = opened; lacks = lacks }
+  lacked_of_parts (ActionResult d) lacks = lacks
+
+  pub fails_of_parts : (e : CommandError) → FailsOfParts start sees folder (string_bytes server.address) e → FailsOfBoth sees server folder e
+  fails_of_parts e (inl fails) = inl fails
+  fails_of_parts e (inr fails) = inr (inr (start, opened, fails))
 
 module _ (sees : Sight) (options : List Row) (server : ServerOptions) (start : ConnectionValue) (is : IsServerOf options server)
     (opened : IsConnected sees server start) where

@@ -3,6 +3,7 @@ use Rattle.std.proofs.Common.{◌≡◌, ◌≢◌, ◌⊎◌, ◌∙◌, ◌+�
 use Rattle.std.specs.Prelude.{IfErr, IfNone, IsSomeAnd, OnOk}
 use Rattle.std.proofs.lemmas.Int.{clamps}
 use Rattle.std.proofs.lemmas.List.{map-append}
+use Rattle.std.proofs.lemmas.Result.{IfOk-weaker}
 use Rattle.std.proofs.Math.Logic.{∥∥₁_map₂}
 use Rattle.std.specs.Ordering.{nat_cmp, ordering_reverse, ordering_then}
 use Rattle.std.specs.Cmp.Lexicographic.{slice_cmp}
@@ -17,7 +18,7 @@ use Rattle.blob_source.specs.Sink.{IsPut, PutsAt}
 use Rattle.blob_source.specs.declared.source.FetchError.{FetchError}
 use Rattle.http_core.specs.declared.event.Area.{Area}
 use Rattle.http_core.specs.declared.event.Area.TheVariants.{Ac, Cas}
-use Rattle.remote.specs.Folder.{IsNothingAt, IsReadAt, LooksInFolder}
+use Rattle.remote.specs.Folder.{IsNotThere, IsNothingAt, IsReadAt, LooksInFolder}
 use Rattle.blob_source.specs.declared.source.FetchError.TheVariants.{Failed, Memory}
 use Rattle.remote.specs.Line.{ConnectionValue, Gets, Puts, RefusesRequest, get, put}
 use Rattle.remote.specs.Remote.{LooksUp, Stores, blobs_of, results_of, telling_of}
@@ -28,7 +29,7 @@ use Rattle.remote.specs.declared.files.FileError.{FileError}
 use Rattle.remote.specs.declared.table.Table.{Table}
 use Rattle.text_verifier.specs.declared.lack.Lack.{Lack}
 use Rattle.commands.specs.Got.{GetsFirst}
-use Rattle.commands.specs.Places.{Access, CameAllOver, CameOver, Comes, FailsInStore, IsFresh, LacksAll, LacksOver, MaySend, file_of, gets_alone, puts_blobs, puts_too, requests_made, results_put}
+use Rattle.commands.specs.Places.{Access, CameAllOver, CameOver, Comes, FailsInStore, IsFresh, LacksAll, LacksOver, MaySend, SeesFiles, file_of, gets_alone, gets_blobs, puts_blobs, puts_too, requests_made, results_put}
 use Rattle.commands.specs.Places.Comes.{fresh, got, taken, refused}
 use Rattle.commands.specs.World.{Sight}
 
@@ -89,11 +90,12 @@ told_anew P d before after held grows anew e b is = by (told_by before e) refl
 
 -- ---- a server
 
--- a GET may always be sent
-pub may_get : (access : Access) (area : Area) (hash : List ℕ) → MaySend access (get area hash)
-may_get gets_alone area hash = refl
-may_get puts_blobs area hash = tt
-may_get puts_too area hash = tt
+-- a GET of a blob may always be sent
+pub may_get_blob : (access : Access) (hash : List ℕ) → MaySend access (get Cas hash)
+may_get_blob gets_blobs hash = (refl, refl)
+may_get_blob gets_alone hash = refl
+may_get_blob puts_blobs hash = tt
+may_get_blob puts_too hash = tt
 
 -- no more requests were made than calls, while these can be counted
 none_made : (calls : ℕ) → 0 ≤ calls
@@ -125,16 +127,16 @@ pub same_put : {access : Access} {start : ConnectionValue} (puts more : List Dig
     → ComesPutting access start puts calls now → ComesPutting access start more calls now
 same_put puts more calls now same came = (came.0, ap (map (λ (d : DigestValue). d.hash)) same ∙ came.1, came.2)
 
-module _ {A : Type 0} (access : Access) (start : ConnectionValue) (area : Area) (d : DigestValue) (old new : ConnectionValue) (before after : Table A) where
+module _ {A : Type 0} (access : Access) (start : ConnectionValue) (area : Area) (d : DigestValue) (sent : MaySend access (get area d.hash)) (old new : ConnectionValue) (before after : Table A) where
   -- the connection came to stand so
   pub comes_on : (puts : List DigestValue) (calls more : ℕ) → more ≡ min (calls + 1) greatest_count → (result : Result (Option (Vec ℕ A)) FetchError)
       → LooksUp area d old new before after result → ComesPutting access start puts calls old → ComesPutting access start puts more new
   comes_on puts calls more counted (Ok answer) looks came = elim (there_or_not (answers before d)) [
-    | inl not ↦ (got old new area d.hash (bytes_of answer) came.0 (looks.answered not), came.1, one_made greatest_count calls more (requests_made came.0) counted came.2)
+    | inl not ↦ (got old new area d.hash (bytes_of answer) came.0 sent (looks.answered not), came.1, one_made greatest_count calls more (requests_made came.0) counted came.2)
     | inr has ↦ subst (ComesPutting access start puts more) (sym (looks.kept has)) (came.0, came.1, same_made greatest_count calls more (requests_made came.0) counted came.2)
   ]
   comes_on puts calls more counted (Err e) looks came =
-      (refused old new (get area d.hash) e came.0 (may_get access area d.hash) looks.refused, came.1, one_made greatest_count calls more (requests_made came.0) counted came.2)
+      (refused old new (get area d.hash) e came.0 sent looks.refused, came.1, one_made greatest_count calls more (requests_made came.0) counted came.2)
 
   -- what is kept came over it
   pub came_on : (result : Result (Option (Vec ℕ A)) FetchError) → LooksUp area d old new before after result → Comes access start old
@@ -144,7 +146,7 @@ module _ {A : Type 0} (access : Access) (start : ConnectionValue) (area : Area) 
     where
       anew : (b : List ℕ) → told_by before d ≡ None → told_by after d ≡ Some b → CameOver access start area d.hash b
       anew b none is = elim (there_or_not (answers before d)) [
-        | inl not ↦ record { old = old; new = new; before = came; is = inl (subst (Gets old new area d.hash) (told ∙ is) (looks.answered not)) }
+        | inl not ↦ record { old = old; new = new; before = came; is = inl (sent, subst (Gets old new area d.hash) (told ∙ is) (looks.answered not)) }
         | inr has ↦ absurd (some_not_none (sym is ∙ ap bytes_kept ((looks.same has).same d) ∙ none))
       ]
   came_on (Err e) looks came told grows held = told_anew (λ e b. CameOver access start area e.hash b) d before after held grows anew
@@ -189,7 +191,7 @@ module _ {A T : Type 0} (start : ConnectionValue) (area : Area) (d : DigestValue
         old = old;
         new = new;
         before = came;
-        is = subst (λ x. Gets old new area x.hash (Some b) ⊎ (MaySend puts_too (put area x.hash b) × Puts old new area x.hash b)) (sym same)
+        is = subst (λ x. (MaySend puts_too (get area x.hash) × Gets old new area x.hash (Some b)) ⊎ (MaySend puts_too (put area x.hash b) × Puts old new area x.hash b)) (sym same)
             (inr (subst (λ c. MaySend puts_too (put area d.hash c) × Puts old new area d.hash c) (same_bytes (sym is_put ∙ subst (λ x. told_by after x ≡ Some b) same is)) (sent, stores.taken)));
       }
     ]
@@ -236,12 +238,12 @@ lacked_anew P d before after others here held e none = elim (same_or_other d e) 
 abbrev pub LacksAllOver : {A : Type 0} → Access → ConnectionValue → Area → Table A → Type 0
 LacksAllOver access start area kept = LacksAll (λ d. LacksOver access start area d.hash) kept
 
-module _ {A : Type 0} (access : Access) (start : ConnectionValue) (area : Area) (d : DigestValue) (old new : ConnectionValue) (before after : Table A) where
+module _ {A : Type 0} (access : Access) (start : ConnectionValue) (area : Area) (d : DigestValue) (sent : MaySend access (get area d.hash)) (old new : ConnectionValue) (before after : Table A) where
   -- a look-up that answers none had that as a reply, now or before
   pub lacks_here : (answer : Option (Vec ℕ A)) → LooksUp area d old new before after (Ok answer) → Comes access start old
       → bytes_of answer ≡ told_by after d → LacksAllOver access start area before → told_by after d ≡ None → LacksOver access start area d.hash
   lacks_here answer looks came told held none = elim (there_or_not (answers before d)) [
-    | inl not ↦ record { old = old; new = new; before = came; is = subst (Gets old new area d.hash) (told ∙ none) (looks.answered not) }
+    | inl not ↦ record { old = old; new = new; before = came; sent = sent; is = subst (Gets old new area d.hash) (told ∙ none) (looks.answered not) }
     | inr has ↦ held d (kept_none (answers before d) has (ap bytes_kept (sym ((looks.same has).same d)) ∙ none))
   ]
 
@@ -285,6 +287,37 @@ lacks_by_put access start area d bytes old new before after (Ok x) stores there 
     lacked_anew (λ e. LacksOver access start area e.hash) d before after stores.others (λ none. absurd (there (ap bytes_kept none))) held
 
 -- ---- a store folder
+
+-- what holds of what stays the same
+pub by_same : {R : Type 0} (x y : R) → y ≡ x → (P : R → Type 0) → P x → P y
+by_same x y is P h = subst P (sym is) h
+
+is_some_weaker : {X : Type 0} (o : Option X) (P Q : X → Type 0) → ((x : X) → P x → Q x) → IsSomeAnd o P → IsSomeAnd o Q
+is_some_weaker None P Q by h = absurd h
+is_some_weaker (Some x) P Q by h = by x h
+
+module _ (sees other : Sight) (known : SeesFiles sees other) (path : List ℕ) where
+  read_more : (found : Option (List ℕ)) → IsReadAt sees.reads sees.fails path found → IsReadAt other.reads other.fails path found
+  read_more None h = (h.0, known.fails path h.0 h.1, h.2)
+  read_more (Some bytes) h = known.reads path bytes h
+
+  -- so the other says of a call
+  pub looks_more : (d : DigestValue) (error new_error : Option (FileError Global)) (before after : Table Global) (result : Result (Option (Vec ℕ Global)) FetchError)
+      → LooksInFolder sees.reads sees.fails path d error new_error before after result → LooksInFolder other.reads other.fails path d error new_error before after result
+  looks_more d error new_error before after result looks = record {
+    kept = looks.kept;
+    absent = looks.absent;
+    same = looks.same;
+    held = looks.held;
+    unheld = looks.unheld;
+    others = looks.others;
+    read = λ not. IfOk-weaker result (λ answer. IsReadAt sees.reads sees.fails path (bytes_of answer)) (λ answer. IsReadAt other.reads other.fails path (bytes_of answer))
+        (λ answer. read_more (bytes_of answer)) (looks.read not);
+    failed = looks.failed;
+    fault = λ is. is_some_weaker new_error (sees.fails path) (other.fails path) (known.fails path) (looks.fault is);
+    real = looks.real;
+    unfailed = looks.unfailed;
+  }
 
 module _ {A : Type 0} (reads : List ℕ → List ℕ → Type 0) (fails : List ℕ → FileError A → Type 0) where
   -- what is kept was read
@@ -343,4 +376,8 @@ pub failed_on : (sees : Sight) (folder : List ℕ) (lack : Lack) (d : DigestValu
 failed_on sees folder lack d error new_error before after (Ok answer) looks was e is = was e (sym (looks.unfailed (answered answer)) ∙ is)
 failed_on sees folder lack d error new_error before after (Err Memory) looks was e is = was e (sym (looks.unfailed refused_otherwise) ∙ is)
 failed_on sees folder lack d error new_error before after (Err Failed) looks was e is =
-    record { lack = lack; fails = of_some (sees.fails (file_of folder lack)) new_error e (looks.fault refl) is }
+    record {
+      lack = lack;
+      fails = of_some (sees.fails (file_of folder lack)) new_error e (looks.fault refl) is;
+      there = of_some (λ (f : FileError Global). IsNotThere f → ⊥) new_error e (looks.real refl) is;
+    }

@@ -14,7 +14,7 @@ abbrev pub AreNamed : DirectoryValue → Type 0
 AreNamed d = AreNames (file_names d.files) (directory_names d.directories)
     (symlink_names d.symlinks)
 
--- this name stands last in one of the lists of names, and the others are as they were
+-- the name stands last in one of the lists of names, and the others are as they were
 abbrev pub AddsName : List ℕ → DirectoryValue → DirectoryValue → Type 0
 AddsName n old new =
     ((file_names new.files ≡ file_names old.files ++ n ∷ [])

@@ -16,10 +16,10 @@ module _ {S K U : Type 0} {stream : streams.Ghosts S} {opened : openings.Ghosts 
   abbrev pub remote_of : Client S K U stream opened permit → Remote S Global
   remote_of c = c.remote
 
-  -- its request that failed last
+  -- the client's request that failed last
   abbrev pub failed_request : Client S K U stream opened permit → Option Failure
   failed_request c = c.failure
 
-  -- how its connection stands
+  -- how the client's connection stands
   abbrev pub connection : Client S K U stream opened permit → ConnectionValue
   connection c = connection_of stream.flow c.remote

@@ -101,7 +101,7 @@ IsCauseText program (Unread fault) text =
 IsCauseText program (Signal number) text =
     text ≡ program ++ (codes " was ended by signal " ++ signed_decimal number)
 
--- that, at its place in the plan
+-- why a process came to nothing, at its place in the plan
 abbrev pub IsProcessText : ProcessFault → List ℕ → Type 0
 IsProcessText fault text = (quoted : List ℕ) × (said : List ℕ)
     × IsQuoted (string_bytes fault.program) quoted × IsCauseText quoted fault.cause said

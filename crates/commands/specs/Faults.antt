@@ -36,7 +36,7 @@ error_of_file (files.NotAFile path) = NotAFile path
 error_of_file (files.TooLarge path) = TooLarge path
 error_of_file files.Memory = Memory
 
--- this fault is told of what stands at the path
+-- the error tells this fault of what stands at the path
 abbrev pub IsFaultAtPath : List ℕ → (Error → Type 0) → CommandError → Type 0
 IsFaultAtPath path is (File p fault) = (string_bytes p ≡ path) × is fault
 IsFaultAtPath path is _ = ⊥
@@ -59,8 +59,8 @@ TellsFailure address (Some failure) refusals.Failed e = IsServerFault address fa
 TellsFailure address (Some failure) refusals.Memory e = e ≡ Memory
 TellsFailure address None refusal e = e ≡ Memory
 
--- that is the request of a call that failed, for the fault of the connection; after another call it
--- is the one before it
+-- The request that failed last, after a call: that call's, where it failed for a fault of the
+-- connection, and else the one before it.
 abbrev pub kept_failure : {T : Type 0} → Option Failure → Method → DigestValue
     → Result T FetchError → Option Fault → Option Failure
 kept_failure before method d (Ok x) fault = before
@@ -80,6 +80,6 @@ abbrev pub TellsOfEntry : List ℕ → List ℕ → CommandError → Type 0
 TellsOfEntry place words (Entry p fault) = (string_bytes p ≡ place) × (fault.now ≡ words)
 TellsOfEntry place words _ = ⊥
 
--- so it is, or memory ran out
+-- the error tells this fault, or that memory ran out
 abbrev pub OrMemory : (CommandError → Type 0) → CommandError → Type 0
 OrMemory fails e = (e ≡ Memory) ⊎ fails e

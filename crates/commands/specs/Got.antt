@@ -32,8 +32,8 @@ NotesNoBlob address digest (Some (NoBlob server d)) =
     (string_bytes server ≡ address) × (d ≡ digest)
 NotesNoBlob address digest _ = ⊥
 
--- It was answered that there is none, nothing was written, and the note says why. The empty blob is
--- never missing.
+-- The answer was that there is no such blob, nothing was written, and the note says why. The empty
+-- blob is never missing.
 pub record WritesNothing (start : ConnectionValue) (address : List ℕ) (digest : DigestValue)
     (note : Option Note) (old new : Option (List ℕ)) : Type 0 where
   pub some : digest ≢ empty_digest

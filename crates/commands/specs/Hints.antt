@@ -1,4 +1,4 @@
--- Which hint stands beside the fault of a line of a text, and when there is none.
+-- The hint that stands beside the fault of a line of a text, and when there is none.
 use Rattle.std.specs.Prelude.{◌≡◌, ◌≢◌, ◌⊎◌, ℕ, zero, suc, ◌+◌, ◌-◌, ◌≤◌, ◌&&◌, ◌||◌}
 use Rattle.std.specs.Prelude.{◌==◌, Bool, true, false, List, [], ◌∷◌, ◌++◌, Option, Some, None}
 use Rattle.std.specs.Prelude.{codes, drop}
@@ -32,7 +32,8 @@ abbrev pub HaveStep : List ℕ → List (List ℕ) → Type 0
 HaveStep name lines =
     (line : List ℕ) × Contains lines line × HasFirst (codes "step " ++ name) line
 
--- which lines have the step of this name: one from the line at fault on, or one of all, or none
+-- what a hint says of the step of this name: a line from the one at fault on has it, or else one of
+-- all, or none
 abbrev pub TellsOfStep : List ℕ → List (List ℕ) → List (List ℕ) → Hint → Type 0
 TellsOfStep name all later LaterStep = HaveStep name later
 TellsOfStep name all later OwnStep = ¬ HaveStep name later × HaveStep name all
@@ -58,7 +59,7 @@ abbrev pub AreFew : List (List ℕ) → Type 0
 AreFew words =
     (length words ≤ 4) ⊎ ((length words ≡ 5) × (slice_get words 2 ≡ Some (codes "out")))
 
--- by their number and their bytes, these may be the words of such a line
+-- words that by their number and their bytes may be those of a line `in`
 abbrev pub MayBePaths : List (List ℕ) → Type 0
 MayBePaths words = AreFew words × (list_all (is_escaped 0) words ≡ true)
 
@@ -66,7 +67,7 @@ MayBePaths words = AreFew words × (list_all (is_escaped 0) words ≡ true)
 abbrev pub last_byte : List ℕ → Option ℕ
 last_byte line = slice_get line (length line - 1)
 
--- it is no carriage return (13) and no blank (32, 9)
+-- the line ends neither with a carriage return (13) nor with a blank (32, 9)
 pub record HasPlainEnd (line : List ℕ) : Type 0 where
   pub no_return : last_byte line ≢ Some 13
   pub no_space : last_byte line ≢ Some 32
@@ -95,13 +96,13 @@ TellsOfLine faults.BadLine lines before line hint =
     TellsOfForm line (is_none (slice_get lines (before + 1))) hint
 TellsOfLine _ lines before line hint = ⊥
 
--- so it is with the line that the error names
+-- what a hint says of a text at the line that the error names
 pub record TellsOfFault (text : List ℕ) (error : PlanError) (hint : Hint) : Type 0 where
   pub line : List ℕ
   pub is : slice_get (lines_of text) (error.line - 1) ≡ Some line
   pub tells : TellsOfLine error.fault (lines_of text) (error.line - 1) line hint
 
--- it is that hint which tells so, or none where none does
+-- the hint is one that tells this, or there is none where none does
 abbrev pub IsHint : (Hint → Type 0) → Option Hint → Type 0
 IsHint tells (Some hint) = tells hint
 IsHint tells None = (hint : Hint) → ¬ tells hint

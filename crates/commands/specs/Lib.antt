@@ -6,6 +6,7 @@ pub mod Faults
 pub mod GetRefused
 pub mod Got
 pub mod Hints
+pub mod Memory
 pub mod Options
 pub mod Places
 pub mod Printed
@@ -13,6 +14,7 @@ pub mod Put
 pub mod PutRefused
 pub mod Refusal
 pub mod ServeRefused
+pub mod SmallExample
 pub mod Status
 pub mod Told
 pub mod Trees

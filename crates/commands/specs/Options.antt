@@ -46,6 +46,6 @@ pub record IsServerOf (options : List Row) (server : ServerOptions) : Type 0 whe
   pub prefix : server.prefix ≡ option_text options (codes "prefix")
   pub timeout : IsTimeout (number_or 60 options (codes "timeout")) server.timeout
 
--- so it is with that server
+-- a server that the options name, of which this holds
 abbrev pub OnNamedServer : List Row → (ServerOptions → Type 0) → Type 0
 OnNamedServer options is = (server : ServerOptions) × IsServerOf options server × is server

@@ -11,7 +11,7 @@ use Rattle.blob_source.specs.declared.source.FetchError.TheVariants.{Failed}
 use Rattle.http_core.specs.declared.event.Area.{Area}
 use Rattle.http_core.specs.declared.event.Area.TheVariants.{Ac, Cas}
 use Rattle.remote.specs.Flow.{unknown_flow}
-use Rattle.remote.specs.Folder.{IsNothingAt, entry_path}
+use Rattle.remote.specs.Folder.{IsNotThere, IsNothingAt, entry_path}
 use Rattle.remote.specs.Folder as folders
 use Rattle.remote.specs.Line.{ConnectionValue, Gets, Puts, RefusesRequest, Request, get, put}
 use Rattle.remote.specs.Remote.{blobs_of, results_of, telling_of}
@@ -68,6 +68,11 @@ pub record AreLacked {A : Type 0} (lacks : Lack → Type 0) (kept_blobs kept_res
 
 -- ---- a store folder
 
+-- what one says of files the other says too
+pub record SeesFiles (sees other : Sight) : Type 0 where
+  pub reads : (path bytes : List ℕ) → sees.reads path bytes → other.reads path bytes
+  pub fails : (path : List ℕ) (e : FileError Global) → sees.fails path e → other.fails path e
+
 -- what is told was read in this part of the folder
 abbrev pub WereRead : Sight → List ℕ → List ℕ → Blobs → Type 0
 WereRead sees folder part told =
@@ -78,7 +83,7 @@ pub record IsOfFolder (sees : Sight) (folder : List ℕ) (told : Telling) : Type
   pub blobs : WereRead sees folder (codes "cas") told.blobs
   pub results : WereRead sees folder (codes "ac") told.results
 
--- where this folder would have the blob's file, or the result's
+-- where a folder would have the blob's file, or the result's
 abbrev pub file_of : List ℕ → Lack → List ℕ
 file_of folder (Blob d) = entry_path folder (codes "cas") d
 file_of folder (ActionResult d) = entry_path folder (codes "ac") d
@@ -87,10 +92,11 @@ file_of folder (ActionResult d) = entry_path folder (codes "ac") d
 abbrev pub LacksInFolder : Sight → List ℕ → Lack → Type 0
 LacksInFolder sees folder lack = IsNothingAt sees.fails (file_of folder lack)
 
--- a file of the store couldn't be read, for this
+-- a file of the store is there, and couldn't be read, for this
 pub record FailsInStore (sees : Sight) (folder : List ℕ) (e : FileError Global) : Type 0 where
   pub lack : Lack
   pub fails : sees.fails (file_of folder lack) e
+  pub there : ¬ IsNotThere e
 
 -- What a store in this folder tells, what it keeps as nothing, and its last failure are of files
 -- there.
@@ -100,7 +106,7 @@ pub record IsInFolder {R : Type 0} (sees : Sight) (folder : List ℕ) (s : Folde
   pub lacked : AreLacked (LacksInFolder sees folder) (folders.blobs_of s) (folders.results_of s)
   pub failed : (e : FileError Global) → folders.error_of s ≡ Some e → FailsInStore sees folder e
 
--- and the error tells that
+-- the error tells which file of the store couldn't be read, and why
 abbrev pub FailsInFolder : Sight → List ℕ → CommandError → Type 0
 FailsInFolder sees folder e =
     (f : FileError Global) × FailsInStore sees folder f × (e ≡ error_of_file f)
@@ -124,8 +130,10 @@ pub record IsConnected (sees : Sight) (server : ServerOptions) (c : ConnectionVa
   pub uncounted : c.failures ≡ 0
   pub unfailed : c.fault ≡ None
 
--- the requests that go over a connection: GETs alone, or PUTs of blobs too, or of results too
+-- the requests that go over a connection: GETs of blobs alone, or all GETs, or PUTs of blobs too,
+-- or of results too
 pub data Access : Type 0 where
+  gets_blobs : Access
   gets_alone : Access
   puts_blobs : Access
   puts_too : Access
@@ -137,8 +145,9 @@ IsBlobPut request bytes = request ≡ put Cas (digest_of bytes).hash bytes
 abbrev pub IsResultPut : Request → List ℕ → Type 0
 IsResultPut request bytes = (hash : List ℕ) × (request ≡ put Ac hash bytes)
 
--- this is such a request
+-- the request is one that may go over a connection with this access
 abbrev pub MaySend : Access → Request → Type 0
+MaySend gets_blobs request = (request.area ≡ Cas) × (request.body ≡ None)
 MaySend gets_alone request = request.body ≡ None
 MaySend puts_blobs request = IfSome request.body (IsBlobPut request)
 MaySend puts_too request =
@@ -148,7 +157,8 @@ MaySend puts_too request =
 pub data Comes (access : Access) (start : ConnectionValue) : ConnectionValue → Type 0 where
   fresh : Comes access start start
   got : (old new : ConnectionValue) (area : Area) (hash : List ℕ) (answer : Option (List ℕ))
-      → Comes access start old → Gets old new area hash answer → Comes access start new
+      → Comes access start old → MaySend access (get area hash)
+      → Gets old new area hash answer → Comes access start new
   taken : (old new : ConnectionValue) (area : Area) (hash body : List ℕ)
       → Comes access start old → MaySend access (put area hash body)
       → Puts old new area hash body → Comes access start new
@@ -160,7 +170,7 @@ pub data Comes (access : Access) (start : ConnectionValue) : ConnectionValue →
 abbrev pub results_put : {access : Access} {start now : ConnectionValue} → Comes access start now
     → List (List ℕ)
 results_put fresh = []
-results_put (got old new area hash answer before is) = results_put before
+results_put (got old new area hash answer before sent is) = results_put before
 results_put (taken old new Ac hash body before sent is) = results_put before ++ hash ∷ []
 results_put (taken old new area hash body before sent is) = results_put before
 results_put (refused old new request e before sent is) = results_put before
@@ -169,18 +179,18 @@ results_put (refused old new request e before sent is) = results_put before
 abbrev pub requests_made : {access : Access} {start now : ConnectionValue}
     → Comes access start now → ℕ
 requests_made fresh = 0
-requests_made (got old new area hash answer before is) = requests_made before + 1
+requests_made (got old new area hash answer before sent is) = requests_made before + 1
 requests_made (taken old new area hash body before sent is) = requests_made before + 1
 requests_made (refused old new request e before sent is) = requests_made before + 1
 
--- These bytes came over the connection as a reply for the hash; or it took them, where PUTs go over
--- it.
+-- The bytes came over the connection as a reply for the hash; or the server took them, where PUTs
+-- go over the connection.
 pub record CameOver (access : Access) (start : ConnectionValue) (area : Area)
     (hash bytes : List ℕ) : Type 0 where
   pub old : ConnectionValue
   pub new : ConnectionValue
   pub before : Comes access start old
-  pub is : Gets old new area hash (Some bytes)
+  pub is : (MaySend access (get area hash) × Gets old new area hash (Some bytes))
       ⊎ (MaySend access (put area hash bytes) × Puts old new area hash bytes)
 
 -- the server took a PUT of this blob over the connection, which was opened so
@@ -201,9 +211,10 @@ pub record LacksOver (access : Access) (start : ConnectionValue) (area : Area)
   pub old : ConnectionValue
   pub new : ConnectionValue
   pub before : Comes access start old
+  pub sent : MaySend access (get area hash)
   pub is : Gets old new area hash None
 
--- and that is the blob or the result
+-- the reply came over the connection that the server has no such blob, or no such result
 abbrev pub LacksIt : Access → ConnectionValue → Lack → Type 0
 LacksIt access start (Blob d) = LacksOver access start Cas d.hash
 LacksIt access start (ActionResult d) = LacksOver access start Ac d.hash
@@ -237,7 +248,8 @@ pub record IsRefusedFor (access : Access) (start : ConnectionValue) (asked : Req
   pub is : RefusesRequest old new asked Failed
   pub kept : new.fault ≡ Some fault
 
--- and the error tells that the server at this address refused it
+-- the request was refused over the connection, and the error tells that the server at this address
+-- did
 pub record RefusesAt (access : Access) (start : ConnectionValue) (address : List ℕ)
     (method : Method) (digest : DigestValue) (body : List ℕ) (e : CommandError) : Type 0 where
   pub fault : Fault
@@ -276,13 +288,61 @@ pub record IsOfServer (access : Access) (sees : Sight) (server : ServerOptions) 
   pub opened : IsConnected sees server start
   pub over : IsToldOver access start told
 
--- it replied that it has no such blob or result, over a connection on which nothing is put
-pub record LacksAtServer (sees : Sight) (server : ServerOptions) (lack : Lack) : Type 0 where
+-- the reply came, over a connection that was opened to the server, that it has no such blob or
+-- result
+pub record LacksAtServer (access : Access) (sees : Sight) (server : ServerOptions) (lack : Lack)
+    : Type 0 where
   pub start : ConnectionValue
   pub opened : IsConnected sees server start
-  pub lacks : LacksIt gets_alone start lack
+  pub lacks : LacksIt access start lack
 
--- for a marker that names no connection
+-- ---- a server for blobs, and a folder for results
+
+-- A client over the connection, which gets blobs alone, told these blobs, and was called no more
+-- often than what told this. The results were read in the folder.
+pub record IsToldByParts (start : ConnectionValue) (sees : Sight) (folder : List ℕ)
+    (told : Telling) : Type 0 where
+  pub answered : Telling
+  pub over : IsToldOver gets_blobs start answered
+  pub blobs : told.blobs ≡ answered.blobs
+  pub few : answered.calls ≤ told.calls
+  pub results : WereRead sees folder (codes "ac") told.results
+
+-- the reply came that there is no such blob, or the folder has no file of the result
+abbrev pub LacksOfParts : ConnectionValue → Sight → List ℕ → Lack → Type 0
+LacksOfParts start sees folder (Blob d) = LacksIt gets_blobs start (Blob d)
+LacksOfParts start sees folder (ActionResult d) = LacksInFolder sees folder (ActionResult d)
+
+-- a file of the folder couldn't be read, or a request was refused
+abbrev pub FailsOfParts : ConnectionValue → Sight → List ℕ → List ℕ → CommandError → Type 0
+FailsOfParts start sees folder address e =
+    FailsInFolder sees folder e ⊎ FailsOver gets_blobs start address e
+
+-- the blobs of the one, and the results of the other, with counts of their own
+abbrev pub told_by_parts : Telling → Telling → ℕ → ℕ → Telling
+told_by_parts by_server by_folder calls failures = record {
+  blobs = by_server.blobs;
+  results = by_folder.results;
+  failures = failures;
+  calls = calls;
+  puts = [];
+}
+
+-- a client of this server told the blobs, and this folder the results
+pub record IsOfBoth (sees : Sight) (server : ServerOptions) (folder : List ℕ) (told : Telling)
+    : Type 0 where
+  pub start : ConnectionValue
+  pub opened : IsConnected sees server start
+  pub parts : IsToldByParts start sees folder told
+
+-- the server replied that it has no such blob, or the folder has no file of the result
+abbrev pub LacksOfBoth : Sight → ServerOptions → List ℕ → Lack → Type 0
+LacksOfBoth sees server folder (Blob d) = LacksAtServer gets_blobs sees server (Blob d)
+LacksOfBoth sees server folder (ActionResult d) = LacksInFolder sees folder (ActionResult d)
+
+-- ---- a marker
+
+-- the connection of a marker that names none
 abbrev pub no_connection : ConnectionValue
 no_connection = record {
   flow = unknown_flow;

@@ -1,6 +1,7 @@
 -- What a command prints, by its options.
 use Rattle.std.specs.Prelude.{◌≡◌, ◌⊎◌, ℕ, false, true, List, [], ◌∷◌, ◌++◌, Option, None, Some}
 use Rattle.std.specs.Prelude.{IsSome, codes, string_bytes, IfSome}
+use Rattle.std.specs.Option.{option_or}
 use Rattle.std.specs.Io.KnownBytes.{Appends}
 use Rattle.std.specs.Net.Text.{socket_text}
 use Rattle.std.specs.declared.alloc.Global.{Global}
@@ -22,55 +23,71 @@ use Rattle.text_verifier.specs.declared.lack.Lack.{Lack}
 use Rattle.commands.specs.Got.{BeginsBlob, Writes}
 use Rattle.commands.specs.Options.{IsServerOf, OnNamedServer, decimal_number, greatest_number}
 use Rattle.commands.specs.Options.{number_or}
-use Rattle.commands.specs.Places.{IsAskedOnce, IsConnected, IsOfFolder, IsOfServer}
-use Rattle.commands.specs.Places.{LacksAtServer, LacksInFolder, gets_alone}
+use Rattle.commands.specs.Places.{IsAskedOnce, IsConnected, IsOfBoth, IsOfFolder, IsOfServer}
+use Rattle.commands.specs.Places.{LacksAtServer, LacksInFolder, LacksOfBoth, gets_alone}
 use Rattle.commands.specs.Put.{PutsPath}
 use Rattle.commands.specs.Told.{AppendsBeginning}
 use Rattle.commands.specs.Trees.{BeginsLack, IsTreeGot}
-use Rattle.commands.specs.Words.{AllValid, serve_words, server_words}
+use Rattle.commands.specs.Words.{AllValid, IsSaid, serve_words, server_words}
 use Rattle.commands.specs.World.{Serving, Sight}
 use Rattle.commands.specs.declared.ended.Ended.{Ended}
 use Rattle.commands.specs.declared.ended.Ended.TheVariants.{Done, No}
 use Rattle.commands.specs.declared.ended.Note.TheVariants.{NoStore}
 use Rattle.commands.specs.declared.serving.ServeRequest.{ServeRequest}
 use Rattle.commands.specs.declared.verifying.RecordedBuild.{RecordedBuild}
-use Rattle.commands.specs.declared.verifying.RecordedBuild.TheVariants.{Folder, Server}
+use Rattle.commands.specs.declared.verifying.RecordedBuild.TheVariants.{Both, Folder, Server}
 use Rattle.command_lines.specs.CommandLine.{option_text}
 
--- the options name a store folder, and nothing of a server
+-- the options name a store folder, and nothing of a server or of results
 pub record NamesStore (options : List Row) : Type 0 where
   pub store : IsSome (first_of (codes "store") options)
   pub server : first_of (codes "server") options ≡ None
   pub prefix : first_of (codes "prefix") options ≡ None
   pub timeout : first_of (codes "timeout") options ≡ None
+  pub results : first_of (codes "results") options ≡ None
 
--- the options name a server, with what is valid to say of it, and no store folder
+-- the options name a server, with what is valid to say of it, and no folder
 pub record NamesServer (options : List Row) : Type 0 where
   pub server : IsSome (first_of (codes "server") options)
   pub store : first_of (codes "store") options ≡ None
+  pub results : first_of (codes "results") options ≡ None
+  pub valid : AllValid (server_words options)
+
+-- the options name a server for blobs, with what is valid to say of it, and a folder for results
+pub record NamesResults (options : List Row) : Type 0 where
+  pub server : IsSome (first_of (codes "server") options)
+  pub store : first_of (codes "store") options ≡ None
+  pub results : IsSome (first_of (codes "results") options)
   pub valid : AllValid (server_words options)
 
 -- ---- verify
 
--- the folder, or the server, that the options name
+-- the folder, or the server, or both, that the options name
 abbrev pub IsNamedPlace : List Row → RecordedBuild → Type 0
 IsNamedPlace options (Folder folder) =
     NamesStore options × (string_bytes folder ≡ option_text options (codes "store"))
 IsNamedPlace options (Server server) = NamesServer options × IsServerOf options server
+IsNamedPlace options (Both server folder) = NamesResults options × IsServerOf options server
+    × (string_bytes folder ≡ option_text options (codes "results"))
 
 -- A source over the place that the options name told this. Nothing is put into it.
 abbrev pub IsOfPlace : Sight → List Row → Telling → Type 0
 IsOfPlace sees options told =
     (NamesStore options × IsOfFolder sees (option_text options (codes "store")) told)
-    ⊎ (NamesServer options
+    ⊎ ((NamesServer options
     × OnNamedServer options (λ server. IsOfServer gets_alone sees server told))
+    ⊎ (NamesResults options × OnNamedServer options (λ server.
+    IsOfBoth sees server (option_text options (codes "results")) told)))
 
 -- The store folder that they name has no file of it, as the world told; or the server that they
--- name replied that it has no such blob or result.
+-- name replied that it has no such blob or result; or one of both lacks it, whose part it is.
 abbrev pub LacksAtPlace : Sight → List Row → Lack → Type 0
 LacksAtPlace sees options lack =
     (NamesStore options × LacksInFolder sees (option_text options (codes "store")) lack)
-    ⊎ (NamesServer options × OnNamedServer options (λ server. LacksAtServer sees server lack))
+    ⊎ ((NamesServer options
+    × OnNamedServer options (λ server. LacksAtServer gets_alone sees server lack))
+    ⊎ (NamesResults options × OnNamedServer options (λ server.
+    LacksOfBoth sees server (option_text options (codes "results")) lack)))
 
 -- The digests in the words, and the files that they name, as they were read, ask this question.
 pub record AsksQuestion (sees : Sight) (options : List Row) (question : Question) : Type 0 where
@@ -91,7 +108,7 @@ pub record JudgesAsked (sees : Sight) (options : List Row) (verdict : Verdict Gl
   pub told : Telling
   pub source : ∥ IsOfPlace sees options told ∥₁
   pub judged : IsJudged told question verdict
-  pub few : NamesServer options → IsAskedOnce told question
+  pub few : IsSaid options (codes "server") → IsAskedOnce told question
   pub lacks : IfSome (lack_of question verdict) (λ lack. ∥ LacksAtPlace sees options lack ∥₁)
 
 -- the line of that verdict was printed
@@ -110,7 +127,7 @@ BeginsVerdict sees options old new = (new ≡ old) ⊎ ((verdict : Verdict Globa
 abbrev pub LacksFolder : Sight → List ℕ → Type 0
 LacksFolder sees path = sees.leads path false ⊎ IsNothingAt sees.fails path
 
--- it told that one is, or couldn't tell what is there
+-- the world told that a folder is at the path, or couldn't tell what is there
 abbrev pub MayHaveFolder : Sight → List ℕ → Type 0
 MayHaveFolder sees path = sees.leads path true
     ⊎ ((e : FileError Global) × sees.fails path e × ¬ IsNotThere e)
@@ -123,9 +140,14 @@ NotesFolder sees store (No (Some _)) = ⊥
 NotesFolder sees store (No None) = IfSome store (MayHaveFolder sees)
 NotesFolder sees store Done = Unit {0}
 
--- so it is with the store that the options name
+-- the folder that the options name, as a store or for results
+abbrev pub named_folder : List Row → Option (List ℕ)
+named_folder options =
+    option_or (first_of (codes "store") options) (first_of (codes "results") options)
+
+-- a no has a note exactly where the folder that the options name isn't there
 abbrev pub NotesStore : Sight → List Row → Ended → Type 0
-NotesStore sees options = NotesFolder sees (first_of (codes "store") options)
+NotesStore sees options = NotesFolder sees (named_folder options)
 
 -- ---- the others
 
@@ -162,7 +184,7 @@ abbrev pub BeginsGot : Sight → Option (List ℕ) → ConnectionValue → Diges
 BeginsGot sees None start digest old new = BeginsBlob start digest old new
 BeginsGot sees (Some folder) start digest old new = BeginsLack sees start digest folder old new
 
--- so it is of what the options ask for
+-- nothing was written, or a beginning of what the options ask for
 abbrev pub GetsPart : Sight → List Row → Option (List ℕ) → Option (List ℕ) → Type 0
 GetsPart sees options old new = (new ≡ old)
     ⊎ ((digest : DigestValue) × (start : ConnectionValue) × StartsGet sees options digest start

@@ -29,7 +29,7 @@ pub record IsListed (sees : Sight) (place : List ℕ) (entries : List EntryValue
   pub read : sees.lists place (entry_names entries)
   pub children : (e : EntryValue) → Contains entries e ↔ IsChild e.name d (Some e.node)
 
--- such a node stands at a place, where a link isn't followed
+-- a node of this kind stands at a place, where a link isn't followed
 abbrev pub StandsAs : Sight → List ℕ → NodeValue → Type 0
 StandsAs sees place (File digest executable) = sees.stands place a_file
 StandsAs sees place (Dir digest) = sees.stands place a_folder
@@ -52,7 +52,7 @@ mutual
         → ArePut sees left place entries old filled → PutsNext filled new (directory_bytes d)
         → IsPutAt sees (suc left) place (Dir (digest_of (directory_bytes d))) old new
 
-  -- so these entries of the folder at a place are put, one after another
+  -- the entries of the folder at a place are put, one after another, each as `IsPutAt` says
   pub data ArePut (sees : Sight)
       : ℕ → List ℕ → List EntryValue → ConnectionValue → ConnectionValue → Type 0 where
     none_put : (left : ℕ) (place : List ℕ) (now : ConnectionValue)

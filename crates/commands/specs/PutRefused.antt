@@ -69,6 +69,8 @@ pub data FailsHere (sees : Sight) (address : List ℕ) (left : ℕ) (place : Lis
     (old : ConnectionValue) (e : CommandError) : Type 0 where
   unread : (f : FileError Global) → sees.fails place f → e ≡ error_of_file f
       → FailsHere sees address left place old e
+  unlisted : (f : FileError Global) → sees.unlisted place f → e ≡ error_of_file f
+      → FailsHere sees address left place old e
   no_text : (target : List ℕ) → sees.stands place (a_link target) → LinksToNoText place target e
       → FailsHere sees address left place old e
   no_name : (name : List ℕ) (now : ConnectionValue) → ReachesEntry sees left place name old now
@@ -82,8 +84,8 @@ pub data FailsHere (sees : Sight) (address : List ℕ) (left : ℕ) (place : Lis
       → IsDirectory d → IsListed sees place entries d → ArePut sees left place entries old filled
       → RefusesPut filled address (directory_bytes d) e → FailsHere sees address left place old e
 
--- It, or something below it, isn't put, the first in the order of the names. Of an entry its name
--- is looked at first, then how deep it lies.
+-- What stands at a place, or something below it, isn't put, the first in the order of the names. Of
+-- an entry its name is looked at first, then how deep it lies.
 pub data FailsBelow (sees : Sight) (address : List ℕ) (e : CommandError)
     : ℕ → List ℕ → ConnectionValue → Type 0 where
   here : (left : ℕ) (place : List ℕ) (old : ConnectionValue)

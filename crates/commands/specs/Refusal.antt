@@ -20,8 +20,9 @@ use Rattle.commands.specs.Faults.{IsDigestFault, OrMemory, error_of_file}
 use Rattle.commands.specs.Hints.{IsHint, TellsOfFault}
 use Rattle.commands.specs.Options.{OnNamedServer}
 use Rattle.commands.specs.Places.{FailsInFolder, FailsOver, FailsToConnect, IsConnected}
-use Rattle.commands.specs.Places.{Access, gets_alone}
-use Rattle.commands.specs.Printed.{AsksQuestion, JudgesAsked, NamesServer, NamesStore}
+use Rattle.commands.specs.Places.{Access, gets_alone, gets_blobs}
+use Rattle.commands.specs.Printed.{AsksQuestion, JudgesAsked, NamesResults, NamesServer}
+use Rattle.commands.specs.Printed.{NamesStore}
 use Rattle.commands.specs.Words.{AllValid, FailsFirst, place_words}
 use Rattle.commands.specs.World.{Sight}
 
@@ -82,11 +83,19 @@ FailsServer access sees server e = FailsToConnect sees (string_bytes server.addr
     ⊎ ((start : ConnectionValue) × IsConnected sees server start
     × FailsOver access start (string_bytes server.address) e)
 
--- a file of the store that the options name can't be read, or the server that they name is at fault
+-- a file of the folder can't be read, or the server is at fault
+abbrev pub FailsOfBoth : Sight → ServerOptions → List ℕ → CommandError → Type 0
+FailsOfBoth sees server folder e =
+    FailsInFolder sees folder e ⊎ FailsServer gets_blobs sees server e
+
+-- the store, the server, or both, that the options name, are at fault
 abbrev pub FailsAtPlace : Sight → List Row → CommandError → Type 0
 FailsAtPlace sees options e =
     (NamesStore options × FailsInFolder sees (option_text options (codes "store")) e)
-    ⊎ (NamesServer options × OnNamedServer options (λ server. FailsServer gets_alone sees server e))
+    ⊎ ((NamesServer options
+    × OnNamedServer options (λ server. FailsServer gets_alone sees server e))
+    ⊎ (NamesResults options × OnNamedServer options (λ server.
+    FailsOfBoth sees server (option_text options (codes "results")) e)))
 
 -- The first fault: what comes before it has none. That memory is wanting may come anywhere, and is
 -- told as that.

@@ -14,7 +14,7 @@ use Rattle.commands.specs.declared.error.CommandError.TheVariants.{Accept, Addre
 
 -- ---- faults
 
--- there were no random bytes
+-- the error tells why no random bytes could be had
 abbrev pub FailsForRandom : Sight → CommandError → Type 0
 FailsForRandom sees (Random fault) = sees.unrandom fault
 FailsForRandom sees _ = ⊥

@@ -44,7 +44,7 @@ erasing = 13 ∷ 27 ∷ codes "[K"
 abbrev pub line_over : List ℕ → List ℕ
 line_over text = erasing ++ (27 ∷ codes "[?7l" ++ (text ++ 27 ∷ codes "[?7h"))
 
--- if there is one, so it is there, or a beginning of that
+-- where there is one before and after, the text was appended to it, or a beginning of that
 abbrev pub AppendsToSome : {T : Type 0} → (T → Option (List ℕ)) → Option T → Option T → List ℕ
     → Type 0
 AppendsToSome contents (Some old) (Some new) text =
@@ -57,7 +57,7 @@ AppendsToSome contents _ _ text = Unit {0}
 abbrev pub in_one_line : List ℕ → List ℕ
 in_one_line text = map (λ b. if b == 10 then 32 else b) text
 
--- that line, with this head
+-- a text in one line, behind this head
 abbrev pub line_after : List ℕ → List ℕ → List ℕ
 line_after head text = head ++ (in_one_line text ++ 10 ∷ [])
 
@@ -75,7 +75,7 @@ abbrev pub IsNoStoreText : List ℕ → List ℕ → Type 0
 IsNoStoreText path = IsOfPath path
     (codes "there is no such folder, so what is missing from it says nothing about the build")
 
--- those of a note
+-- the words of a note
 abbrev pub IsNoteText : Note → List ℕ → Type 0
 IsNoteText (NoBlob server digest) text = text ≡ no_blob_text (string_bytes server) digest
 IsNoteText (NoStore path) text = IsNoStoreText (string_bytes path) text
@@ -87,7 +87,7 @@ pub record TellsNote (note : Note) (old new : Option (List ℕ)) : Type 0 where
   pub is : IsNoteText note text
   pub appended : AppendsBeginning old new (line_after (codes "note: ") text)
 
--- and nothing where there is none
+-- the line of the note was appended, or a beginning of it; nothing where there is none
 abbrev pub TellsNoteOf : Option Note → Option (List ℕ) → Option (List ℕ) → Type 0
 TellsNoteOf None old new = new ≡ old
 TellsNoteOf (Some note) old new = TellsNote note old new

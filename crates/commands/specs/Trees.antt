@@ -47,7 +47,8 @@ pub record PrintsLack (start : ConnectionValue) (error : CheckoutError Global)
   pub replied : ∥ LacksOver gets_alone start Cas lacked.hash ∥₁
   pub printed : appends (missing_line lacked)
 
--- so it is with the tree that was told so, of which nothing was asked behind what is at fault
+-- The tree wasn't written, by what was told of it over the connection, since a blob is missing.
+-- Nothing was asked behind what is at fault.
 pub record LacksTree (sees : Sight) (start : ConnectionValue) (digest : DigestValue)
     (folder : List ℕ) (appends : List ℕ → Type 0) : Type 0 where
   pub before : Telling

@@ -60,12 +60,12 @@ is_expected options option expected IsRight = record {
 abbrev pub IsSaid : List Row → List ℕ → Type 0
 IsSaid options option = IsSome (first_of option options)
 
--- so it is where the option is said
+-- the check, where the option is said; without it all is valid
 abbrev pub where_said : List Row → List ℕ → Check → Check
 where_said options option check =
     record { valid = IsSaid options option → check.valid; fault = check.fault }
 
--- such a number, where the option is said
+-- the text of an option, where it is said, is a number that is no greater
 abbrev pub may_have_number_up_to : List Row → List ℕ → ℕ → Check
 may_have_number_up_to options option greatest =
     where_said options option (has_number_up_to options option greatest)
@@ -93,7 +93,7 @@ abbrev pub IsUsageError : List ℕ → CommandError → Type 0
 IsUsageError words (Usage text) = string_bytes text ≡ words
 IsUsageError words _ = ⊥
 
--- so it is, or these words tell that it isn't
+-- a check of whether this holds, and the words that tell where it doesn't
 abbrev pub else_told : Type 0 → List ℕ → Check
 else_told valid words = record { valid = valid; fault = IsUsageError words }
 
@@ -112,10 +112,17 @@ goes_with_server options option =
     else_told (IsSaid options (codes "store") → ¬ IsSaid options option)
     (codes "--" ++ (option ++ codes " cannot be used with --store"))
 
+-- a folder for entries, where the option is said: its path isn't empty
+abbrev pub may_name_folder : List Row → List ℕ → Check
+may_name_folder options option = where_said options option
+    (is_expected options option (codes "a folder") (λ text. text ≢ []))
+
 abbrev pub place_words : List Row → List Check
 place_words options =
     names_place options ∷ names_one_place options
     ∷ goes_with_server options (codes "prefix") ∷ goes_with_server options (codes "timeout")
+    ∷ goes_with_server options (codes "results") ∷ may_name_folder options (codes "store")
+    ∷ may_name_folder options (codes "results")
     ∷ map (where_said options (codes "server")) (server_words options)
 
 -- ---- what is served

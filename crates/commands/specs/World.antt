@@ -36,12 +36,14 @@ pub record Sight : Type 1 where
   pub reads : List ℕ → List ℕ → Type 0
   -- the folder at the path was read, and had entries of these names
   pub lists : List ℕ → List (List ℕ) → Type 0
-  -- this stands at the path, where a link isn't followed
+  -- what was found stands at the path, where a link isn't followed
   pub stands : List ℕ → FoundValue → Type 0
   -- a folder stands at the path, where links are followed, or none does
   pub leads : List ℕ → Bool → Type 0
   -- what stands at the path couldn't be read, for this
   pub fails : List ℕ → FileError Global → Type 0
+  -- no folder at the path could be listed, for this
+  pub unlisted : List ℕ → FileError Global → Type 0
   -- a stream was opened to the server at this address, with this limit on its silence, and stood so
   pub connects : List ℕ → Option Duration → Flow → Type 0
   -- none could be opened, for this
@@ -56,17 +58,17 @@ pub record Sight : Type 1 where
   pub unwritten : List ℕ → Error → Type 0
   -- a tree was written, or tried to be: at these paths, in this order, and nowhere else
   pub tries : List (List ℕ) → Type 0
-  -- there were random bytes
+  -- random bytes could be had
   pub random : Type 0
-  -- there were none, for this
+  -- no random bytes could be had, for this
   pub unrandom : Error → Type 0
   -- a socket listens at this place, at this address
   pub listens : List ℕ → SocketAddr → Type 0
   -- none could be bound there, for this
   pub unbound : List ℕ → Error → Type 0
-  -- these connections were served
+  -- the connections were served
   pub serves : Serving → Type 0
-  -- they weren't all served, for this
+  -- the connections weren't all served, for this
   pub unserved : Serving → NotAccepted → Type 0
 
 -- nothing is known of it
@@ -77,6 +79,7 @@ sees_nothing = record {
   stands = λ _ _. Unit {0};
   leads = λ _ _. Unit {0};
   fails = λ _ _. Unit {0};
+  unlisted = λ _ _. Unit {0};
   connects = λ _ _ _. Unit {0};
   refuses = λ _ _. Unit {0};
   takes = λ _. Unit {0};

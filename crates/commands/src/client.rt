@@ -6,11 +6,12 @@ ghost use Rattle.blob_source.specs.Source.{AsksBlob, AsksResult, bytes_of};
 ghost use Rattle.commands.specs.Faults.{OrMemory, TellsFailure, kept_failure};
 ghost use Rattle.commands.specs.Places.{AreLacked, FailsOver, FailsToConnect, IsClientOver};
 ghost use Rattle.commands.specs.Places.{IsConnected, IsFresh, KeepsRefused, LacksIt, LacksOver};
-ghost use Rattle.commands.specs.Places.{TakesBlob, puts_too};
+ghost use Rattle.commands.specs.Places.{MaySend, TakesBlob, puts_too};
 ghost use Rattle.commands.specs.Put.{PutsNext};
 ghost use Rattle.commands.specs.PutRefused.{RefusesPut};
 ghost use Rattle.commands.specs.Status.{exit_status};
 ghost use Rattle.http_core.specs.declared.event.Area.TheVariants.{Ac, Cas};
+ghost use Rattle.remote.specs.Line.{get};
 ghost use Rattle.remote.specs.Remote.{LooksUp, blobs_of, connection_of, results_of, telling_of};
 
 use crate::connecting::ServerOptions;
@@ -45,7 +46,26 @@ pub trait Permit {
     ghost access: { Access };
 }
 
-/// It sends GETs alone, and so what it tells is what the server answered.
+/// Marks a client that may ask for results too.
+pub trait AsksResults: Permit {
+    ghost use Rattle.std.specs.Prelude.{ℕ, List};
+    ghost use Rattle.commands.specs.Places.{MaySend};
+    ghost use Rattle.http_core.specs.declared.event.Area.TheVariants.{Ac};
+    ghost use Rattle.remote.specs.Line.{get};
+
+    ghost asks: { (hash : List ℕ) → MaySend Self.access (get Ac hash) };
+}
+
+/// Marks a client that sends GETs of blobs alone, so that no result that is told is the server's.
+pub(crate) struct GetsBlobs;
+
+impl Permit for GetsBlobs {
+    ghost use Rattle.commands.specs.Places.{gets_blobs};
+
+    ghost access = { gets_blobs };
+}
+
+/// Marks a client that sends GETs alone, so that what it tells is what the server answered.
 pub struct GetsAlone;
 
 impl Permit for GetsAlone {
@@ -54,7 +74,13 @@ impl Permit for GetsAlone {
     ghost access = { gets_alone };
 }
 
-/// It puts blobs too, each under its own hash, and no results.
+impl AsksResults for GetsAlone {
+    ghost use Rattle.std.specs.Prelude.{refl};
+
+    ghost asks = { λ hash. refl };
+}
+
+/// Marks a client that puts blobs too, each under its own hash, and no results.
 pub(crate) struct PutsBlobs;
 
 impl Permit for PutsBlobs {
@@ -63,13 +89,17 @@ impl Permit for PutsBlobs {
     ghost access = { puts_blobs };
 }
 
-/// It puts blobs and results too.
+/// Marks a client that puts blobs and results too.
 pub struct PutsToo;
 
 impl Permit for PutsToo {
     ghost use Rattle.commands.specs.Places.{puts_too};
 
     ghost access = { puts_too };
+}
+
+impl AsksResults for PutsToo {
+    ghost asks = { λ hash. tt };
 }
 
 /// A remote over the marked connection, that knows which request failed last.
@@ -131,6 +161,78 @@ impl<S: Stream + Drop, K: Opened, U: Permit> Client<S, K, U> {
         }
     }
 
+    /// The blob that the server has under a digest.
+    pub(crate) fn get_blob(
+        &mut self,
+        alloc: Global,
+        digest: &Digest,
+    ) -> Result<Option<Vec<u8>>, FetchError>
+        ensures told { IfOk result
+            (λ answer. bytes_of answer ≡ (telling_of (remote_of self.new)).blobs digest.now) }
+        ensures called { Calls (AsksBlob digest.now) (telling_of (remote_of self.old))
+            (telling_of (remote_of self.new)) (IsErrOf result FetchError.Failed) }
+        ensures asked { LooksUp Cas digest.now (connection_of S.flow (remote_of self.old))
+            (connection_of S.flow (remote_of self.new)) (blobs_of (remote_of self.old))
+            (blobs_of (remote_of self.new)) result }
+        ensures kept { failed_request self.new ≡ kept_failure (failed_request self.old)
+            Method.GetBlob digest.now result (connection_of S.flow (remote_of self.new)).fault }
+        // Where there is none, the server has replied so.
+        ensures lacked { IfOk result
+            (λ answer. IfNone answer (∥ LacksOver U.access K.start Cas digest.now.hash ∥₁)) }
+    {
+        let found = self.remote.fetch(alloc, digest);
+        let fault = self.remote.last_fault();
+        keep_failure(&mut self.failure, Method::GetBlob, digest, &found, fault);
+        found
+    }
+
+    /// The result that the server has for the action with a digest.
+    pub(crate) fn get_result(
+        &mut self,
+        alloc: Global,
+        digest: &Digest,
+    ) -> Result<Option<Vec<u8>>, FetchError>
+        requires asks { MaySend U.access (get Ac digest.now.hash) }
+        ensures told { IfOk result
+            (λ answer. bytes_of answer ≡ (telling_of (remote_of self.new)).results digest.now) }
+        ensures called { Calls (AsksResult digest.now) (telling_of (remote_of self.old))
+            (telling_of (remote_of self.new)) (IsErrOf result FetchError.Failed) }
+        ensures lacked { IfOk result
+            (λ answer. IfNone answer (∥ LacksOver U.access K.start Ac digest.now.hash ∥₁)) }
+    {
+        let found = self.remote.result(alloc, digest);
+        let fault = self.remote.last_fault();
+        keep_failure(&mut self.failure, Method::GetResult, digest, &found, fault);
+        found
+    }
+
+    /// The error of a call that was refused: of the request that failed last, where it failed.
+    pub fn error(
+        &self,
+        alloc: Global,
+        server: &ServerOptions,
+        refusal: FetchError,
+    ) -> Result<CommandError, AllocError>
+        ensures over { IfOk result (OrMemory
+            (λ e. ∥ FailsOver U.access K.start (string_bytes server.now.address) e ∥₁)) }
+        ensures status { IfOk result (λ e. exit_status e ≡ 3) }
+        ensures error { IfOk result
+            (TellsFailure (string_bytes server.now.address) (failed_request self.now) refusal) }
+        // Where a call failed, that memory is wanting isn't told in its place.
+        ensures failed { IfOk result (λ e. refusal ≡ FetchError.Failed → e ≡ CommandError.Memory
+            → ∥ (telling_of (remote_of self.now)).failures ≡ K.start.failures ∥₁) }
+    {
+        match self.failure {
+            Some(failure) if refusal == FetchError::Failed => Ok(CommandError::Server {
+                server: String::from_str(alloc, server.address.as_str())?,
+                failure,
+            }),
+            _ => Ok(CommandError::Memory),
+        }
+    }
+}
+
+impl<S: Stream + Drop, K: Opened, U: AsksResults> Client<S, K, U> {
     /// Looks again for what was told as missing.
     fn look_again(&mut self, alloc: Global, lack: &Lack) -> Result<Option<Vec<u8>>, FetchError>
         ensures lacked { IfOk result
@@ -161,34 +263,9 @@ impl<S: Stream + Drop, K: Opened, U: Permit> Client<S, K, U> {
         };
         Err(self.error(alloc, server, refusal)?)
     }
-
-    /// The error of a call that was refused: of the request that failed last, where it failed.
-    pub fn error(
-        &self,
-        alloc: Global,
-        server: &ServerOptions,
-        refusal: FetchError,
-    ) -> Result<CommandError, AllocError>
-        ensures over { IfOk result (OrMemory
-            (λ e. ∥ FailsOver U.access K.start (string_bytes server.now.address) e ∥₁)) }
-        ensures status { IfOk result (λ e. exit_status e ≡ 3) }
-        ensures error { IfOk result
-            (TellsFailure (string_bytes server.now.address) (failed_request self.now) refusal) }
-        // Where a call failed, that memory is wanting isn't told in its place.
-        ensures failed { IfOk result (λ e. refusal ≡ FetchError.Failed → e ≡ CommandError.Memory
-            → ∥ (telling_of (remote_of self.now)).failures ≡ K.start.failures ∥₁) }
-    {
-        match self.failure {
-            Some(failure) if refusal == FetchError::Failed => Ok(CommandError::Server {
-                server: String::from_str(alloc, server.address.as_str())?,
-                failure,
-            }),
-            _ => Ok(CommandError::Memory),
-        }
-    }
 }
 
-impl<S: Stream + Drop, K: Opened, U: Permit> BlobSource<Global> for Client<S, K, U> {
+impl<S: Stream + Drop, K: Opened, U: AsksResults> BlobSource<Global> for Client<S, K, U> {
     ghost use Rattle.commands.specs.Client.{failed_request, remote_of};
     ghost use Rattle.remote.specs.Remote.{telling_of};
 
@@ -208,10 +285,7 @@ impl<S: Stream + Drop, K: Opened, U: Permit> BlobSource<Global> for Client<S, K,
         ensures lacked { IfOk result
             (λ answer. IfNone answer (∥ LacksOver U.access K.start Cas digest.now.hash ∥₁)) }
     {
-        let found = self.remote.fetch(alloc, digest);
-        let fault = self.remote.last_fault();
-        keep_failure(&mut self.failure, Method::GetBlob, digest, &found, fault);
-        found
+        self.get_blob(alloc, digest)
     }
 
     fn result(&mut self, alloc: Global, digest: &Digest) -> Result<Option<Vec<u8>>, FetchError>
@@ -222,10 +296,7 @@ impl<S: Stream + Drop, K: Opened, U: Permit> BlobSource<Global> for Client<S, K,
         ensures lacked { IfOk result
             (λ answer. IfNone answer (∥ LacksOver U.access K.start Ac digest.now.hash ∥₁)) }
     {
-        let found = self.remote.result(alloc, digest);
-        let fault = self.remote.last_fault();
-        keep_failure(&mut self.failure, Method::GetResult, digest, &found, fault);
-        found
+        self.get_result(alloc, digest)
     }
 }
 
@@ -278,10 +349,10 @@ pub fn open<W: Inputs>(
     server: &ServerOptions,
 ) -> Result<Remote<W::Link, Global>, CommandError>
     ensures opened { IfOk result
-        (λ remote. IsConnected W.sees server.now (connection_of W.Link.flow remote)) }
+        (λ remote. IsConnected (W.sees world.now) server.now (connection_of W.Link.flow remote)) }
     ensures fresh { IfOk result (λ remote. IsFresh remote) }
     ensures fault { IfErr result
-        (OrMemory (FailsToConnect W.sees (string_bytes server.now.address))) }
+        (OrMemory (FailsToConnect (W.sees world.now) (string_bytes server.now.address))) }
 {
     match world.connect(alloc, server) {
         Ok(link) => Ok(Remote::new(alloc, link, &server.host, &server.prefix)?),

@@ -120,13 +120,16 @@ fn get_over<W: Inputs + Outputs, K: Opened, O: Write>(
 ) -> Result<Ended, CommandError>
     requires start { K.start ≡ connection_of W.Link.flow remote }
     requires fresh { IsFresh remote }
-    ensures got { IfOk result (IsGot W.sees (option_map (λ s. s.now) folder.entry) K.start
+    ensures got { IfOk result (IsGot (W.sees world.now) (option_map (λ s. s.now) folder.entry)
+        K.start
         (string_bytes server.now.address) digest.now (O.contents out.old) (O.contents out.new)) }
-    ensures begun { OnErr result (BeginsGot W.sees (option_map (λ s. s.now) folder.entry) K.start
+    ensures begun { OnErr result (BeginsGot (W.sees world.now)
+        (option_map (λ s. s.now) folder.entry) K.start
         digest.now (O.contents out.old) (O.contents out.new)) }
     ensures unprinted { IfErr result
         (λ fault. ¬ IsPrintFault fault → O.contents out.new ≡ O.contents out.old) }
-    ensures fault { IfErr result (OrMemory (FailsGot W.sees (option_map (λ s. s.now) folder.entry)
+    ensures fault { IfErr result (OrMemory (FailsGot (W.sees world.now)
+        (option_map (λ s. s.now) folder.entry)
         K.start (string_bytes server.now.address) digest.now)) }
 {
     let mut client: Client<W::Link, K, GetsAlone> = Client::new(remote);
@@ -144,16 +147,16 @@ pub fn run_get<W: Inputs + Outputs, O: Write>(
     matches: &ArgMatches<'_>,
     out: &mut O,
 ) -> Result<Ended, CommandError>
-    ensures answered { IfOk result (GetsAsked W.sees (rows_of (found_of matches.now))
+    ensures answered { IfOk result (GetsAsked (W.sees world.now) (rows_of (found_of matches.now))
         (O.contents out.old) (O.contents out.new)) }
     // A refusal leaves no byte that isn't the blob's, or of the line of one that the server lacks.
-    ensures begun { OnErr result (GetsPart W.sees (rows_of (found_of matches.now))
+    ensures begun { OnErr result (GetsPart (W.sees world.now) (rows_of (found_of matches.now))
         (O.contents out.old) (O.contents out.new)) }
     // Where it is for anything but the output, nothing was printed.
     ensures unprinted { IfErr result
         (λ fault. ¬ IsPrintFault fault → O.contents out.new ≡ O.contents out.old) }
     // It is for the first fault: what comes before it has none.
-    ensures refused { IfErr result (FailsGet W.sees (rows_of (found_of matches.now))) }
+    ensures refused { IfErr result (FailsGet (W.sees world.now) (rows_of (found_of matches.now))) }
 {
     let server = read_server(alloc, matches)?;
     let digest = read_digest(alloc, matches, "digest")?;

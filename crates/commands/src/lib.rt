@@ -3,6 +3,7 @@
 #![tactic(auto)]
 
 mod again;
+mod blobs_and_results;
 mod children;
 mod client;
 mod connecting;
@@ -15,6 +16,7 @@ mod folder_store;
 mod getting;
 mod hint;
 mod laws;
+mod memory_world;
 mod options;
 mod printing;
 mod process_fault;
@@ -28,7 +30,7 @@ mod trees;
 mod verifying;
 mod world;
 
-pub use client::{Client, GetsAlone, Opened, Permit, PutsToo, open};
+pub use client::{AsksResults, Client, GetsAlone, Opened, Permit, PutsToo, open};
 pub use connecting::{Connection, ServerOptions, read_server};
 pub use ended::{Ended, Note};
 pub use error::CommandError;
@@ -36,6 +38,7 @@ pub use failure::{Failure, Method};
 pub use getting::run_get;
 pub use hint::Hint;
 pub use laws::a_fault_has_one_hint;
+pub use memory_world::{MemoryWorld, verify_in_memory};
 pub use options::{invalid_value, number_in, read_digest};
 pub use printing::print_all;
 pub use process_fault::{ProcessCause, ProcessFault};

@@ -3,13 +3,13 @@ use std::io;
 /// Why a process came to nothing.
 #[derive(Clone, Copy, Debug)]
 pub enum ProcessCause {
-    /// It couldn't be started.
+    /// The process couldn't be started.
     Unstarted(io::Error),
-    /// It couldn't be waited for.
+    /// The process couldn't be waited for.
     Unwaited(io::Error),
-    /// What it left at its output paths couldn't be read.
+    /// What the process left at its output paths couldn't be read.
     Unread(io::Error),
-    /// The signal with this number ended it.
+    /// The signal with this number ended the process.
     Signal(i32),
 }
 

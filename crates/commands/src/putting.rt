@@ -83,10 +83,11 @@ impl<W: Inputs> Uploader<'_, W> {
         place: &str,
     ) -> Result<Digest, CommandError>
         ensures put { IfOk result (λ digest. (left : ℕ)
-            → IsPutAt W.sees (suc left) place.now (nodes.File digest false)
+            → IsPutAt (W.sees self.now.world.now) (suc left) place.now (nodes.File digest false)
             (connection client.old) (connection client.new)) }
         ensures refused { IfErr result (OrMemory (λ e. (left : ℕ)
-            → FailsHere W.sees (string_bytes self.now.server.now.address) left place.now
+            → FailsHere (W.sees self.now.world.now) (string_bytes self.now.server.now.address) left
+            place.now
             (connection client.old) e)) }
         ensures counted { OnOk result
             (P.files progress.new ≡ min (P.files progress.old + 1) 18446744073709551615) }
@@ -109,11 +110,13 @@ impl<W: Inputs> Uploader<'_, W> {
         place: &str,
         levels_left: u32,
     ) -> Result<Node<Global>, CommandError>
-        ensures stands { IfOk result (λ node. StandsAs W.sees place.now (node_value node)) }
+        ensures stands { IfOk result (λ node. StandsAs (W.sees self.now.world.now) place.now
+            (node_value node)) }
         ensures put { IfOk result
-            (λ node. IsPutAt W.sees (suc levels_left) place.now (node_value node)
+            (λ node. IsPutAt (W.sees self.now.world.now) (suc levels_left) place.now
+            (node_value node)
             (connection client.old) (connection client.new)) }
-        ensures refused { IfErr result (OrMemory (λ e. FailsBelow W.sees
+        ensures refused { IfErr result (OrMemory (λ e. FailsBelow (W.sees self.now.world.now)
             (string_bytes self.now.server.now.address) e levels_left place.now
             (connection client.old))) }
     {
@@ -142,9 +145,10 @@ impl<W: Inputs> Uploader<'_, W> {
         levels_left: u32,
     ) -> Result<Digest, CommandError>
         ensures put { IfOk result
-            (λ digest. IsPutAt W.sees (suc levels_left) place.now (nodes.Dir digest)
+            (λ digest. IsPutAt (W.sees self.now.world.now) (suc levels_left) place.now
+            (nodes.Dir digest)
             (connection client.old) (connection client.new)) }
-        ensures refused { IfErr result (OrMemory (λ e. FailsBelow W.sees
+        ensures refused { IfErr result (OrMemory (λ e. FailsBelow (W.sees self.now.world.now)
             (string_bytes self.now.server.now.address) e levels_left place.now
             (connection client.old))) }
     {
@@ -178,8 +182,8 @@ fn put_over<W: Inputs, K: Opened, P: Counter>(
 ) -> Result<Digest, CommandError>
     requires start { K.start ≡ connection_of W.Link.flow remote }
     requires fresh { IsFresh remote }
-    ensures put { IfOk result (PutsPath W.sees K.start (string_bytes place)) }
-    ensures refused { IfErr result (OrMemory (λ e. FailsBelow W.sees
+    ensures put { IfOk result (PutsPath (W.sees world.now) K.start (string_bytes place)) }
+    ensures refused { IfErr result (OrMemory (λ e. FailsBelow (W.sees world.now)
         (string_bytes server.now.address) e 64 (string_bytes place) K.start)) }
 {
     let mut client: Client<W::Link, K, PutsBlobs> = Client::new(remote);
@@ -224,16 +228,16 @@ pub fn run_put<R, W: Inputs, O: Write, T: Write + Drop>(
 where
     R: AllocGlobal + Clock + Clone + Drop,
     ensures printed { OnOk result
-        (PrintsDigest W.sees (rows_of (found_of matches.now))
+        (PrintsDigest (W.sees world.now) (rows_of (found_of matches.now))
         (O.contents out.old) (O.contents out.new)) }
     // A refusal leaves no byte that isn't of that line.
-    ensures begun { OnErr result (BeginsDigest W.sees (rows_of (found_of matches.now))
+    ensures begun { OnErr result (BeginsDigest (W.sees world.now) (rows_of (found_of matches.now))
         (O.contents out.old) (O.contents out.new)) }
     // Where it is for anything but the output, nothing was printed.
     ensures unprinted { IfErr result
         (λ fault. ¬ IsPrintFault fault → O.contents out.new ≡ O.contents out.old) }
     // It is for the first fault: what comes before it has none.
-    ensures refused { IfErr result (FailsPut W.sees (rows_of (found_of matches.now))) }
+    ensures refused { IfErr result (FailsPut (W.sees world.now) (rows_of (found_of matches.now))) }
 {
     let alloc = rt.alloc();
     let server = read_server(alloc, matches)?;

@@ -157,8 +157,8 @@ fn read_request<'a>(
 
 /// Random keys for the tables of the cache.
 fn draw_keys<W: Hosting>(world: &W) -> Result<RandomState, CommandError>
-    ensures given { OnOk result W.sees.random }
-    ensures fault { IfErr result (FailsForRandom W.sees) }
+    ensures given { OnOk result (W.sees world.now).random }
+    ensures fault { IfErr result (FailsForRandom (W.sees world.now)) }
 {
     match world.random_keys() {
         Ok(keys) => Ok(keys),
@@ -168,8 +168,8 @@ fn draw_keys<W: Hosting>(world: &W) -> Result<RandomState, CommandError>
 
 /// Listens at the address.
 fn listen<W: Hosting>(alloc: Global, world: &W, address: &str) -> Result<Listening, CommandError>
-    ensures listens { IfOk result (λ l. W.sees.listens address.now l.address) }
-    ensures fault { IfErr result (OrMemory (FailsToListen W.sees address.now)) }
+    ensures listens { IfOk result (λ l. (W.sees world.now).listens address.now l.address) }
+    ensures fault { IfErr result (OrMemory (FailsToListen (W.sees world.now) address.now)) }
 {
     match world.listen(address) {
         Ok(listening) => Ok(listening),
@@ -210,19 +210,21 @@ pub fn run_serve<W: Hosting, O: Write>(
     matches: &ArgMatches<'_>,
     out: &mut O,
 ) -> Result<(), CommandError>
-    ensures served { OnOk result (ServesAsked W.sees (rows_of (found_of matches.now))
+    ensures served { OnOk result (ServesAsked (W.sees world.now) (rows_of (found_of matches.now))
         (O.contents out.old) (O.contents out.new)) }
     // A refusal leaves no byte that isn't of the address's line.
-    ensures begun { OnErr result (BeginsListening W.sees (rows_of (found_of matches.now))
+    ensures begun { OnErr result (BeginsListening (W.sees world.now)
+        (rows_of (found_of matches.now))
         (O.contents out.old) (O.contents out.new)) }
     // Where it is for anything but the output or a connection, nothing was printed.
     ensures unprinted { IfErr result (λ fault. ¬ IsPrintFault fault → ¬ IsAcceptFault fault
         → O.contents out.new ≡ O.contents out.old) }
     // Where it listens was printed before connections were served.
-    ensures told { IfErr result (λ fault. IsAcceptFault fault → PrintsListening W.sees
+    ensures told { IfErr result (λ fault. IsAcceptFault fault → PrintsListening (W.sees world.now)
         (rows_of (found_of matches.now)) (O.contents out.old) (O.contents out.new)) }
     // It is for the first fault: what comes before it has none.
-    ensures refused { IfErr result (FailsServe W.sees (rows_of (found_of matches.now))) }
+    ensures refused { IfErr result
+        (FailsServe (W.sees world.now) (rows_of (found_of matches.now))) }
 {
     let request = read_request(alloc, matches)?;
     let keys = draw_keys(world)?;

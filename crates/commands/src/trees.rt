@@ -94,11 +94,11 @@ pub(crate) fn get_tree<W: Inputs + Outputs, K: Opened, O: Write>(
     out: &mut O,
 ) -> Result<Ended, CommandError>
     requires fresh { IsFresh (remote_of client.old) }
-    ensures got { IfOk result (IsTreeGot W.sees K.start digest.now folder.now
+    ensures got { IfOk result (IsTreeGot (W.sees world.now) K.start digest.now folder.now
         (O.contents out.old) (O.contents out.new)) }
-    ensures begun { OnErr result (BeginsLack W.sees K.start digest.now folder.now
+    ensures begun { OnErr result (BeginsLack (W.sees world.now) K.start digest.now folder.now
         (O.contents out.old) (O.contents out.new)) }
-    ensures fault { IfErr result (OrMemory (FailsGetTree W.sees K.start
+    ensures fault { IfErr result (OrMemory (FailsGetTree (W.sees world.now) K.start
         (string_bytes server.now.address) digest.now folder.now)) }
     ensures unprinted { IfErr result
         (λ fault. ¬ IsPrintFault fault → O.contents out.new ≡ O.contents out.old) }

@@ -6,29 +6,33 @@ ghost use Rattle.command_lines.specs.CommandLine.{option_text};
 ghost use Rattle.commands.specs.Ended.{is_done};
 ghost use Rattle.commands.specs.Faults.{OrMemory};
 ghost use Rattle.commands.specs.Places.{FailsInFolder, FailsOver, IsFresh, IsOfFolder};
+ghost use Rattle.commands.specs.Places.{FailsOfParts, IsOfBoth, IsToldByParts, LacksOfBoth};
 ghost use Rattle.commands.specs.Places.{IsOfServer, IsAnsweredBy, IsToldOver, LacksAtServer};
-ghost use Rattle.commands.specs.Places.{LacksInFolder, LacksIt, gets_alone};
+ghost use Rattle.commands.specs.Places.{LacksInFolder, LacksIt, LacksOfParts, SeesFiles};
+ghost use Rattle.commands.specs.Places.{gets_alone};
 ghost use Rattle.commands.specs.Printed.{AsksQuestion, BeginsVerdict, IsNamedPlace, IsOfPlace};
 ghost use Rattle.commands.specs.Printed.{LacksAtPlace, LacksFolder, MayHaveFolder, NotesFolder};
-ghost use Rattle.commands.specs.Printed.{NotesStore, PrintsVerdict};
+ghost use Rattle.commands.specs.Printed.{NotesStore, PrintsVerdict, named_folder};
 ghost use Rattle.commands.specs.Refusal.{FailsDigests, FailsAtPlace, FailsPlan, FailsRecord};
-ghost use Rattle.commands.specs.Refusal.{FailsServer, FailsVerify, HasPlanRead, IsPrintFault};
+ghost use Rattle.commands.specs.Refusal.{FailsOfBoth, FailsServer, FailsVerify, HasPlanRead};
+ghost use Rattle.commands.specs.Refusal.{IsPrintFault};
 ghost use Rattle.commands.specs.Refusal.{IsTextFault};
 ghost use Rattle.commands.specs.Told.{AppendsBeginning, PrintsNoLine};
 ghost use Rattle.commands.specs.Words.{IsCheckedBy, IsSaid, IsUsageError, goes_with_server};
-ghost use Rattle.commands.specs.Words.{place_words};
+ghost use Rattle.commands.specs.Words.{may_name_folder, place_words, server_words};
 ghost use Rattle.remote.specs.Remote.{connection_of};
 ghost use Rattle.report.specs.Line.{IsOneLine};
 ghost use Rattle.text_verifier.specs.Texts.{IsDigestText};
 ghost use Rattle.verifier.specs.Verdict.{IsYes};
 
-use crate::client::{Client, GetsAlone, Opened, open};
+use crate::blobs_and_results::BlobsAndResults;
+use crate::client::{Client, GetsAlone, GetsBlobs, Opened, open};
 use crate::connecting::{ServerOptions, read_server};
 use crate::ended::{Ended, Note};
 use crate::error::CommandError;
 use crate::folder_store::{FolderMark, FolderStore};
 use crate::hint::Hint;
-use crate::options::read_digest;
+use crate::options::{invalid_value, read_digest};
 use crate::telling::write_bytes;
 use crate::world::{FilesOf, Inputs};
 use clap::ArgMatches;
@@ -46,6 +50,8 @@ use tree::FetchError;
 enum RecordedBuild {
     Folder(String),
     Server(ServerOptions),
+    /// Its blobs are on the server, and its results in the folder.
+    Both(ServerOptions, String),
 }
 
 /// The digests that the words spell. That of the sources is read first.
@@ -82,8 +88,8 @@ pub fn plan_in_file<W: Inputs>(
     world: &W,
     matches: &ArgMatches<'_>,
 ) -> Result<Plan<Global>, CommandError>
-    ensures found { IfOk result (HasPlanRead W.sees (rows_of (found_of matches.now))) }
-    ensures fault { IfErr result (FailsPlan W.sees (rows_of (found_of matches.now))) }
+    ensures found { IfOk result (HasPlanRead (W.sees world.now) (rows_of (found_of matches.now))) }
+    ensures fault { IfErr result (FailsPlan (W.sees world.now) (rows_of (found_of matches.now))) }
 {
     let path = text_of(matches, "plan");
     let bytes = world.read(alloc, path)?;
@@ -107,9 +113,10 @@ fn read_case<W: Inputs>(
         (option_text (rows_of (found_of matches.now)) (codes "sources")) digests.sources }
     requires claim { IsDigestText
         (option_text (rows_of (found_of matches.now)) (codes "claim")) digests.claim }
-    requires plan { HasPlanRead W.sees (rows_of (found_of matches.now)) plan }
-    ensures asks { IfOk result (AsksQuestion W.sees (rows_of (found_of matches.now))) }
-    ensures fault { IfErr result (FailsRecord W.sees (rows_of (found_of matches.now)) plan) }
+    requires plan { HasPlanRead (W.sees world.now) (rows_of (found_of matches.now)) plan }
+    ensures asks { IfOk result (AsksQuestion (W.sees world.now) (rows_of (found_of matches.now))) }
+    ensures fault { IfErr result (FailsRecord (W.sees world.now) (rows_of (found_of matches.now))
+        plan) }
 {
     let path = text_of(matches, "record");
     let bytes = world.read(alloc, path)?;
@@ -128,7 +135,7 @@ fn usage_error(alloc: Global, words: &str) -> Result<CommandError, AllocError>
     Ok(CommandError::Usage(String::from_str(alloc, words)?))
 }
 
-/// An option that says something of a server isn't said beside `--store`.
+/// An option that goes with a server isn't said beside `--store`.
 fn check_beside_store(
     alloc: Global,
     matches: &ArgMatches<'_>,
@@ -145,6 +152,35 @@ fn check_beside_store(
     Err(CommandError::Usage(format!(in alloc; "--{option} cannot be used with --store")?))
 }
 
+/// A folder for entries has a name, where the option for it is said.
+fn check_folder(
+    alloc: Global,
+    matches: &ArgMatches<'_>,
+    option: &'static str,
+) -> Result<(), CommandError>
+    ensures { IsCheckedBy (may_name_folder (rows_of (found_of matches.now)) option.now ∷ [])
+        result }
+{
+    match option_of(matches, option) {
+        Some("") => Err(invalid_value(alloc, option, "a folder", "")?),
+        _ => Ok(()),
+    }
+}
+
+/// The server that the words name, with the folder for results, if they name one.
+fn read_server_place(alloc: Global, matches: &ArgMatches<'_>) -> Result<RecordedBuild, CommandError>
+    requires server { IsSaid (rows_of (found_of matches.now)) (codes "server") }
+    requires store { first_of (codes "store") (rows_of (found_of matches.now)) ≡ None }
+    ensures place { IfOk result (IsNamedPlace (rows_of (found_of matches.now))) }
+    ensures checked { IsCheckedBy (server_words (rows_of (found_of matches.now))) result }
+{
+    let server = read_server(alloc, matches)?;
+    match option_of(matches, "results") {
+        Some(folder) => Ok(RecordedBuild::Both(server, String::from_str(alloc, folder)?)),
+        None => Ok(RecordedBuild::Server(server)),
+    }
+}
+
 /// Where the words say that the recorded build is: a store folder or a server, and not both.
 fn read_place(alloc: Global, matches: &ArgMatches<'_>) -> Result<RecordedBuild, CommandError>
     ensures place { IfOk result (IsNamedPlace (rows_of (found_of matches.now))) }
@@ -154,9 +190,14 @@ fn read_place(alloc: Global, matches: &ArgMatches<'_>) -> Result<RecordedBuild, 
         (Some(folder), None) => {
             check_beside_store(alloc, matches, "prefix")?;
             check_beside_store(alloc, matches, "timeout")?;
+            check_beside_store(alloc, matches, "results")?;
+            check_folder(alloc, matches, "store")?;
             Ok(RecordedBuild::Folder(String::from_str(alloc, folder)?))
         }
-        (None, Some(_)) => Ok(RecordedBuild::Server(read_server(alloc, matches)?)),
+        (None, Some(_)) => {
+            check_folder(alloc, matches, "results")?;
+            read_server_place(alloc, matches)
+        }
         (Some(_), Some(_)) => Err(usage_error(alloc, "--store cannot be used with --server")?),
         (None, None) => Err(usage_error(alloc, "one of --store and --server is required")?),
     }
@@ -169,10 +210,11 @@ fn judge_folder<W: Inputs, K: FolderMark>(
     folder: String,
     case: &Case<Global>,
 ) -> Result<Answer<Global>, CommandError>
-    requires { K.folder ≡ string_bytes folder }
+    requires folder { K.folder ≡ string_bytes folder }
+    requires sees { SeesFiles (W.sees world.now) K.sees }
     ensures answered { IfOk result
-        (IsAnsweredBy (IsOfFolder W.sees K.folder) (LacksInFolder W.sees K.folder) case.now) }
-    ensures fault { IfErr result (OrMemory (λ e. ∥ FailsInFolder W.sees K.folder e ∥₁)) }
+        (IsAnsweredBy (IsOfFolder K.sees K.folder) (LacksInFolder K.sees K.folder) case.now) }
+    ensures fault { IfErr result (OrMemory (λ e. ∥ FailsInFolder K.sees K.folder e ∥₁)) }
 {
     let files = FilesOf(world);
     let mut store: FolderStore<'_, W, K> = FolderStore::new(alloc, &files, folder);
@@ -239,13 +281,65 @@ fn judge_server<W: Inputs>(
     case: &Case<Global>,
 ) -> Result<Answer<Global>, CommandError>
     ensures answered { IfOk result
-        (IsAnsweredBy (IsOfServer gets_alone W.sees server.now)
-        (LacksAtServer W.sees server.now) case.now) }
+        (IsAnsweredBy (IsOfServer gets_alone (W.sees world.now) server.now)
+        (LacksAtServer gets_alone (W.sees world.now) server.now) case.now) }
     ensures fault { IfErr result
-        (OrMemory (λ e. ∥ FailsServer gets_alone W.sees server.now e ∥₁)) }
+        (OrMemory (λ e. ∥ FailsServer gets_alone (W.sees world.now) server.now e ∥₁)) }
 {
     let remote = open(alloc, world, server)?;
     judge_over::<W::Link, Brand>(alloc, server, remote, case)
+}
+
+/// The answer by blobs over the marked connection and results of the marked folder.
+fn judge_parts<S: Stream + Drop, K: Opened, W: Inputs, F: FolderMark>(
+    alloc: Global,
+    world: &W,
+    server: &ServerOptions,
+    remote: Remote<S, Global>,
+    folder: String,
+    case: &Case<Global>,
+) -> Result<Answer<Global>, CommandError>
+    requires start { K.start ≡ connection_of S.flow remote }
+    requires fresh { IsFresh remote }
+    requires folder { F.folder ≡ string_bytes folder }
+    requires sees { SeesFiles (W.sees world.now) F.sees }
+    ensures answered { IfOk result (IsAnsweredBy (IsToldByParts K.start F.sees F.folder)
+        (LacksOfParts K.start F.sees F.folder) case.now) }
+    ensures fault { IfErr result (OrMemory (λ e.
+        ∥ FailsOfParts K.start F.sees F.folder (string_bytes server.now.address) e ∥₁)) }
+{
+    let files = FilesOf(world);
+    let results: FolderStore<'_, W, F> = FolderStore::new(alloc, &files, folder);
+    let blobs: Client<S, K, GetsBlobs> = Client::new(remote);
+    let mut source = BlobsAndResults::new(blobs, results);
+    match answer_question(alloc, case, &mut source) {
+        Ok(answer) => {
+            if source.confirms(alloc, &answer.lack) {
+                return Ok(answer);
+            }
+            Err(source.into_error(alloc, server)?)
+        }
+        Err(TextError::Fetch) => Err(source.into_error(alloc, server)?),
+        Err(_e) => Err(CommandError::Memory),
+    }
+}
+
+/// The answer by blobs of the server and results of the folder.
+fn judge_both<W: Inputs>(
+    alloc: Global,
+    world: &W,
+    server: &ServerOptions,
+    folder: String,
+    case: &Case<Global>,
+) -> Result<Answer<Global>, CommandError>
+    ensures answered { IfOk result
+        (IsAnsweredBy (IsOfBoth (W.sees world.now) server.now (string_bytes folder))
+        (LacksOfBoth (W.sees world.now) server.now (string_bytes folder)) case.now) }
+    ensures fault { IfErr result (OrMemory (λ e.
+        ∥ FailsOfBoth (W.sees world.now) server.now (string_bytes folder) e ∥₁)) }
+{
+    let remote = open(alloc, world, server)?;
+    judge_parts::<W::Link, Brand, W, Brand>(alloc, world, server, remote, folder, case)
 }
 
 /// The answer over the place where the recorded build is.
@@ -258,14 +352,15 @@ fn judge<W: Inputs>(
 ) -> Result<Answer<Global>, CommandError>
     requires { IsNamedPlace (rows_of (found_of matches.now)) build }
     ensures answered { IfOk result
-        (IsAnsweredBy (IsOfPlace W.sees (rows_of (found_of matches.now)))
-        (LacksAtPlace W.sees (rows_of (found_of matches.now))) case.now) }
+        (IsAnsweredBy (IsOfPlace (W.sees world.now) (rows_of (found_of matches.now)))
+        (LacksAtPlace (W.sees world.now) (rows_of (found_of matches.now))) case.now) }
     ensures fault { IfErr result
-        (OrMemory (λ e. ∥ FailsAtPlace W.sees (rows_of (found_of matches.now)) e ∥₁)) }
+        (OrMemory (λ e. ∥ FailsAtPlace (W.sees world.now) (rows_of (found_of matches.now)) e ∥₁)) }
 {
     match build {
         RecordedBuild::Folder(folder) => judge_folder::<W, Brand>(alloc, world, folder, case),
         RecordedBuild::Server(server) => judge_server(alloc, world, &server, case),
+        RecordedBuild::Both(server, folder) => judge_both(alloc, world, &server, folder, case),
     }
 }
 
@@ -287,12 +382,12 @@ fn print_line<O: Write>(answer: &Answer<Global>, out: &mut O) -> Result<(), Comm
     write_bytes(out, newline)
 }
 
-/// The store that the words name, for a note.
-fn named_store(alloc: Global, matches: &ArgMatches<'_>) -> Result<Option<String>, AllocError>
-    ensures { IfOk result (λ store. option_map string_bytes store
-        ≡ first_of (codes "store") (rows_of (found_of matches.now))) }
+/// The folder that the words name, as a store or for results, for a note.
+fn named_folder(alloc: Global, matches: &ArgMatches<'_>) -> Result<Option<String>, AllocError>
+    ensures { IfOk result (λ folder. option_map string_bytes folder
+        ≡ named_folder (rows_of (found_of matches.now))) }
 {
-    match option_of(matches, "store") {
+    match option_of(matches, "store").or(option_of(matches, "results")) {
         Some(folder) => Ok(Some(String::from_str(alloc, folder)?)),
         None => Ok(None),
     }
@@ -300,8 +395,8 @@ fn named_store(alloc: Global, matches: &ArgMatches<'_>) -> Result<Option<String>
 
 /// Whether the world tells that no folder is at a path.
 fn lacks_folder<W: Inputs>(alloc: Global, world: &W, path: &str) -> bool
-    ensures lacks { IsTrue result → LacksFolder W.sees path.now }
-    ensures may { IsFalse result → MayHaveFolder W.sees path.now }
+    ensures lacks { IsTrue result → LacksFolder (W.sees world.now) path.now }
+    ensures may { IsFalse result → MayHaveFolder (W.sees world.now) path.now }
 {
     match world.is_folder(alloc, path) {
         Ok(leads) => !leads,
@@ -310,16 +405,16 @@ fn lacks_folder<W: Inputs>(alloc: Global, world: &W, path: &str) -> bool
     }
 }
 
-/// What a verdict comes to. After a no the folder of the store is looked for, and a note says that
-/// it isn't there.
-fn ended_of<W: Inputs>(alloc: Global, world: &W, store: Option<String>, is_yes: bool) -> Ended
+/// What a verdict comes to. After a no the folder is looked for, and a note says that it isn't
+/// there.
+fn ended_of<W: Inputs>(alloc: Global, world: &W, folder: Option<String>, is_yes: bool) -> Ended
     ensures done { is_done result ≡ is_yes }
-    ensures noted { NotesFolder W.sees (option_map string_bytes store) result }
+    ensures noted { NotesFolder (W.sees world.now) (option_map string_bytes folder) result }
 {
     if is_yes {
         return Ended::Done;
     }
-    match store {
+    match folder {
         Some(path) if lacks_folder(alloc, world, path.as_str()) => {
             Ended::No(Some(Note::NoStore { path }))
         }
@@ -328,8 +423,8 @@ fn ended_of<W: Inputs>(alloc: Global, world: &W, store: Option<String>, is_yes: 
 }
 
 /// Prints the verdict's line, and answers done where it is yes. The words are read first, then the
-/// plan's file and its text, then the record's; then the store or the server is asked. By its bound
-/// it writes no file, and doesn't listen.
+/// plan's file and its text, then the record's; then the store, the server or both are asked. By
+/// its bound it writes no file, and doesn't listen.
 pub fn run_verify<W: Inputs, O: Write>(
     alloc: Global,
     world: &W,
@@ -337,26 +432,28 @@ pub fn run_verify<W: Inputs, O: Write>(
     out: &mut O,
 ) -> Result<Ended, CommandError>
     ensures printed { IfOk result (λ ended.
-        (prints : PrintsVerdict W.sees (rows_of (found_of matches.now)) (O.contents out.old)
+        (prints : PrintsVerdict (W.sees world.now) (rows_of (found_of matches.now))
+        (O.contents out.old)
         (O.contents out.new))
         × (IsTrue (is_done ended) ↔ IsYes prints.verdict)) }
-    ensures noted { IfOk result (NotesStore W.sees (rows_of (found_of matches.now))) }
+    ensures noted { IfOk result (NotesStore (W.sees world.now) (rows_of (found_of matches.now))) }
     // Where it is for anything but the output, nothing was printed.
     ensures unprinted { IfErr result
         (λ fault. ¬ IsPrintFault fault → O.contents out.new ≡ O.contents out.old) }
     // A refusal leaves no byte that isn't of that line, and no newline.
-    ensures begun { OnErr result (BeginsVerdict W.sees (rows_of (found_of matches.now))
+    ensures begun { OnErr result (BeginsVerdict (W.sees world.now) (rows_of (found_of matches.now))
         (O.contents out.old) (O.contents out.new)) }
     ensures unended { OnErr result (PrintsNoLine (O.contents out.old) (O.contents out.new)) }
     // It is for the first fault: what comes before it has none.
-    ensures refused { IfErr result (FailsVerify W.sees (rows_of (found_of matches.now))) }
+    ensures refused { IfErr result
+        (FailsVerify (W.sees world.now) (rows_of (found_of matches.now))) }
 {
     let build = read_place(alloc, matches)?;
-    let store = named_store(alloc, matches)?;
+    let folder = named_folder(alloc, matches)?;
     let digests = typed_digests(alloc, matches)?;
     let plan = plan_in_file(alloc, world, matches)?;
     let case = read_case(alloc, world, matches, digests, plan)?;
     let answer = judge(alloc, world, matches, build, &case)?;
     print_line(&answer, out)?;
-    Ok(ended_of(alloc, world, store, answer.is_yes))
+    Ok(ended_of(alloc, world, folder, answer.is_yes))
 }

@@ -19,8 +19,8 @@ use cache_server::{Cache, Server};
 use checkout::{CheckoutError, SystemWriter, check_out};
 use http_core::Prefix;
 use log::Log;
-use remote::{FileError, FileReader, Stream, read_file};
-use service::{ErrorTerminal, NotAccepted, serve, serve_together};
+use remote::{FileError, FileReader, Stream, SystemFiles, read_file};
+use service::{ErrorTerminal, NotAccepted, SystemListener, SystemSockets, serve, serve_together};
 use std::alloc::Global;
 use std::hash::RandomState;
 use std::net::{Net, SocketAddr, TcpListener, TcpStream};
@@ -80,7 +80,7 @@ pub trait World {
     ghost use Rattle.commands.specs.World.{Sight};
 
     /// What may be said of what it told.
-    ghost sees: { Sight };
+    ghost sees: { Self → Sight };
 }
 
 /// What a command reads: files and folders, and servers. Nothing changes outside but by what is
@@ -93,37 +93,39 @@ pub trait Inputs: World {
 
     /// The bytes of a file.
     fn read(&self, alloc: Global, path: &str) -> Result<Vec<u8>, FileError<Global>>
-        ensures read { IfOk result (λ bytes. Self.sees.reads path.now bytes.items) }
+        ensures read { IfOk result (λ bytes. (Self.sees self.now).reads path.now bytes.items) }
         ensures error { IfErr result (IsErrorOf path.now) }
-        ensures fault { IfErr result (Self.sees.fails path.now) };
+        ensures fault { IfErr result ((Self.sees self.now).fails path.now) };
 
     /// The names in a folder, in the order of their bytes.
     fn list(&self, alloc: Global, path: &str) -> Result<Vec<String>, FileError<Global>>
         ensures listed { IfOk result
-            (λ names. Self.sees.lists path.now (map string_bytes names.items)) }
+            (λ names. (Self.sees self.now).lists path.now (map string_bytes names.items)) }
         ensures ordered { IfOk result
             (λ names. IsSorted bytes_cmp (map string_bytes names.items)) }
         ensures error { IfErr result (IsErrorOf path.now) }
-        ensures fault { IfErr result (Self.sees.fails path.now) };
+        ensures fault { IfErr result ((Self.sees self.now).unlisted path.now) };
 
     /// What stands at a path. A link isn't followed.
     fn look(&self, alloc: Global, path: &str) -> Result<Found, FileError<Global>>
-        ensures stands { IfOk result (λ found. Self.sees.stands path.now (what_stands found)) }
+        ensures stands { IfOk result (λ found. (Self.sees self.now).stands path.now
+            (what_stands found)) }
         ensures error { IfErr result (IsErrorOf path.now) }
-        ensures fault { IfErr result (Self.sees.fails path.now) };
+        ensures fault { IfErr result ((Self.sees self.now).fails path.now) };
 
     /// Whether a folder stands at a path. Links are followed.
     fn is_folder(&self, alloc: Global, path: &str) -> Result<bool, FileError<Global>>
-        ensures leads { IfOk result (Self.sees.leads path.now) }
+        ensures leads { IfOk result ((Self.sees self.now).leads path.now) }
         ensures error { IfErr result (IsErrorOf path.now) }
-        ensures fault { IfErr result (Self.sees.fails path.now) };
+        ensures fault { IfErr result ((Self.sees self.now).fails path.now) };
 
     /// A connection to a server.
     fn connect(&self, alloc: Global, server: &ServerOptions) -> io::Result<Self::Link>
         ensures connected { IfOk result (λ link.
-            Self.sees.connects (string_bytes server.now.address) server.now.timeout
+            (Self.sees self.now).connects (string_bytes server.now.address) server.now.timeout
             (Self.Link.flow link)) }
-        ensures fault { IfErr result (Self.sees.refuses (string_bytes server.now.address)) };
+        ensures fault { IfErr result ((Self.sees self.now).refuses
+            (string_bytes server.now.address)) };
 }
 
 /// What a command writes: files, and trees into folders.
@@ -131,15 +133,15 @@ pub trait Outputs: World {
     /// A file or nothing stands at a path, where links are followed, and its folder takes a new
     /// file. Nothing is changed.
     fn check_writable(&self, alloc: Global, path: &str) -> Result<(), FileError<Global>>
-        ensures takes { OnOk result (Self.sees.takes path.now) }
+        ensures takes { OnOk result ((Self.sees self.now).takes path.now) }
         ensures error { IfErr result (IsErrorOf path.now) }
-        ensures fault { IfErr result (Self.sees.fails path.now) };
+        ensures fault { IfErr result ((Self.sees self.now).fails path.now) };
 
     /// Writes a file: a new one beside it, which then takes its place. A link is followed, and what
     /// is no file stays.
     fn write(&self, alloc: Global, path: &str, bytes: &[u8]) -> io::Result<()>
-        ensures wrote { OnOk result (Self.sees.wrote path.now bytes.now) }
-        ensures fault { IfErr result (Self.sees.unwritten path.now) };
+        ensures wrote { OnOk result ((Self.sees self.now).wrote path.now bytes.now) }
+        ensures fault { IfErr result ((Self.sees self.now).unwritten path.now) };
 
     /// Writes the tree with a digest, as a source tells it, into a folder that isn't there or is
     /// empty.
@@ -151,13 +153,14 @@ pub trait Outputs: World {
         source: &mut S,
     ) -> Result<(), CheckoutError<Global>>
         ensures written { OnOk result
-            (HoldsTree Self.sees.holds (S.tells source.new).blobs root.now path.now) }
+            (HoldsTree (Self.sees self.now).holds (S.tells source.new).blobs root.now path.now) }
         ensures tried { OnOk result
-            (TriesTree Self.sees.tries (S.tells source.new).blobs root.now path.now) }
+            (TriesTree (Self.sees self.now).tries (S.tells source.new).blobs root.now path.now) }
         // Once something isn't told, taken or written, nothing more is tried, and nothing behind
         // it is asked for.
         ensures refused { IfErr result
-            (FailsCheckout Self.sees.holds Self.sees.unwritten Self.sees.tries
+            (FailsCheckout (Self.sees self.now).holds (Self.sees self.now).unwritten
+            (Self.sees self.now).tries
             (AsksUpTo root.now (S.tells source.old) (S.tells source.new))
             (S.tells source.new).blobs root.now path.now) }
         ensures few { AsksEachOnce root.now (S.tells source.old) (S.tells source.new) }
@@ -174,18 +177,18 @@ pub trait Hosting: World {
 
     /// Random keys for the tables of a cache.
     fn random_keys(&self) -> io::Result<RandomState>
-        ensures given { OnOk result Self.sees.random }
-        ensures fault { IfErr result Self.sees.unrandom };
+        ensures given { OnOk result (Self.sees self.now).random }
+        ensures fault { IfErr result (Self.sees self.now).unrandom };
 
     /// Listens at an address.
     fn listen(&self, address: &str) -> io::Result<Listening>
-        ensures listens { IfOk result (λ l. Self.sees.listens address.now l.address) }
-        ensures fault { IfErr result (Self.sees.unbound address.now) };
+        ensures listens { IfOk result (λ l. (Self.sees self.now).listens address.now l.address) }
+        ensures fault { IfErr result ((Self.sees self.now).unbound address.now) };
 
     /// Serves connections.
     fn serve(&self, listening: Listening, service: Service) -> Result<(), NotAccepted>
-        ensures served { OnOk result (Self.sees.serves (serving listening service)) }
-        ensures fault { IfErr result (Self.sees.unserved (serving listening service)) };
+        ensures served { OnOk result ((Self.sees self.now).serves (serving listening service)) }
+        ensures fault { IfErr result ((Self.sees self.now).unserved (serving listening service)) };
 }
 
 /// The files and sockets of the system, as the program's handle reaches them.
@@ -195,14 +198,14 @@ pub struct System<'r, R>(pub &'r R);
 impl<R> World for System<'_, R> {
     ghost use Rattle.commands.specs.World.{sees_nothing};
 
-    ghost sees = { sees_nothing };
+    ghost sees = { λ _. sees_nothing };
 }
 
 impl<'r, R: AllocGlobal + Files + Net<Stream = TcpStream>> Inputs for System<'r, R> {
     type Link = Connection<'r, R>;
 
-    fn read(&self, _alloc: Global, path: &str) -> Result<Vec<u8>, FileError<Global>> {
-        read_file(self.0, path)
+    fn read(&self, alloc: Global, path: &str) -> Result<Vec<u8>, FileError<Global>> {
+        read_file(alloc, &SystemFiles(self.0), path)
     }
 
     fn list(&self, alloc: Global, path: &str) -> Result<Vec<String>, FileError<Global>> {
@@ -300,23 +303,21 @@ where
         let idle = limit_of(idle);
         if at_once > 1 {
             let mut server = Server::new(self.0.alloc(), cache, prefix);
+            let mut sockets = match SystemSockets::new(self.0, listening.listener) {
+                Ok(sockets) => sockets,
+                Err(fault) => return Err(NotAccepted { accepted: 0, fault }),
+            };
             return serve_together(
                 self.0,
-                listening.listener,
+                &mut sockets,
                 connections,
                 at_once,
                 idle,
                 &mut server,
             );
         }
-        serve(
-            self.0,
-            &listening.listener,
-            connections,
-            idle,
-            &mut cache,
-            &prefix,
-        )
+        let mut listener = SystemListener::new(self.0, &listening.listener, idle);
+        serve(self.0, &mut listener, connections, &mut cache, &prefix)
     }
 }
 
@@ -325,9 +326,9 @@ where
 pub(crate) struct FilesOf<'w, W>(pub &'w W);
 
 impl<W: Inputs> FileReader<Global> for FilesOf<'_, W> {
-    ghost reads = { W.sees.reads };
+    ghost reads = { λ files. (W.sees files.0.now).reads };
 
-    ghost fails = { W.sees.fails };
+    ghost fails = { λ files. (W.sees files.0.now).fails };
 
     fn read_at(&self, alloc: Global, path: &str) -> Result<Vec<u8>, FileError<Global>> {
         self.0.read(alloc, path)

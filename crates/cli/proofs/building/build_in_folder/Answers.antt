@@ -21,7 +21,7 @@ returns-in-Ok-clause-told g c =
       by = told_as g.K.Opened.start asked.plan asked.sources asked.jobs _ _
           (subst (λ r. TellsNothing (telling_of r)) (sym c.new-client.ensures.remote) (nothing_by c.args.remote c.requires.fresh))
           (∥∥₁_map c.tell_build-told.new.sink.over (λ over. (connection_of g.S.Stream.flow remote, over))) _ _
-          (run_below (g.P.Workplace.below c.args.errors) work (c.tell_build-told.ensures.below ∙ c.steps-runner.ensures.work) c.steps-runner.ensures.yields c.steps-runner.ensures.unstarted (c.end_steps.ensures.ran c.args.errors)) c.tell_build-told.result c.tell_build-told.ensures.told.came c.tell_build-told.ensures.told.order.fetched _ c.in-Ok.is;
+          (run_below (g.P.Workplace.below c.args.workplace c.args.errors) work c.steps-runner.ensures.yields c.steps-runner.ensures.unstarted (λ started h. c.steps-runner.ensures.no_more started (c.tell_build-told.ensures.no_more started (c.end_steps.ensures.ran started h)))) c.tell_build-told.result c.tell_build-told.ensures.told.came c.tell_build-told.ensures.told.order.fetched _ c.in-Ok.is;
       holds = c.in_ok-put_root-in-Ok.ensures.held;
     }
 
@@ -29,7 +29,7 @@ returns-in-Ok-clause-told g c =
 pub returns-in_err-work-clause-fault : goal.returns-in_err-work-clause-fault
 returns-in_err-work-clause-fault g c =
     let asked = c.args.asked.now in
-    exit_by (FailsTelling g.K.Opened.start (string_bytes asked.server.address) (g.P.Workplace.below c.args.errors (string_bytes asked.work)) asked.jobs asked.plan asked.sources) _
+    exit_by (FailsTelling g.K.Opened.start (string_bytes asked.server.address) (g.P.Workplace.below c.args.workplace c.args.errors (string_bytes asked.work)) asked.jobs asked.plan asked.sources) _
     c.from_residual.ensures.1 (inl refl)
 
 -- a request failed
@@ -37,14 +37,14 @@ pub returns-in_err-put_root-in-Ok-clause-fault : goal.returns-in_err-put_root-in
 returns-in_err-put_root-in-Ok-clause-fault g c =
     let asked = c.args.asked.now in
     let address = string_bytes asked.server.address in
-    let processes = g.P.Workplace.below c.args.errors (string_bytes asked.work) in
+    let processes = g.P.Workplace.below c.args.workplace c.args.errors (string_bytes asked.work) in
     let work : string_bytes c.in_ok-work.work ≡ string_bytes asked.work = search rules in
     let remote = c.tell_build-told.new.sink.remote in
     exit_by (FailsTelling g.K.Opened.start address processes asked.jobs asked.plan asked.sources) _ c.from_residual-in_err-put_root-in-Ok.ensures.1
     (server_stops g.K.Opened.start asked.plan asked.sources asked.jobs _ _
     (subst (λ r. TellsNothing (telling_of r)) (sym c.new-client.ensures.remote) (nothing_by c.args.remote c.requires.fresh))
     (∥∥₁_map c.tell_build-told.new.sink.over (λ over. (connection_of g.S.Stream.flow remote, over))) _ _
-    (run_below (g.P.Workplace.below c.args.errors) work (c.tell_build-told.ensures.below ∙ c.steps-runner.ensures.work) c.steps-runner.ensures.yields c.steps-runner.ensures.unstarted (c.end_steps.ensures.ran c.args.errors))
+    (run_below (g.P.Workplace.below c.args.workplace c.args.errors) work c.steps-runner.ensures.yields c.steps-runner.ensures.unstarted (λ started h. c.steps-runner.ensures.no_more started (c.tell_build-told.ensures.no_more started (c.end_steps.ensures.ran started h))))
     c.tell_build-told.result c.tell_build-told.ensures.told.came c.tell_build-told.ensures.told.order.fetched
     address _ _ c.in-Ok.is c.in_err-put_root-in-Ok.ensures.whole c.in_err-put_root-in-Ok.ensures.fault)
 
@@ -57,7 +57,7 @@ returns-in-Fetch-clause-fault g c =
     server_stops g.K.Opened.start asked.plan asked.sources asked.jobs _ _
     (subst (λ r. TellsNothing (telling_of r)) (sym c.new-client.ensures.remote) (nothing_by c.args.remote c.requires.fresh))
     (∥∥₁_map c.tell_build-told.new.sink.over (λ over. (connection_of g.S.Stream.flow remote, over))) _ _
-    (run_below (g.P.Workplace.below c.args.errors) work (c.tell_build-told.ensures.below ∙ c.steps-runner.ensures.work) c.steps-runner.ensures.yields c.steps-runner.ensures.unstarted (c.end_steps.ensures.ran c.args.errors))
+    (run_below (g.P.Workplace.below c.args.workplace c.args.errors) work c.steps-runner.ensures.yields c.steps-runner.ensures.unstarted (λ started h. c.steps-runner.ensures.no_more started (c.tell_build-told.ensures.no_more started (c.end_steps.ensures.ran started h))))
     c.tell_build-told.result c.tell_build-told.ensures.told.came c.tell_build-told.ensures.told.order.fetched
     (string_bytes asked.server.address) _ _ c.in-Err.is fails c.in_ok-error-in-Fetch.ensures.over
 
@@ -70,6 +70,6 @@ returns-in-Some-clause-fault g c =
     inr (inl (stops_of g.K.Opened.start asked.plan asked.sources asked.jobs _ _
     (subst (λ r. TellsNothing (telling_of r)) (sym c.new-client.ensures.remote) (nothing_by c.args.remote c.requires.fresh))
     (∥∥₁_map c.tell_build-told.new.sink.over (λ over. (connection_of g.S.Stream.flow remote, over))) _ _
-    (run_below (g.P.Workplace.below c.args.errors) work (c.tell_build-told.ensures.below ∙ c.steps-runner.ensures.work) c.steps-runner.ensures.yields c.steps-runner.ensures.unstarted (c.end_steps.ensures.ran c.args.errors))
+    (run_below (g.P.Workplace.below c.args.workplace c.args.errors) work c.steps-runner.ensures.yields c.steps-runner.ensures.unstarted (λ started h. c.steps-runner.ensures.no_more started (c.tell_build-told.ensures.no_more started (c.end_steps.ensures.ran started h))))
     c.tell_build-told.result c.tell_build-told.ensures.told.came c.tell_build-told.ensures.told.order.fetched
     c.in-Err.error c.in-Some.stopped _ c.in-Err.is c.in-Some.ensures.some c.in_ok-process_error-in-Some.ensures))

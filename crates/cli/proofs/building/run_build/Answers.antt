@@ -1,5 +1,4 @@
 use Rattle.std.proofs.Common.{◌≡◌, inr}
-use Rattle.std.specs.Prelude.{is_some}
 use Rattle.clap.specs.Words.{found_of, rows_of}
 use Rattle.commands.proofs.Exits.{exit_by}
 use Rattle.commands.proofs.Writing.{where_err}
@@ -12,17 +11,17 @@ use Rattle.cli.proofs.building.run_build.Goals as goal
 pub returns-in_err-asked-clause-refused : goal.returns-in_err-asked-clause-refused
 returns-in_err-asked-clause-refused g c =
     let options = rows_of (found_of c.args.matches.now) in
-    let errors = errors_asked (is_some c.args.terminal) options in
-    exit_by (FailsBuild g.W.World.sees (g.P.Workplace.below errors) options) _ c.from_residual.ensures.1 (c.in_err-asked.ensures.refused errors)
+    let errors = errors_asked options in
+    exit_by (FailsBuild (g.W.World.sees c.args.world.now) (g.P.Workplace.below c.args.workplace errors) options) _ c.from_residual.ensures.1 (c.in_err-asked.ensures.refused c.args.workplace errors)
 
 pub returns-in_err-write_record-clause-refused : goal.returns-in_err-write_record-clause-refused
 returns-in_err-write_record-clause-refused g c =
-    exit_by (FailsBuild g.W.World.sees (g.P.Workplace.below (errors_asked (is_some c.args.terminal) (rows_of (found_of c.args.matches.now)))) (rows_of (found_of c.args.matches.now))) _ c.from_residual-in_err-write_record.ensures.1
+    exit_by (FailsBuild (g.W.World.sees c.args.world.now) (g.P.Workplace.below c.args.workplace (errors_asked (rows_of (found_of c.args.matches.now)))) (rows_of (found_of c.args.matches.now))) _ c.from_residual-in_err-write_record.ensures.1
     (in_record c.in_ok-told.told c.in_ok-told.ensures.tells c.in_err-write_record.ensures.whole c.in_err-write_record.ensures.fault)
 
 pub returns-in_err-print_told-clause-refused : goal.returns-in_err-print_told-clause-refused
 returns-in_err-print_told-clause-refused g c =
-    exit_by (FailsBuild g.W.World.sees (g.P.Workplace.below (errors_asked (is_some c.args.terminal) (rows_of (found_of c.args.matches.now)))) (rows_of (found_of c.args.matches.now))) _ c.from_residual-in_err-print_told.ensures.1
+    exit_by (FailsBuild (g.W.World.sees c.args.world.now) (g.P.Workplace.below c.args.workplace (errors_asked (rows_of (found_of c.args.matches.now)))) (rows_of (found_of c.args.matches.now))) _ c.from_residual-in_err-print_told.ensures.1
     (in_output c.in_ok-told.told c.in_ok-told.ensures.tells c.in_ok-write_record.ensures.noted c.in_err-print_told.ensures.fault)
 
 pub returns-in_err-print_told-clause-begun : goal.returns-in_err-print_told-clause-begun

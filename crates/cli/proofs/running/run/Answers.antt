@@ -1,5 +1,4 @@
 use Rattle.std.proofs.Common.{◌≡◌, rules, map, string_bytes, codes}
-use Rattle.std.specs.Prelude.{is_some}
 use Rattle.commands.specs.Refusal.{IsPrintFault}
 use Rattle.commands.specs.ServeRefused.{IsAcceptFault}
 use Rattle.clap.specs.Words.{subcommand_of, subcommand_rows_of}
@@ -20,7 +19,7 @@ returns-in-Err-clause-ended g c = shown c.in_ok-show-in-Err.ensures.shown
 
 pub returns-in_err-show-in-Err-clause-refused : goal.returns-in_err-show-in-Err-clause-refused
 returns-in_err-show-in-Err-clause-refused g c =
-    exit_by (Fails g.W.World.sees (g.P.Workplace.below (errors_asked (is_some c.args.terminal) (options_of (map string_bytes c.args.words.now)))) (map string_bytes c.args.words.now)) _ c.from_residual.ensures.1 (in_words c.in_err-show-in-Err.ensures.fault)
+    exit_by (Fails (g.W.World.sees c.args.world.now) (g.P.Workplace.below c.args.workplace (errors_asked (options_of (map string_bytes c.args.words.now)))) (map string_bytes c.args.words.now)) _ c.from_residual.ensures.1 (in_words c.in_err-show-in-Err.ensures.fault)
 
 pub returns-in_err-show-in-Err-clause-begun : goal.returns-in_err-show-in-Err-clause-begun
 returns-in_err-show-in-Err-clause-begun g c = where_err c.from_residual.result (show_begun c.in_err-show-in-Err.ensures.begun)
@@ -35,53 +34,53 @@ pub returns-in_ok-run_verify-in-verify-clause-ended : goal.returns-in_ok-run_ver
 returns-in_ok-run_verify-in-verify-clause-ended g c =
     let words = map string_bytes c.args.words.now in
     let call = called_by words (codes "verify") (subcommand_rows_of c.in-Ok.matches) _ c.in-Ok.ensures.fails c.in-Ok.ensures.called (search rules) c.in-Some.ensures.rows in
-    verify_ends (g.P.Workplace.below (errors_asked (is_some c.args.terminal) (options_of words))) words call.1 _ call.0 c.in_ok-run_verify-in-verify.ensures.printed c.in_ok-run_verify-in-verify.ensures.noted
+    verify_ends (g.P.Workplace.below c.args.workplace (errors_asked (options_of words))) words call.1 _ call.0 c.in_ok-run_verify-in-verify.ensures.printed c.in_ok-run_verify-in-verify.ensures.noted
 
 pub returns-in_ok-run_get-in-get-clause-ended : goal.returns-in_ok-run_get-in-get-clause-ended
 returns-in_ok-run_get-in-get-clause-ended g c =
     let words = map string_bytes c.args.words.now in
     let call = called_by words (codes "get") (subcommand_rows_of c.in-Ok.matches) _ c.in-Ok.ensures.fails c.in-Ok.ensures.called (search rules) c.in-Some.ensures.rows in
-    get_ends (g.P.Workplace.below (errors_asked (is_some c.args.terminal) (options_of words))) words call.1 _ call.0 c.in_ok-run_get-in-get.ensures.answered
+    get_ends (g.P.Workplace.below c.args.workplace (errors_asked (options_of words))) words call.1 _ call.0 c.in_ok-run_get-in-get.ensures.answered
 
 pub returns-in_ok-run_build-in-build-clause-ended : goal.returns-in_ok-run_build-in-build-clause-ended
 returns-in_ok-run_build-in-build-clause-ended g c =
     let words = map string_bytes c.args.words.now in
     let call = called_by words (codes "build") (subcommand_rows_of c.in-Ok.matches) _ c.in-Ok.ensures.fails c.in-Ok.ensures.called (search rules) c.in-Some.ensures.rows in
-    build_ends (λ o. g.P.Workplace.below (errors_asked (is_some c.args.terminal) o)) words call.1 _ call.0 c.in_ok-run_build-in-build.ensures.printed
+    build_ends (λ o. g.P.Workplace.below c.args.workplace (errors_asked o)) words call.1 _ call.0 c.in_ok-run_build-in-build.ensures.printed
 
 pub returns-in_err-run_verify-in-verify-clause-refused : goal.returns-in_err-run_verify-in-verify-clause-refused
 returns-in_err-run_verify-in-verify-clause-refused g c =
     let words = map string_bytes c.args.words.now in
     let call = called_by words (codes "verify") (subcommand_rows_of c.in-Ok.matches) _ c.in-Ok.ensures.fails c.in-Ok.ensures.called (search rules) c.in-Some.ensures.rows in
-    exit_by (Fails g.W.World.sees (g.P.Workplace.below (errors_asked (is_some c.args.terminal) (options_of (map string_bytes c.args.words.now)))) words) _ c.from_residual-in_err-run_verify-in-verify.ensures.1
+    exit_by (Fails (g.W.World.sees c.args.world.now) (g.P.Workplace.below c.args.workplace (errors_asked (options_of (map string_bytes c.args.words.now)))) words) _ c.from_residual-in_err-run_verify-in-verify.ensures.1
     (verify_fails words call.1 _ call.0 c.in_err-run_verify-in-verify.ensures.refused)
 
 pub returns-in_err-run_build-in-build-clause-refused : goal.returns-in_err-run_build-in-build-clause-refused
 returns-in_err-run_build-in-build-clause-refused g c =
     let words = map string_bytes c.args.words.now in
     let call = called_by words (codes "build") (subcommand_rows_of c.in-Ok.matches) _ c.in-Ok.ensures.fails c.in-Ok.ensures.called (search rules) c.in-Some.ensures.rows in
-    exit_by (Fails g.W.World.sees (g.P.Workplace.below (errors_asked (is_some c.args.terminal) (options_of (map string_bytes c.args.words.now)))) words) _ c.from_residual-in_err-run_build-in-build.ensures.1
-    (build_fails (λ o. g.P.Workplace.below (errors_asked (is_some c.args.terminal) o)) words call.1 _ call.0 c.in_err-run_build-in-build.ensures.refused)
+    exit_by (Fails (g.W.World.sees c.args.world.now) (g.P.Workplace.below c.args.workplace (errors_asked (options_of (map string_bytes c.args.words.now)))) words) _ c.from_residual-in_err-run_build-in-build.ensures.1
+    (build_fails (λ o. g.P.Workplace.below c.args.workplace (errors_asked o)) words call.1 _ call.0 c.in_err-run_build-in-build.ensures.refused)
 
 pub returns-in_err-run_put-in-put-clause-refused : goal.returns-in_err-run_put-in-put-clause-refused
 returns-in_err-run_put-in-put-clause-refused g c =
     let words = map string_bytes c.args.words.now in
     let call = called_by words (codes "put") (subcommand_rows_of c.in-Ok.matches) _ c.in-Ok.ensures.fails c.in-Ok.ensures.called (search rules) c.in-Some.ensures.rows in
-    exit_by (Fails g.W.World.sees (g.P.Workplace.below (errors_asked (is_some c.args.terminal) (options_of (map string_bytes c.args.words.now)))) words) _ c.from_residual-in_err-run_put-in-put.ensures.1
+    exit_by (Fails (g.W.World.sees c.args.world.now) (g.P.Workplace.below c.args.workplace (errors_asked (options_of (map string_bytes c.args.words.now)))) words) _ c.from_residual-in_err-run_put-in-put.ensures.1
     (put_fails words call.1 _ call.0 c.in_err-run_put-in-put.ensures.refused)
 
 pub returns-in_err-run_get-in-get-clause-refused : goal.returns-in_err-run_get-in-get-clause-refused
 returns-in_err-run_get-in-get-clause-refused g c =
     let words = map string_bytes c.args.words.now in
     let call = called_by words (codes "get") (subcommand_rows_of c.in-Ok.matches) _ c.in-Ok.ensures.fails c.in-Ok.ensures.called (search rules) c.in-Some.ensures.rows in
-    exit_by (Fails g.W.World.sees (g.P.Workplace.below (errors_asked (is_some c.args.terminal) (options_of (map string_bytes c.args.words.now)))) words) _ c.from_residual-in_err-run_get-in-get.ensures.1
+    exit_by (Fails (g.W.World.sees c.args.world.now) (g.P.Workplace.below c.args.workplace (errors_asked (options_of (map string_bytes c.args.words.now)))) words) _ c.from_residual-in_err-run_get-in-get.ensures.1
     (get_fails words call.1 _ call.0 c.in_err-run_get-in-get.ensures.refused)
 
 pub returns-in_err-run_serve-in-serve-clause-refused : goal.returns-in_err-run_serve-in-serve-clause-refused
 returns-in_err-run_serve-in-serve-clause-refused g c =
     let words = map string_bytes c.args.words.now in
     let call = called_by words (codes "serve") (subcommand_rows_of c.in-Ok.matches) _ c.in-Ok.ensures.fails c.in-Ok.ensures.called (search rules) c.in-Some.ensures.rows in
-    exit_by (Fails g.W.World.sees (g.P.Workplace.below (errors_asked (is_some c.args.terminal) (options_of (map string_bytes c.args.words.now)))) words) _ c.from_residual-in_err-run_serve-in-serve.ensures.1
+    exit_by (Fails (g.W.World.sees c.args.world.now) (g.P.Workplace.below c.args.workplace (errors_asked (options_of (map string_bytes c.args.words.now)))) words) _ c.from_residual-in_err-run_serve-in-serve.ensures.1
     (serve_fails words call.1 _ call.0 c.in_err-run_serve-in-serve.ensures.refused)
 
 pub returns-in_err-run_get-in-get-clause-unprinted : goal.returns-in_err-run_get-in-get-clause-unprinted
@@ -137,4 +136,4 @@ pub returns-in_err-run_build-in-build-clause-begun : goal.returns-in_err-run_bui
 returns-in_err-run_build-in-build-clause-begun g c =
     let words = map string_bytes c.args.words.now in
     let call = called_by words (codes "build") (subcommand_rows_of c.in-Ok.matches) _ c.in-Ok.ensures.fails c.in-Ok.ensures.called (search rules) c.in-Some.ensures.rows in
-    where_err c.from_residual-in_err-run_build-in-build.result (build_begins (λ o. g.P.Workplace.below (errors_asked (is_some c.args.terminal) o)) words call.1 call.0 c.in_err-run_build-in-build.ensures.begun)
+    where_err c.from_residual-in_err-run_build-in-build.result (build_begins (λ o. g.P.Workplace.below c.args.workplace (errors_asked o)) words call.1 call.0 c.in_err-run_build-in-build.ensures.begun)

@@ -1,5 +1,4 @@
 use Rattle.std.proofs.Common.{◌∙◌, ◌<◌, ◌≤◌, arith, map, string_bytes, subst, sym}
-use Rattle.std.specs.Prelude.{is_some}
 use Rattle.command_lines.specs.CommandLine.{options_of}
 use Rattle.cli.specs.Built.{errors_asked}
 use Rattle.commands.proofs.Silent.{words_serve_nothing}
@@ -36,12 +35,12 @@ returns-in-Ok-clause-status g c =
 
 pub returns-in-Ok-clause-done : goal.returns-in-Ok-clause-done
 returns-in-Ok-clause-done g c =
-    ends_done c.tell_ended.result (g.E.Write.contents c.args.err.now) (g.E.Write.contents c.tell_ended.new.err) g.W.World.sees (g.P.Workplace.below (errors_asked (is_some c.args.terminal) (options_of (map string_bytes c.args.words.now)))) (map string_bytes c.args.words.now)
+    ends_done c.tell_ended.result (g.E.Write.contents c.args.err.now) (g.E.Write.contents c.tell_ended.new.err) (g.W.World.sees c.args.world.now) (g.P.Workplace.below c.args.workplace (errors_asked (options_of (map string_bytes c.args.words.now)))) (map string_bytes c.args.words.now)
     (g.O.Write.contents c.args.out.now) (g.O.Write.contents c.run.new.out) c.in-Ok.ended c.in-Ok.ensures.ended c.tell_ended.ensures
 
 pub returns-in-Ok-clause-no : goal.returns-in-Ok-clause-no
 returns-in-Ok-clause-no g c =
-    ends_no c.tell_ended.result (g.E.Write.contents c.args.err.now) (g.E.Write.contents c.tell_ended.new.err) g.W.World.sees (g.P.Workplace.below (errors_asked (is_some c.args.terminal) (options_of (map string_bytes c.args.words.now)))) (map string_bytes c.args.words.now)
+    ends_no c.tell_ended.result (g.E.Write.contents c.args.err.now) (g.E.Write.contents c.tell_ended.new.err) (g.W.World.sees c.args.world.now) (g.P.Workplace.below c.args.workplace (errors_asked (options_of (map string_bytes c.args.words.now)))) (map string_bytes c.args.words.now)
     (g.O.Write.contents c.args.out.now) (g.O.Write.contents c.run.new.out) c.in-Ok.ended c.in-Ok.ensures.ended c.tell_ended.ensures
 
 pub returns-in-Ok-clause-quiet : goal.returns-in-Ok-clause-quiet

@@ -14,7 +14,7 @@ use Rattle.commands.proofs.getting.run_get.Goals as goal
 
 pub returns-in_err-remote-clause-refused : goal.returns-in_err-remote-clause-refused
 returns-in_err-remote-clause-refused g c =
-    let sees = g.W.World.sees in
+    let sees = g.W.World.sees c.args.world.now in
     let rows = rows_of (found_of c.args.matches.now) in
     exit_by (FailsGet sees rows) _ c.from_residual-in_err-remote.ensures.1
     (or_memory (FailsToConnect sees (option_text rows (codes "server"))) (FailsGet sees rows) _ in_memory
@@ -24,7 +24,7 @@ returns-in_err-remote-clause-refused g c =
 pub returns : goal.returns
 returns g c =
     let rows = rows_of (found_of c.args.matches.now) in
-    let ends = by_options g.W.World.sees rows (connection_of g.W.Link.Stream.flow c.in_ok-remote.remote) c.in_ok-digest.digest c.in_ok-server.server c.in_ok-server.ensures.server
+    let ends = by_options (g.W.World.sees c.args.world.now) rows (connection_of g.W.Link.Stream.flow c.in_ok-remote.remote) c.in_ok-digest.digest c.in_ok-server.server c.in_ok-server.ensures.server
     c.in_ok-server.ensures.checked c.in_ok-digest.ensures.found c.in_ok-remote.ensures.opened (option_map (λ s. s.now) c.option_of-folder.result) (sym c.option_of-folder.ensures)
     (g.O.Write.contents c.args.out.now) (g.O.Write.contents c.get_over.new.out)
     c.get_over.result (record { got = c.get_over.ensures.got; begun = c.get_over.ensures.begun; fails = c.get_over.ensures.fault }) in

@@ -13,7 +13,7 @@ use Rattle.commands.proofs.putting.put_over.Goals as goal
 
 pub returns-in_err-is_folder-clause-refused : goal.returns-in_err-is_folder-clause-refused
 returns-in_err-is_folder-clause-refused g c =
-    let sees = g.W.World.sees in
+    let sees = g.W.World.sees c.args.world.now in
     let start = g.K.Opened.start in
     let address = string_bytes c.args.server.now.address in
     exit_by (OrMemory (λ e. FailsBelow sees address e 64 (string_bytes c.args.place) start)) _ c.from_residual.ensures.1
@@ -21,7 +21,7 @@ returns-in_err-is_folder-clause-refused g c =
 
 pub returns-then-branch-clause-refused : goal.returns-then-branch-clause-refused
 returns-then-branch-clause-refused g c =
-    let sees = g.W.World.sees in
+    let sees = g.W.World.sees c.args.world.now in
     let address = string_bytes c.args.server.now.address in
     let opened : connection c.new-client.result ≡ g.K.Opened.start = search rules in
     subst (λ now. IfErr c.upload_folder.result (OrMemory (λ e. FailsBelow sees address e 64 (string_bytes c.args.place) now))) opened
@@ -29,7 +29,7 @@ returns-then-branch-clause-refused g c =
 
 pub returns-clause-refused : goal.returns-clause-refused
 returns-clause-refused g c =
-    let sees = g.W.World.sees in
+    let sees = g.W.World.sees c.args.world.now in
     let start = g.K.Opened.start in
     let address = string_bytes c.args.server.now.address in
     let place = c.as_str-place.result.now in
@@ -40,7 +40,7 @@ returns-clause-refused g c =
 
 pub returns-then-branch-clause-put : goal.returns-then-branch-clause-put
 returns-then-branch-clause-put g c =
-    let sees = g.W.World.sees in
+    let sees = g.W.World.sees c.args.world.now in
     let new = connection c.upload_folder.new.client in
     let leads : sees.leads c.as_str-place.result.now true = search rules in
     let opened : connection c.new-client.result ≡ g.K.Opened.start = search rules in
@@ -56,7 +56,7 @@ returns-then-branch-clause-put g c =
 
 pub returns-clause-put : goal.returns-clause-put
 returns-clause-put g c =
-    let sees = g.W.World.sees in
+    let sees = g.W.World.sees c.args.world.now in
     let new = connection c.upload_file.new.client in
     let leads : sees.leads c.as_str-place.result.now false = search rules in
     let opened : connection c.new-client.result ≡ g.K.Opened.start = search rules in

@@ -17,18 +17,18 @@ use Rattle.commands.proofs.putting.run_put.Goals as goal
 
 pub returns-in_err-server-clause-refused : goal.returns-in_err-server-clause-refused
 returns-in_err-server-clause-refused g c =
-    let sees = g.W.World.sees in
+    let sees = g.W.World.sees c.args.world.now in
     let options = rows_of (found_of c.args.matches.now) in
     exit_by (FailsPut sees options) _ c.from_residual.ensures.1
     (or_memory (FailsFirst (server_words options)) (FailsPut sees options) _ in_memory in_words c.in_err-server.ensures.checked)
 
 pub returns-in_err-place-clause-refused : goal.returns-in_err-place-clause-refused
 returns-in_err-place-clause-refused g c =
-    exit_by (FailsPut g.W.World.sees (rows_of (found_of c.args.matches.now))) _ c.from_residual-in_err-place.ensures.1 (in_memory refl)
+    exit_by (FailsPut (g.W.World.sees c.args.world.now) (rows_of (found_of c.args.matches.now))) _ c.from_residual-in_err-place.ensures.1 (in_memory refl)
 
 pub returns-in_err-remote-clause-refused : goal.returns-in_err-remote-clause-refused
 returns-in_err-remote-clause-refused g c =
-    let sees = g.W.World.sees in
+    let sees = g.W.World.sees c.args.world.now in
     let options = rows_of (found_of c.args.matches.now) in
     exit_by (FailsPut sees options) _ c.from_residual-in_err-remote.ensures.1
     (or_memory (FailsToConnect sees (option_text options (codes "server"))) (FailsPut sees options) _ in_memory (in_connection c.in_ok-server.ensures.checked)
@@ -36,11 +36,11 @@ returns-in_err-remote-clause-refused g c =
 
 pub returns-in_err-progress-clause-refused : goal.returns-in_err-progress-clause-refused
 returns-in_err-progress-clause-refused g c =
-    exit_by (FailsPut g.W.World.sees (rows_of (found_of c.args.matches.now))) _ c.from_residual-in_err-progress.ensures.1 (in_memory refl)
+    exit_by (FailsPut (g.W.World.sees c.args.world.now) (rows_of (found_of c.args.matches.now))) _ c.from_residual-in_err-progress.ensures.1 (in_memory refl)
 
 pub returns-in_err-digest-clause-refused : goal.returns-in_err-digest-clause-refused
 returns-in_err-digest-clause-refused g c =
-    let sees = g.W.World.sees in
+    let sees = g.W.World.sees c.args.world.now in
     let options = rows_of (found_of c.args.matches.now) in
     let start = connection_of g.W.Link.Stream.flow c.in_ok-remote.remote in
     exit_by (FailsPut sees options) _ c.from_residual-in_err-digest.ensures.1
@@ -51,7 +51,7 @@ returns-in_err-digest-clause-refused g c =
 
 pub returns-in_err-print_digest-clause-refused : goal.returns-in_err-print_digest-clause-refused
 returns-in_err-print_digest-clause-refused g c =
-    let sees = g.W.World.sees in
+    let sees = g.W.World.sees c.args.world.now in
     let options = rows_of (found_of c.args.matches.now) in
     let start = connection_of g.W.Link.Stream.flow c.in_ok-remote.remote in
     exit_by (FailsPut sees options) _ c.from_residual-in_err-print_digest.ensures.1
@@ -62,7 +62,7 @@ returns-in_err-print_digest-clause-refused g c =
 
 pub returns-in_err-print_digest-clause-begun : goal.returns-in_err-print_digest-clause-begun
 returns-in_err-print_digest-clause-begun g c =
-    let sees = g.W.World.sees in
+    let sees = g.W.World.sees c.args.world.now in
     let options = rows_of (found_of c.args.matches.now) in
     let start = connection_of g.W.Link.Stream.flow c.in_ok-remote.remote in
     where_err c.from_residual-in_err-print_digest.result (or_else c.in_err-print_digest.ensures.begun (λ begun. (
@@ -80,7 +80,7 @@ returns-in_err-print_digest-clause-unprinted g c =
 
 pub returns-clause-printed : goal.returns-clause-printed
 returns-clause-printed g c =
-    let sees = g.W.World.sees in
+    let sees = g.W.World.sees c.args.world.now in
     let start = connection_of g.W.Link.Stream.flow c.in_ok-remote.remote in
     record {
       start = start;

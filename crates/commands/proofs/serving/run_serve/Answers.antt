@@ -13,27 +13,27 @@ use Rattle.commands.proofs.serving.run_serve.Goals as goal
 
 pub returns-in_err-request-clause-refused : goal.returns-in_err-request-clause-refused
 returns-in_err-request-clause-refused g c =
-    let sees = g.W.World.sees in
+    let sees = g.W.World.sees c.args.world.now in
     let options = rows_of (found_of c.args.matches.now) in
     exit_by (FailsServe sees options) _ c.from_residual.ensures.1
     (or_memory (FailsFirst (serve_words options)) (FailsServe sees options) _ in_memory in_words c.in_err-request.ensures.checked)
 
 pub returns-in_err-keys-clause-refused : goal.returns-in_err-keys-clause-refused
 returns-in_err-keys-clause-refused g c =
-    exit_by (FailsServe g.W.World.sees (rows_of (found_of c.args.matches.now))) _ c.from_residual-in_err-keys.ensures.1 (in_random c.in_ok-request.ensures.checked c.in_err-keys.ensures.fault)
+    exit_by (FailsServe (g.W.World.sees c.args.world.now) (rows_of (found_of c.args.matches.now))) _ c.from_residual-in_err-keys.ensures.1 (in_random c.in_ok-request.ensures.checked c.in_err-keys.ensures.fault)
 
 pub returns-in_err-keys-clause-told : goal.returns-in_err-keys-clause-told
 returns-in_err-keys-clause-told g c =
-    exit_by (λ e. IsAcceptFault e → PrintsListening g.W.World.sees (rows_of (found_of c.args.matches.now)) (g.O.Write.contents c.args.out.now) (g.O.Write.contents c.args.out.now)) _ c.from_residual-in_err-keys.ensures.1
-    (λ accept. absurd (random_not_accept g.W.World.sees _ c.in_err-keys.ensures.fault accept))
+    exit_by (λ e. IsAcceptFault e → PrintsListening (g.W.World.sees c.args.world.now) (rows_of (found_of c.args.matches.now)) (g.O.Write.contents c.args.out.now) (g.O.Write.contents c.args.out.now)) _ c.from_residual-in_err-keys.ensures.1
+    (λ accept. absurd (random_not_accept (g.W.World.sees c.args.world.now) _ c.in_err-keys.ensures.fault accept))
 
 pub returns-in_err-cache-clause-refused : goal.returns-in_err-cache-clause-refused
 returns-in_err-cache-clause-refused g c =
-    exit_by (FailsServe g.W.World.sees (rows_of (found_of c.args.matches.now))) _ c.from_residual-in_err-cache.ensures.1 (in_memory refl)
+    exit_by (FailsServe (g.W.World.sees c.args.world.now) (rows_of (found_of c.args.matches.now))) _ c.from_residual-in_err-cache.ensures.1 (in_memory refl)
 
 pub returns-in_err-listening-clause-refused : goal.returns-in_err-listening-clause-refused
 returns-in_err-listening-clause-refused g c =
-    let sees = g.W.World.sees in
+    let sees = g.W.World.sees c.args.world.now in
     let options = rows_of (found_of c.args.matches.now) in
     exit_by (FailsServe sees options) _ c.from_residual-in_err-listening.ensures.1
     (or_memory (FailsToListen sees (option_text options (codes "listen"))) (FailsServe sees options) _ in_memory
@@ -42,7 +42,7 @@ returns-in_err-listening-clause-refused g c =
 
 pub returns-in_err-print_address-clause-refused : goal.returns-in_err-print_address-clause-refused
 returns-in_err-print_address-clause-refused g c =
-    let sees = g.W.World.sees in
+    let sees = g.W.World.sees c.args.world.now in
     let options = rows_of (found_of c.args.matches.now) in
     let address = c.in_ok-listening.listening.address in
     exit_by (FailsServe sees options) _ c.from_residual-in_err-print_address.ensures.1
@@ -62,7 +62,7 @@ pub returns-in-Err-clause-refused : goal.returns-in-Err-clause-refused
 returns-in-Err-clause-refused g c =
     let address = c.in_ok-listening.listening.address in
     in_connections address c.in-Err.fault
-    (starts_serve g.W.World.sees (rows_of (found_of c.args.matches.now)) c.in_ok-request.request address c.in_ok-request.ensures.request c.in_ok-request.ensures.checked c.in_ok-listening.ensures.listens)
+    (starts_serve (g.W.World.sees c.args.world.now) (rows_of (found_of c.args.matches.now)) c.in_ok-request.request address c.in_ok-request.ensures.request c.in_ok-request.ensures.checked c.in_ok-listening.ensures.listens)
     (search rules) refl
 
 pub returns-in_err-print_address-clause-begun : goal.returns-in_err-print_address-clause-begun
@@ -70,7 +70,7 @@ returns-in_err-print_address-clause-begun g c =
     let address = c.in_ok-listening.listening.address in
     where_err c.from_residual-in_err-print_address.result (or_else c.in_err-print_address.ensures.begun (λ begun. (
       address,
-      starts_serve g.W.World.sees (rows_of (found_of c.args.matches.now)) c.in_ok-request.request address c.in_ok-request.ensures.request c.in_ok-request.ensures.checked c.in_ok-listening.ensures.listens,
+      starts_serve (g.W.World.sees c.args.world.now) (rows_of (found_of c.args.matches.now)) c.in_ok-request.request address c.in_ok-request.ensures.request c.in_ok-request.ensures.checked c.in_ok-listening.ensures.listens,
       begun,
     )))
 
@@ -79,7 +79,7 @@ returns-in-Ok-clause-served g c =
     let address = c.in_ok-listening.listening.address in
     record {
       address = address;
-      starts = starts_serve g.W.World.sees (rows_of (found_of c.args.matches.now)) c.in_ok-request.request address c.in_ok-request.ensures.request c.in_ok-request.ensures.checked c.in_ok-listening.ensures.listens;
+      starts = starts_serve (g.W.World.sees c.args.world.now) (rows_of (found_of c.args.matches.now)) c.in_ok-request.request address c.in_ok-request.ensures.request c.in_ok-request.ensures.checked c.in_ok-listening.ensures.listens;
       printed = c.in_ok-print_address.ensures.printed;
       served = search rules;
     }
@@ -90,23 +90,23 @@ returns-in-Err-clause-begun g c =
     let address = c.in_ok-listening.listening.address in
     inr (
       address,
-      starts_serve g.W.World.sees (rows_of (found_of c.args.matches.now)) c.in_ok-request.request address c.in_ok-request.ensures.request c.in_ok-request.ensures.checked c.in_ok-listening.ensures.listens,
+      starts_serve (g.W.World.sees c.args.world.now) (rows_of (found_of c.args.matches.now)) c.in_ok-request.request address c.in_ok-request.ensures.request c.in_ok-request.ensures.checked c.in_ok-listening.ensures.listens,
       beginning_of_all (g.O.Write.contents c.args.out.now) (g.O.Write.contents c.print_address.new.out) (listening_line address) c.in_ok-print_address.ensures.printed,
     )
 
 pub returns-in_err-request-clause-told : goal.returns-in_err-request-clause-told
 returns-in_err-request-clause-told g c =
-    exit_by (λ e. IsAcceptFault e → PrintsListening g.W.World.sees (rows_of (found_of c.args.matches.now)) (g.O.Write.contents c.args.out.now) (g.O.Write.contents c.args.out.now)) _ c.from_residual.ensures.1
+    exit_by (λ e. IsAcceptFault e → PrintsListening (g.W.World.sees c.args.world.now) (rows_of (found_of c.args.matches.now)) (g.O.Write.contents c.args.out.now) (g.O.Write.contents c.args.out.now)) _ c.from_residual.ensures.1
     (λ accept. absurd (words_not_accept (rows_of (found_of c.args.matches.now)) _ c.in_err-request.ensures.checked accept))
 
 pub returns-in_err-listening-clause-told : goal.returns-in_err-listening-clause-told
 returns-in_err-listening-clause-told g c =
-    exit_by (λ e. IsAcceptFault e → PrintsListening g.W.World.sees (rows_of (found_of c.args.matches.now)) (g.O.Write.contents c.args.out.now) (g.O.Write.contents c.args.out.now)) _ c.from_residual-in_err-listening.ensures.1
-    (λ accept. absurd (listen_not_accept g.W.World.sees _ _ c.in_err-listening.ensures.fault accept))
+    exit_by (λ e. IsAcceptFault e → PrintsListening (g.W.World.sees c.args.world.now) (rows_of (found_of c.args.matches.now)) (g.O.Write.contents c.args.out.now) (g.O.Write.contents c.args.out.now)) _ c.from_residual-in_err-listening.ensures.1
+    (λ accept. absurd (listen_not_accept (g.W.World.sees c.args.world.now) _ _ c.in_err-listening.ensures.fault accept))
 
 pub returns-in_err-print_address-clause-told : goal.returns-in_err-print_address-clause-told
 returns-in_err-print_address-clause-told g c =
-    exit_by (λ e. IsAcceptFault e → PrintsListening g.W.World.sees (rows_of (found_of c.args.matches.now)) (g.O.Write.contents c.args.out.now) (g.O.Write.contents c.print_address.new.out)) _ c.from_residual-in_err-print_address.ensures.1
+    exit_by (λ e. IsAcceptFault e → PrintsListening (g.W.World.sees c.args.world.now) (rows_of (found_of c.args.matches.now)) (g.O.Write.contents c.args.out.now) (g.O.Write.contents c.print_address.new.out)) _ c.from_residual-in_err-print_address.ensures.1
     (λ accept. absurd (print_not_accept _ c.in_err-print_address.ensures.fault accept))
 
 pub returns-in-Err-clause-told : goal.returns-in-Err-clause-told
@@ -114,6 +114,6 @@ returns-in-Err-clause-told g c =
     let address = c.in_ok-listening.listening.address in
     λ accept. (
       address,
-      starts_serve g.W.World.sees (rows_of (found_of c.args.matches.now)) c.in_ok-request.request address c.in_ok-request.ensures.request c.in_ok-request.ensures.checked c.in_ok-listening.ensures.listens,
+      starts_serve (g.W.World.sees c.args.world.now) (rows_of (found_of c.args.matches.now)) c.in_ok-request.request address c.in_ok-request.ensures.request c.in_ok-request.ensures.checked c.in_ok-listening.ensures.listens,
       c.in_ok-print_address.ensures.printed,
     )

@@ -53,7 +53,7 @@ returns-in_err-print_lack-in-Err-clause-begun g c =
 
 pub returns-in_err-print_lack-in-Err-clause-fault : goal.returns-in_err-print_lack-in-Err-clause-fault
 returns-in_err-print_lack-in-Err-clause-fault g c =
-    let sees = g.W.World.sees in
+    let sees = g.W.World.sees c.args.world.now in
     let source = c.check_out.new.source in
     let start = g.K.Opened.start in
     let address = string_bytes c.args.server.now.address in

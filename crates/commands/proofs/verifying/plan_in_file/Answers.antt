@@ -11,14 +11,14 @@ use Rattle.commands.proofs.verifying.plan_in_file.Goals as goal
 
 pub returns-in_err-bytes-clause-fault : goal.returns-in_err-bytes-clause-fault
 returns-in_err-bytes-clause-fault g c =
-    let sees = g.W.World.sees in
+    let sees = g.W.World.sees c.args.world.now in
     let options = rows_of (found_of c.args.matches.now) in
     exit_by (FailsPlan sees options) _ c.from_residual.ensures.1
     (unread_fails sees c.text_of-path.result.now (option_text options (codes "plan")) IsPlanFault c.text_of-path.ensures _ c.in_err-bytes.ensures.fault)
 
 pub returns-in-Err-Plan-clause-fault : goal.returns-in-Err-Plan-clause-fault
 returns-in-Err-Plan-clause-fault g c =
-    let sees = g.W.World.sees in
+    let sees = g.W.World.sees c.args.world.now in
     let path = c.text_of-path.result.now in
     let text = c.as_slice-text.result.now in
     text_fails sees path (option_text (rows_of (found_of c.args.matches.now)) (codes "plan")) IsPlanFault c.text_of-path.ensures text c.in-Err-Plan.fault _

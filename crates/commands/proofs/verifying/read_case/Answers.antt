@@ -11,14 +11,14 @@ use Rattle.commands.proofs.verifying.read_case.Goals as goal
 
 pub returns-in_err-bytes-clause-fault : goal.returns-in_err-bytes-clause-fault
 returns-in_err-bytes-clause-fault g c =
-    let sees = g.W.World.sees in
+    let sees = g.W.World.sees c.args.world.now in
     let options = rows_of (found_of c.args.matches.now) in
     exit_by (FailsRecord sees options c.args.plan) _ c.from_residual.ensures.1
     (unread_fails sees c.text_of-path.result.now (option_text options (codes "record")) (IsRecordFault (names_of c.args.plan)) c.text_of-path.ensures _ c.in_err-bytes.ensures.fault)
 
 pub returns-in-Err-Record-clause-fault : goal.returns-in-Err-Record-clause-fault
 returns-in-Err-Record-clause-fault g c =
-    let sees = g.W.World.sees in
+    let sees = g.W.World.sees c.args.world.now in
     let path = c.text_of-path.result.now in
     let text = c.as_slice-text.result.now in
     let names = names_of c.args.plan in

@@ -5,10 +5,10 @@ use Rattle.commands.proofs.folder_store.FolderStore.lacks.Goals as goal
 
 pub returns-in-Blob : goal.returns-in-Blob
 returns-in-Blob g c lacking =
-    subst (λ l. ∥ LacksInFolder g.W.World.sees g.K.FolderMark.folder l ∥₁) (sym c.in-Blob.is)
+    subst (λ l. ∥ LacksInFolder g.K.FolderMark.sees g.K.FolderMark.folder l ∥₁) (sym c.in-Blob.is)
     (∥∥₁_map c.args.self.now.told (λ is. is.lacked.blobs c.in-Blob.digest (c.lacks_blob.ensures.0 lacking)))
 
 pub returns-in-ActionResult : goal.returns-in-ActionResult
 returns-in-ActionResult g c lacking =
-    subst (λ l. ∥ LacksInFolder g.W.World.sees g.K.FolderMark.folder l ∥₁) (sym c.in-ActionResult.is)
+    subst (λ l. ∥ LacksInFolder g.K.FolderMark.sees g.K.FolderMark.folder l ∥₁) (sym c.in-ActionResult.is)
     (∥∥₁_map c.args.self.now.told (λ is. is.lacked.results c.in-ActionResult.digest (c.lacks_result.ensures.0 lacking)))

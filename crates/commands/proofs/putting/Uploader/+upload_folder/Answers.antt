@@ -8,7 +8,7 @@ use Rattle.commands.specs.Put.{IsPutAt, StandsAs}
 use Rattle.messages.specs.declared.node.Node.TheVariants.{Dir, File}
 use Rattle.commands.specs.PutRefused.{FailsBelow, FailsHere}
 use Rattle.commands.specs.PutRefused.FailsBelow.{here}
-use Rattle.commands.specs.PutRefused.FailsHere.{unread}
+use Rattle.commands.specs.PutRefused.FailsHere.{unlisted, unread}
 use Rattle.commands.specs.World.{a_link, what_stands}
 use Rattle.commands.proofs.Exits.{exit_by}
 use Rattle.commands.proofs.Refused.{IsUnput, deepest, directory_fails, entry_at, further, further_down, name_fails, names_fail, or_weaker, target_fails}
@@ -20,17 +20,17 @@ use Rattle.commands.proofs.putting.Uploader.+upload_folder.Goals as goal
 
 pub upload_node-returns-in_err-found-clause-refused : goal.upload_node-returns-in_err-found-clause-refused
 upload_node-returns-in_err-found-clause-refused g t c =
-    exit_by (IsUnput g.W.World.sees c.args.self.now.server.now c.args.levels_left c.args.place.now (connection c.args.client.now)) _ c.from_residual.ensures.1
+    exit_by (IsUnput (g.W.World.sees c.args.self.now.world.now) c.args.self.now.server.now c.args.levels_left c.args.place.now (connection c.args.client.now)) _ c.from_residual.ensures.1
     (inr (here c.args.levels_left c.args.place.now (connection c.args.client.now) (unread _ c.in_err-found.ensures.fault refl)))
 
 pub upload_node-returns-in_err-upload_folder-in-Folder-clause-refused : goal.upload_node-returns-in_err-upload_folder-in-Folder-clause-refused
 upload_node-returns-in_err-upload_folder-in-Folder-clause-refused g t c =
-    exit_by (IsUnput g.W.World.sees c.args.self.now.server.now c.args.levels_left c.args.place.now (connection c.args.client.now)) _ c.from_residual-in_err-upload_folder-in-Folder.ensures.1
+    exit_by (IsUnput (g.W.World.sees c.args.self.now.world.now) c.args.self.now.server.now c.args.levels_left c.args.place.now (connection c.args.client.now)) _ c.from_residual-in_err-upload_folder-in-Folder.ensures.1
     c.in_err-upload_folder-in-Folder.ensures.refused
 
 pub upload_node-returns-in_err-target_at-in-Link-clause-refused : goal.upload_node-returns-in_err-target_at-in-Link-clause-refused
 upload_node-returns-in_err-target_at-in-Link-clause-refused g t c =
-    let sees = g.W.World.sees in
+    let sees = g.W.World.sees c.args.self.now.world.now in
     let place = c.args.place.now in
     let target = c.as_str.result.now in
     let link : sees.stands place (a_link target) = subst (λ b. sees.stands place (a_link b)) (sym c.as_str.ensures.value)
@@ -40,14 +40,14 @@ upload_node-returns-in_err-target_at-in-Link-clause-refused g t c =
 
 pub upload_node-returns-in_err-upload_file-in-File-clause-refused : goal.upload_node-returns-in_err-upload_file-in-File-clause-refused
 upload_node-returns-in_err-upload_file-in-File-clause-refused g t c =
-    exit_by (IsUnput g.W.World.sees c.args.self.now.server.now c.args.levels_left c.args.place.now (connection c.args.client.now)) _ c.from_residual-in_err-upload_file-in-File.ensures.1
-    (or_weaker (λ x. (left : ℕ) → FailsHere g.W.World.sees (string_bytes c.args.self.now.server.now.address) left c.args.place.now (connection c.args.client.now) x)
-    (λ x. FailsBelow g.W.World.sees (string_bytes c.args.self.now.server.now.address) x c.args.levels_left c.args.place.now (connection c.args.client.now)) _
+    exit_by (IsUnput (g.W.World.sees c.args.self.now.world.now) c.args.self.now.server.now c.args.levels_left c.args.place.now (connection c.args.client.now)) _ c.from_residual-in_err-upload_file-in-File.ensures.1
+    (or_weaker (λ x. (left : ℕ) → FailsHere (g.W.World.sees c.args.self.now.world.now) (string_bytes c.args.self.now.server.now.address) left c.args.place.now (connection c.args.client.now) x)
+    (λ x. FailsBelow (g.W.World.sees c.args.self.now.world.now) (string_bytes c.args.self.now.server.now.address) x c.args.levels_left c.args.place.now (connection c.args.client.now)) _
     (λ fails. here c.args.levels_left c.args.place.now (connection c.args.client.now) (fails c.args.levels_left)) c.in_err-upload_file-in-File.ensures.refused)
 
 pub upload_node-returns : goal.upload_node-returns
 upload_node-returns g t c =
-    let sees = g.W.World.sees in
+    let sees = g.W.World.sees c.args.self.now.world.now in
     let old = connection c.args.client.now in
     let new = connection c.match-found.client in
     let left = c.args.levels_left in
@@ -73,12 +73,12 @@ upload_node-returns g t c =
 pub upload_folder-loop-name-init : goal.upload_folder-loop-name-init
 upload_folder-loop-name-init g t c =
     let now = connection c.args.client.now in
-    subst (λ d. IsPutSoFar g.W.World.sees c.args.levels_left c.args.place.now [] d now now) (sym c.new-children.ensures)
-    (nothing_put g.W.World.sees c.args.levels_left c.args.place.now now)
+    subst (λ d. IsPutSoFar (g.W.World.sees c.args.self.now.world.now) c.args.levels_left c.args.place.now [] d now now) (sym c.new-children.ensures)
+    (nothing_put (g.W.World.sees c.args.self.now.world.now) c.args.levels_left c.args.place.now now)
 
 pub upload_folder-loop-name-preserved : goal.upload_folder-loop-name-preserved
 upload_folder-loop-name-preserved g t c =
-    let sees = g.W.World.sees in
+    let sees = g.W.World.sees c.args.self.now.world.now in
     let left = c.args.levels_left in
     let place = c.args.place.now in
     let n = c.in_ok-name.name in
@@ -98,17 +98,17 @@ upload_folder-loop-name-preserved g t c =
 -- an entry of the folder, by the name that was read
 pub upload_folder-returns-in_err-names-clause-refused : goal.upload_folder-returns-in_err-names-clause-refused
 upload_folder-returns-in_err-names-clause-refused g t c =
-    exit_by (IsUnput g.W.World.sees c.args.self.now.server.now c.args.levels_left c.args.place.now (connection c.args.client.now)) _ c.from_residual.ensures.1
-    (inr (here c.args.levels_left c.args.place.now (connection c.args.client.now) (unread _ c.in_err-names.ensures.fault refl)))
+    exit_by (IsUnput (g.W.World.sees c.args.self.now.world.now) c.args.self.now.server.now c.args.levels_left c.args.place.now (connection c.args.client.now)) _ c.from_residual.ensures.1
+    (inr (here c.args.levels_left c.args.place.now (connection c.args.client.now) (unlisted _ c.in_err-names.ensures.fault refl)))
 
 pub upload_folder-returns-in_err-below-clause-refused : goal.upload_folder-returns-in_err-below-clause-refused
 upload_folder-returns-in_err-below-clause-refused g t c =
-    exit_by (IsUnput g.W.World.sees c.args.self.now.server.now c.args.levels_left c.args.place.now (connection c.args.client.now)) _ c.from_residual-in_err-below.ensures.1
+    exit_by (IsUnput (g.W.World.sees c.args.self.now.world.now) c.args.self.now.server.now c.args.levels_left c.args.place.now (connection c.args.client.now)) _ c.from_residual-in_err-below.ensures.1
     (inl refl)
 
 pub upload_folder-returns-in_err-name-clause-refused : goal.upload_folder-returns-in_err-name-clause-refused
 upload_folder-returns-in_err-name-clause-refused g t c =
-    let sees = g.W.World.sees in
+    let sees = g.W.World.sees c.args.self.now.world.now in
     let place = c.args.place.now in
     let n = c.as_str.result.now in
     let path = c.as_str-path.result.now in
@@ -124,7 +124,7 @@ upload_folder-returns-in_err-name-clause-refused g t c =
 
 pub upload_folder-returns-then-levels_left-eq0-clause-refused : goal.upload_folder-returns-then-levels_left-eq0-clause-refused
 upload_folder-returns-then-levels_left-eq0-clause-refused g t c =
-    let sees = g.W.World.sees in
+    let sees = g.W.World.sees c.args.self.now.world.now in
     let place = c.args.place.now in
     let n = c.as_str.result.now in
     let path = c.as_str-path.result.now in
@@ -139,7 +139,7 @@ upload_folder-returns-then-levels_left-eq0-clause-refused g t c =
 
 pub upload_folder-returns-in_err-node-clause-refused : goal.upload_folder-returns-in_err-node-clause-refused
 upload_folder-returns-in_err-node-clause-refused g t c =
-    let sees = g.W.World.sees in
+    let sees = g.W.World.sees c.args.self.now.world.now in
     let place = c.args.place.now in
     let n = c.as_str.result.now in
     let path = c.as_str-path.result.now in
@@ -155,12 +155,12 @@ upload_folder-returns-in_err-node-clause-refused g t c =
 
 pub upload_folder-returns-in_err-push-clause-refused : goal.upload_folder-returns-in_err-push-clause-refused
 upload_folder-returns-in_err-push-clause-refused g t c =
-    exit_by (IsUnput g.W.World.sees c.args.self.now.server.now c.args.levels_left c.args.place.now (connection c.args.client.now)) _ c.from_residual-in_err-push.ensures.1
+    exit_by (IsUnput (g.W.World.sees c.args.self.now.world.now) c.args.self.now.server.now c.args.levels_left c.args.place.now (connection c.args.client.now)) _ c.from_residual-in_err-push.ensures.1
     (inl refl)
 
 pub upload_folder-returns-in_err-directory-clause-refused : goal.upload_folder-returns-in_err-directory-clause-refused
 upload_folder-returns-in_err-directory-clause-refused g t c =
-    let sees = g.W.World.sees in
+    let sees = g.W.World.sees c.args.self.now.world.now in
     let old = connection c.args.client.now in
     let now = connection c.loop-name.client in
     let place = c.args.place.now in
@@ -173,12 +173,12 @@ upload_folder-returns-in_err-directory-clause-refused g t c =
 
 pub upload_folder-returns-in_err-bytes-clause-refused : goal.upload_folder-returns-in_err-bytes-clause-refused
 upload_folder-returns-in_err-bytes-clause-refused g t c =
-    exit_by (IsUnput g.W.World.sees c.args.self.now.server.now c.args.levels_left c.args.place.now (connection c.args.client.now)) _ c.from_residual-in_err-bytes.ensures.1
+    exit_by (IsUnput (g.W.World.sees c.args.self.now.world.now) c.args.self.now.server.now c.args.levels_left c.args.place.now (connection c.args.client.now)) _ c.from_residual-in_err-bytes.ensures.1
     (inl refl)
 
 pub upload_folder-returns : goal.upload_folder-returns
 upload_folder-returns g t c =
-    let sees = g.W.World.sees in
+    let sees = g.W.World.sees c.args.self.now.world.now in
     let old = connection c.args.client.now in
     let now = connection c.loop-name.client in
     let left = c.args.levels_left in

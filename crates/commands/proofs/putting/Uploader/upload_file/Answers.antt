@@ -12,12 +12,12 @@ use Rattle.commands.proofs.putting.Uploader.upload_file.Goals as goal
 
 pub returns-in_err-bytes-clause-refused : goal.returns-in_err-bytes-clause-refused
 returns-in_err-bytes-clause-refused g c =
-    exit_by (OrMemory (λ e. (left : ℕ) → FailsHere g.W.World.sees (string_bytes c.args.self.now.server.now.address) left c.args.place.now (connection c.args.client.now) e)) _ c.from_residual.ensures.1
+    exit_by (OrMemory (λ e. (left : ℕ) → FailsHere (g.W.World.sees c.args.self.now.world.now) (string_bytes c.args.self.now.server.now.address) left c.args.place.now (connection c.args.client.now) e)) _ c.from_residual.ensures.1
     (inr (λ left. unread _ c.in_err-bytes.ensures.fault refl))
 
 pub returns-in_err-digest-clause-refused : goal.returns-in_err-digest-clause-refused
 returns-in_err-digest-clause-refused g c =
-    let sees = g.W.World.sees in
+    let sees = g.W.World.sees c.args.self.now.world.now in
     let old = connection c.args.client.now in
     let address = string_bytes c.args.self.now.server.now.address in
     let place = c.args.place.now in
@@ -31,7 +31,7 @@ returns-clause-sized g c =
 
 pub returns-clause-put : goal.returns-clause-put
 returns-clause-put g c =
-    let sees = g.W.World.sees in
+    let sees = g.W.World.sees c.args.self.now.world.now in
     let old = connection c.args.client.now in
     let new = connection c.put.new.self in
     let place = c.args.place.now in

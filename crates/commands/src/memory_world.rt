@@ -1,0 +1,161 @@
+ghost use Rattle.std.specs.Prelude.{◌≡◌, ◌≢◌, ◌↔◌, ℕ, List, IfOk, IsTrue, None, OnErr, OnOk, Some};
+ghost use Rattle.std.specs.Prelude.{string_bytes};
+ghost use Rattle.clap.specs.Words.{found_of, rows_of};
+ghost use Rattle.commands.specs.Ended.{is_done};
+ghost use Rattle.commands.specs.Memory.{AnswersRight, AsksFiles, PrintsFiles, files_of, replies_of};
+ghost use Rattle.commands.specs.Memory.{sees_in};
+ghost use Rattle.commands.specs.Printed.{NamesStore, PrintsVerdict};
+ghost use Rattle.commands.specs.SmallExample.{HoldsAnotherAction, HoldsExample, PrintsNo};
+ghost use Rattle.commands.specs.SmallExample.{PrintsYes, no_line, yes_line};
+ghost use Rattle.commands.specs.Words.{AllValid, place_words};
+ghost use Rattle.text_verifier.specs.Texts.{Question};
+ghost use Rattle.verifier.specs.Verdict.{IsYes};
+
+use crate::connecting::ServerOptions;
+use crate::ended::Ended;
+use crate::error::CommandError;
+use crate::files::unread;
+use crate::verifying::run_verify;
+use crate::world::{Found, Inputs, World};
+use clap::ArgMatches;
+use http_core::FailStream;
+use plan::{
+    faults_are_single_valued, record_faults_are_single_valued, spells_one_plan, spells_one_record,
+};
+use remote::FileError;
+use std::alloc::{AllocError, Global};
+use std::collections::BTreeMap;
+use std::io;
+use std::io::{ErrorKind, Write};
+
+/// A world in memory: files at their paths, with no folders and no links, and servers at their
+/// addresses, of which each sends the same bytes over each connection.
+#[derive(Drop)]
+pub struct MemoryWorld {
+    files: BTreeMap<String, Vec<u8>>,
+    servers: BTreeMap<String, Vec<u8>>,
+}
+
+impl MemoryWorld {
+    /// A world of no files and no servers.
+    pub fn new(alloc: Global) -> MemoryWorld
+        ensures files { (path : List ℕ) → files_of result path ≡ None }
+        ensures servers { (address : List ℕ) → replies_of result address ≡ None }
+    {
+        MemoryWorld {
+            files: BTreeMap::new(alloc),
+            servers: BTreeMap::new(alloc),
+        }
+    }
+
+    /// Holds these bytes as the file at the path, in place of others.
+    pub fn hold(&mut self, path: String, bytes: Vec<u8>) -> Result<(), AllocError>
+        ensures held { OnOk result (files_of self.new (string_bytes path) ≡ Some bytes.items) }
+        ensures others { OnOk result ((other : List ℕ) → other ≢ string_bytes path
+            → files_of self.new other ≡ files_of self.old other) }
+        ensures unheld { OnErr result ((path : List ℕ)
+            → files_of self.new path ≡ files_of self.old path) }
+        ensures servers { (address : List ℕ)
+            → replies_of self.new address ≡ replies_of self.old address }
+    {
+        self.files.insert(path, bytes)?;
+        Ok(())
+    }
+
+    /// Has these bytes come over each connection to the address, in place of others.
+    pub fn serve(&mut self, address: String, bytes: Vec<u8>) -> Result<(), AllocError>
+        ensures held { OnOk result (replies_of self.new (string_bytes address)
+            ≡ Some bytes.items) }
+        ensures others { OnOk result ((other : List ℕ) → other ≢ string_bytes address
+            → replies_of self.new other ≡ replies_of self.old other) }
+        ensures unheld { OnErr result ((address : List ℕ)
+            → replies_of self.new address ≡ replies_of self.old address) }
+        ensures files { (path : List ℕ)
+            → files_of self.new path ≡ files_of self.old path }
+    {
+        self.servers.insert(address, bytes)?;
+        Ok(())
+    }
+}
+
+impl World for MemoryWorld {
+    ghost use Rattle.commands.specs.Memory.{sees_in};
+
+    ghost sees = { sees_in };
+}
+
+impl Inputs for MemoryWorld {
+    type Link = FailStream<Global>;
+
+    fn read(&self, alloc: Global, path: &str) -> Result<Vec<u8>, FileError<Global>> {
+        match self.files.get(path) {
+            Some(bytes) => Ok(Vec::from_slice(alloc, bytes)?),
+            None => Err(unread(alloc, path, io::Error::from(ErrorKind::NotFound))),
+        }
+    }
+
+    fn list(&self, alloc: Global, path: &str) -> Result<Vec<String>, FileError<Global>> {
+        match self.files.get(path) {
+            Some(_) => Err(unread(alloc, path, io::Error::from(ErrorKind::NotADirectory))),
+            None => Err(unread(alloc, path, io::Error::from(ErrorKind::NotFound))),
+        }
+    }
+
+    fn look(&self, alloc: Global, path: &str) -> Result<Found, FileError<Global>> {
+        match self.files.get(path) {
+            Some(_) => Ok(Found::File),
+            None => Err(unread(alloc, path, io::Error::from(ErrorKind::NotFound))),
+        }
+    }
+
+    fn is_folder(&self, _alloc: Global, _path: &str) -> Result<bool, FileError<Global>> {
+        Ok(false)
+    }
+
+    fn connect(&self, alloc: Global, server: &ServerOptions) -> io::Result<FailStream<Global>> {
+        match self.servers.get(server.address.as_str()) {
+            Some(bytes) => {
+                let bytes = Vec::from_slice(alloc, bytes)?;
+                Ok(FailStream::new(alloc, bytes, 65536, 0))
+            }
+            None => Err(io::Error::from(ErrorKind::ConnectionRefused)),
+        }
+    }
+}
+
+/// `verify` over a world in memory: its verdict is on what that holds.
+pub fn verify_in_memory<O: Write>(
+    alloc: Global,
+    world: &MemoryWorld,
+    matches: &ArgMatches<'_>,
+    out: &mut O,
+) -> Result<Ended, CommandError>
+    ensures printed { IfOk result (λ ended.
+        (prints : PrintsVerdict (sees_in world.now) (rows_of (found_of matches.now))
+        (O.contents out.old) (O.contents out.new))
+        × (IsTrue (is_done ended) ↔ IsYes prints.verdict)) }
+    // Over a store it is by the files alone.
+    ensures files { NamesStore (rows_of (found_of matches.now)) → IfOk result (λ ended.
+        (prints : PrintsFiles (files_of world.now) (rows_of (found_of matches.now))
+        (O.contents out.old) (O.contents out.new))
+        × (IsTrue (is_done ended) ↔ IsYes prints.verdict)) }
+    // Where valid words and the files ask a question, it is answered: by its yes exactly where the
+    // store is right. But memory may run out, and the output may take no more.
+    ensures right { (question : Question) → AllValid (place_words (rows_of (found_of matches.now)))
+        → AsksFiles (files_of world.now) (rows_of (found_of matches.now)) question
+        → AnswersRight (files_of world.now) (rows_of (found_of matches.now)) question
+        (O.contents out.old) (O.contents out.new) result }
+    // README's small example is answered with its line,
+    ensures example { HoldsExample (files_of world.now) (rows_of (found_of matches.now))
+        → PrintsYes yes_line (O.contents out.old) (O.contents out.new) result }
+    // and with the line of its no where other bytes stand in place of an action's, be it by one.
+    ensures flawed { HoldsAnotherAction (files_of world.now) (rows_of (found_of matches.now))
+        → PrintsNo no_line (O.contents out.old) (O.contents out.new) result }
+{
+    // Laws: a text is that of one plan or record at most, and has no fault then.
+    spells_one_plan();
+    spells_one_record();
+    faults_are_single_valued();
+    record_faults_are_single_valued();
+    run_verify(alloc, world, matches, out)
+}
