@@ -1,10 +1,8 @@
 -- What a command came to, said of the words.
 use Rattle.std.proofs.Common.{◌≡◌, ◌∙◌, ◌⊎◌, ◌<◌, ◌≤◌, ◌+◌, ap, arith, subst, sym, inl, inr, refl, ℕ, List, []}
-use Rattle.std.specs.Prelude.{codes, ◌↔◌, IsTrue, Option, Some, None, option_map, unwrap_or}
+use Rattle.std.specs.Prelude.{codes, Option, Some, None, option_map, unwrap_or}
 use Rattle.std.specs.Option.{option_map_or}
-use Rattle.std.proofs.lemmas.Bool.{iff_false}
 use Rattle.clap.specs.Words.{Row, Text, fault_of, subcommand_of}
-use Rattle.verifier.specs.Verdict.{IsYes}
 use Rattle.command_lines.specs.CommandLine.{CallsCommand, options_of, program_line}
 use Rattle.cli.specs.Built.{BeginsBuild, Below, PrintsBuild}
 use Rattle.cli.specs.Refused.{FailsBuild}
@@ -14,10 +12,9 @@ use Rattle.cli.specs.Running.{Ends, TellsEnd}
 use Rattle.cli.specs.Ended.Fails.{in_build, in_get, in_put, in_serve, in_verify}
 use Rattle.cli.specs.Ended.IsDone.{built, got, yes}
 use Rattle.cli.specs.Ended.IsNo.{failed, no, none}
-use Rattle.commands.specs.Printed.{BeginsDigest, BeginsListening, BeginsVerdict, GetsAsked, GetsPart, NotesStore, PrintsVerdict}
-use Rattle.commands.specs.Refusal.{FailsVerify}
+use Rattle.commands.specs.Evidence.{BeginsAnswer, FailsAsked, VerifiesAsked}
+use Rattle.commands.specs.Printed.{BeginsDigest, BeginsListening, GetsAsked, GetsPart}
 use Rattle.commands.specs.World.{Sight}
-use Rattle.commands.specs.Ended.{is_done}
 use Rattle.commands.specs.GetRefused.{FailsGet}
 use Rattle.commands.specs.PutRefused.{FailsPut}
 use Rattle.commands.specs.ServeRefused.{FailsServe}
@@ -26,7 +23,7 @@ use Rattle.commands.specs.declared.ended.Ended.TheVariants.{Done, No}
 use Rattle.commands.specs.Status.{exit_status}
 use Rattle.commands.specs.Told.{PrintsNoLine}
 use Rattle.commands.specs.declared.error.CommandError.{CommandError}
-use Rattle.commands.specs.declared.error.CommandError.TheVariants.{Usage, Digest, Number, Text as TextFault, InvalidValue, File}
+use Rattle.commands.specs.declared.error.CommandError.TheVariants.{Archive, DigestFile, Usage, Digest, Number, Text as TextFault, InvalidValue, File}
 use Rattle.commands.specs.declared.error.CommandError.TheVariants.{NotAFile, TooLarge, Entry, Connection}
 use Rattle.commands.specs.declared.error.CommandError.TheVariants.{Server, Blob, Accept, Address, Random}
 use Rattle.commands.specs.declared.error.CommandError.TheVariants.{Output, Memory, Process}
@@ -53,17 +50,10 @@ pub none_called : (found called : Option (Text × List Row)) (name : Text) → f
 none_called None called name is none_found named = let same : ◌≡◌ {A = Option Text} None (Some name) = ap (λ (o : Option (Text × List Row)). option_map (λ p. p.0) o) is ∙ named in cc
 none_called (Some p) called name is none_found named = cc
 
--- what was printed for some options, and whether it is yes
-abbrev pub IsAnswer : Sight → List Row → Option (List ℕ) → Option (List ℕ) → Ended → Type 0
-IsAnswer sees rows old new ended = (prints : PrintsVerdict sees rows old new) × (IsTrue (is_done ended) ↔ IsYes prints.verdict)
-
 module _ {sees : Sight} (below : Below) (words : List Text) {rows : List Row} (is : rows ≡ options_of words) where
-  pub verify_ends : {old new : Option (List ℕ)} (ended : Ended) → CallsCommand words (codes "verify") → IsAnswer sees rows old new ended
-      → NotesStore sees rows ended → Ends sees below words old new ended
-  verify_ends {old} {new} Done called h noted = let said = subst (λ (o : List Row). IsAnswer sees o old new Done) is h in yes called said.0 (said.1.0 refl)
-  verify_ends {old} {new} (No note) called h noted =
-      let said = subst (λ (o : List Row). IsAnswer sees o old new (No note)) is h in
-      no called said.0 (iff_false said.1 refl) (subst (λ (o : List Row). NotesStore sees o (No note)) is noted)
+  pub verify_ends : {old new : Option (List ℕ)} (ended : Ended) → CallsCommand words (codes "verify") → VerifiesAsked sees rows old new ended → Ends sees below words old new ended
+  verify_ends {old} {new} Done called h = yes called (subst (λ (o : List Row). VerifiesAsked sees o old new Done) is h)
+  verify_ends {old} {new} (No note) called h = no called (subst (λ (o : List Row). VerifiesAsked sees o old new (No note)) is h)
 
   pub get_ends : {old new : Option (List ℕ)} (ended : Ended) → CallsCommand words (codes "get") → GetsAsked sees rows old new ended → Ends sees below words old new ended
   get_ends {old} {new} Done called h = got called (subst (λ (o : List Row). GetsAsked sees o old new Done) is h)
@@ -82,8 +72,8 @@ module _ {sees : Sight} (below : List Row → Below) (words : List Text) {rows :
   build_fails e called h = in_build called (subst (λ (o : List Row). FailsBuild sees (below o) o e) is h)
 
 module _ {sees : Sight} {below : Below} (words : List Text) {rows : List Row} (is : rows ≡ options_of words) where
-  pub verify_begins : {old new : Option (List ℕ)} → CallsCommand words (codes "verify") → BeginsVerdict sees rows old new → PrintsNoLine old new → BeginsAsked sees below words old new
-  verify_begins {old} {new} called h unended = verify_begun called (subst (λ (o : List Row). BeginsVerdict sees o old new) is h) unended
+  pub verify_begins : {old new : Option (List ℕ)} → CallsCommand words (codes "verify") → BeginsAnswer sees rows old new → PrintsNoLine old new → BeginsAsked sees below words old new
+  verify_begins {old} {new} called h unended = verify_begun called (subst (λ (o : List Row). BeginsAnswer sees o old new) is h) unended
 
   pub get_begins : {old new : Option (List ℕ)} → CallsCommand words (codes "get") → GetsPart sees rows old new → BeginsAsked sees below words old new
   get_begins {old} {new} called h = get_begun called (subst (λ (o : List Row). GetsPart sees o old new) is h)
@@ -94,8 +84,8 @@ module _ {sees : Sight} {below : Below} (words : List Text) {rows : List Row} (i
   pub serve_begins : {old new : Option (List ℕ)} → CallsCommand words (codes "serve") → BeginsListening sees rows old new → BeginsAsked sees below words old new
   serve_begins {old} {new} called h = serve_begun called (subst (λ (o : List Row). BeginsListening sees o old new) is h)
 
-  pub verify_fails : (e : CommandError) → CallsCommand words (codes "verify") → FailsVerify sees rows e → Fails sees below words e
-  verify_fails e called h = in_verify called (subst (λ (o : List Row). FailsVerify sees o e) is h)
+  pub verify_fails : (e : CommandError) → CallsCommand words (codes "verify") → FailsAsked sees rows e → Fails sees below words e
+  verify_fails e called h = in_verify called (subst (λ (o : List Row). FailsAsked sees o e) is h)
 
   pub put_fails : (e : CommandError) → CallsCommand words (codes "put") → FailsPut sees rows e → Fails sees below words e
   put_fails e called h = in_put called (subst (λ (o : List Row). FailsPut sees o e) is h)
@@ -116,6 +106,8 @@ status_is (Digest option text fault) = inl refl
 status_is (Number option greatest text) = inl refl
 status_is (TextFault path fault hint) = inl refl
 status_is (InvalidValue option expected text) = inl refl
+status_is (DigestFile path fault) = inl refl
+status_is (Archive path at refusal) = inl refl
 status_is (File path fault) = inr refl
 status_is (NotAFile path) = inr refl
 status_is (TooLarge path) = inr refl

@@ -5,15 +5,15 @@ use Rattle.clap.specs.Words.{IsAmong, Text, fault_of}
 use Rattle.clap.specs.declared.error.kind.ErrorKind.{ErrorKind}
 use Rattle.clap.specs.declared.error.kind.ErrorKind.TheVariants.{DisplayHelp, DisplayVersion}
 use Rattle.command_lines.specs.CommandLine.{CallsCommand, options_of, program_line}
-use Rattle.verifier.specs.Verdict.{IsYes}
 use Rattle.cli.specs.Built.{BeginsBuild, Below, PrintsBuild}
 use Rattle.cli.specs.Help.{IsTip, help_asked, version_line}
 use Rattle.cli.specs.Refused.{FailsBuild}
-use Rattle.commands.specs.Printed.{BeginsDigest, BeginsListening, BeginsVerdict, GetsAsked}
-use Rattle.commands.specs.Printed.{GetsPart, NotesStore, PrintsDigest, PrintsVerdict, ServesAsked}
+use Rattle.commands.specs.Evidence.{BeginsAnswer, FailsAsked, VerifiesAsked}
+use Rattle.commands.specs.Printed.{BeginsDigest, BeginsListening, GetsAsked, GetsPart}
+use Rattle.commands.specs.Printed.{PrintsDigest, ServesAsked}
 use Rattle.commands.specs.GetRefused.{FailsGet}
 use Rattle.commands.specs.PutRefused.{FailsPut}
-use Rattle.commands.specs.Refusal.{FailsVerify, IsPrintFault}
+use Rattle.commands.specs.Refusal.{IsPrintFault}
 use Rattle.commands.specs.ServeRefused.{FailsServe, IsAcceptFault}
 use Rattle.commands.specs.Status.{exit_status}
 use Rattle.commands.specs.Told.{AppendsBeginning, PrintsNoLine, TellsNoteOf, TellsOf}
@@ -45,8 +45,7 @@ pub data BeginsShown (words : List Text) (old new : Option (List ℕ)) : Type 0 
 -- the address where connections were served, or that of a build's root, or the help or the version.
 pub data IsDone (sees : Sight) (below : Below) (words : List Text) (old new : Option (List ℕ))
     : Type 0 where
-  yes : CallsCommand words (codes "verify")
-      → (prints : PrintsVerdict sees (options_of words) old new) → IsYes prints.verdict
+  yes : CallsCommand words (codes "verify") → VerifiesAsked sees (options_of words) old new Done
       → IsDone sees below words old new
   got : CallsCommand words (codes "get") → GetsAsked sees (options_of words) old new Done
       → IsDone sees below words old new
@@ -63,8 +62,7 @@ pub data IsDone (sees : Sight) (below : Below) (words : List Text) (old new : Op
 pub data IsNo (sees : Sight) (below : Below) (words : List Text) (note : Option Note)
     (old new : Option (List ℕ)) : Type 0 where
   no : CallsCommand words (codes "verify")
-      → (prints : PrintsVerdict sees (options_of words) old new) → ¬ IsYes prints.verdict
-      → NotesStore sees (options_of words) (No note) → IsNo sees below words note old new
+      → VerifiesAsked sees (options_of words) old new (No note) → IsNo sees below words note old new
   none : CallsCommand words (codes "get") → GetsAsked sees (options_of words) old new (No note)
       → IsNo sees below words note old new
   failed : CallsCommand words (codes "build")
@@ -85,7 +83,7 @@ pub record EndsNo (sees : Sight) (below : Below) (words : List Text)
 pub data BeginsAsked (sees : Sight) (below : Below) (words : List Text)
     (old new : Option (List ℕ)) : Type 0 where
   shown : BeginsShown words old new → BeginsAsked sees below words old new
-  verified : CallsCommand words (codes "verify") → BeginsVerdict sees (options_of words) old new
+  verified : CallsCommand words (codes "verify") → BeginsAnswer sees (options_of words) old new
       → PrintsNoLine old new → BeginsAsked sees below words old new
   got : CallsCommand words (codes "get") → GetsPart sees (options_of words) old new
       → BeginsAsked sees below words old new
@@ -110,22 +108,22 @@ pub record AreFaulty (words : List Text) : Type 0 where
   pub no_version : ¬ WantsVersion words
 
 -- the error tells what is wrong with words, in a text that ends with the tip on such a mistake
-abbrev pub TellsOfWords : List Text → ErrorKind → CommandError → Type 0
-TellsOfWords words kind (Usage text) = (said : List ℕ) × (tip : List ℕ) × IsTip words kind tip
+abbrev pub TellsOfWords : ErrorKind → CommandError → Type 0
+TellsOfWords kind (Usage text) = (said : List ℕ) × (tip : List ℕ) × IsTip kind tip
     × (string_bytes text ≡ said ++ tip)
-TellsOfWords words kind _ = ⊥
+TellsOfWords kind _ = ⊥
 
 -- the words are at fault, or what they ask for couldn't be printed, or memory ran out
 pub data FailsInWords (words : List Text) (e : CommandError) : Type 0 where
   in_memory : e ≡ Memory → FailsInWords words e
-  in_fault : (fault : HasFault words) → TellsOfWords words fault.kind e → FailsInWords words e
+  in_fault : (fault : HasFault words) → TellsOfWords fault.kind e → FailsInWords words e
   in_help : WantsHelp words → IsPrintFault e → FailsInWords words e
   in_version : WantsVersion words → IsPrintFault e → FailsInWords words e
 
 -- The words are at fault, or else the command that they call has this as its first fault.
 pub data Fails (sees : Sight) (below : Below) (words : List Text) (e : CommandError) : Type 0 where
   in_words : FailsInWords words e → Fails sees below words e
-  in_verify : CallsCommand words (codes "verify") → FailsVerify sees (options_of words) e
+  in_verify : CallsCommand words (codes "verify") → FailsAsked sees (options_of words) e
       → Fails sees below words e
   in_build : CallsCommand words (codes "build") → FailsBuild sees below (options_of words) e
       → Fails sees below words e

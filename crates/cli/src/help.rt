@@ -49,8 +49,14 @@ Status:
 const VERIFY: &str = "\
 Say whether every build of a plan ends in exactly the claimed root
 
-Usage: buildcache verify [OPTIONS] --sources <DIGEST> --plan <FILE> --record <FILE> \
+Usage: buildcache verify [OPTIONS] <EVIDENCE>
+       buildcache verify [OPTIONS] --sources <DIGEST> --plan <FILE> --record <FILE> \
 --claim <DIGEST> <--server <ADDR>|--store <FOLDER>>
+
+Arguments:
+  <EVIDENCE>  A folder with the files sources, claim, plan and record and the folder store, or a
+              tar archive of it (docs/FORMATS.md). Beside it go --claim and --sources, in place of
+              its files, and --server, which is asked for blobs alone
 
 Options:
       --server <ADDR>      Server that has the recorded build, HOST:PORT

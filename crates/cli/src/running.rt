@@ -11,8 +11,8 @@ use crate::showing::show;
 use crate::workplace::Workplace;
 use command_lines::parse;
 use commands::{
-    CommandError, Ended, Hosting, Inputs, Outputs, run_get, run_put, run_serve, run_verify, tell,
-    tell_note,
+    Archives, CommandError, Ended, Hosting, Inputs, Outputs, run_get, run_put, run_serve,
+    run_verify, tell, tell_note,
 };
 use std::alloc::Global;
 use std::io::Write;
@@ -33,7 +33,7 @@ pub fn run_words<R, W, P: Workplace + Drop, O: Write, E: Write, T: Write + Drop>
 ) -> u8
 where
     R: AllocGlobal + Clock + Clone + Drop,
-    W: Inputs + Outputs + Hosting,
+    W: Inputs + Archives + Outputs + Hosting,
     ensures status { result < 4 }
     // With status 0 what the words ask for is done, and nothing else went to standard output.
     ensures done { result ≡ 0 → IsDone (W.sees world.now)
@@ -99,7 +99,7 @@ fn run<R, W, P: Workplace + Drop, O: Write, T: Write + Drop>(
 ) -> Result<Ended, CommandError>
 where
     R: AllocGlobal + Clock + Clone + Drop,
-    W: Inputs + Outputs + Hosting,
+    W: Inputs + Archives + Outputs + Hosting,
     ensures ended { IfOk result (Ends (W.sees world.now)
         (P.below workplace
         (errors_asked (options_of (map string_bytes words.now))))

@@ -1,10 +1,9 @@
 ghost use Rattle.std.specs.Prelude.{◌≡◌, ◌++◌, ℕ, List, IfErr, IfOk, OnErr, OnOk, map};
 ghost use Rattle.std.specs.Prelude.{string_bytes};
 ghost use Rattle.std.specs.Io.KnownBytes.{Appends};
-ghost use Rattle.std.specs.List.{list_any};
 ghost use Rattle.clap.specs.Words.{HasKind, fault_of};
 ghost use Rattle.cli.specs.Ended.{BeginsShown, FailsInWords, ShowsAsked, WantsHelp, WantsVersion};
-ghost use Rattle.cli.specs.Help.{IsTip, gives_place, lack_place};
+ghost use Rattle.cli.specs.Help.{IsTip};
 ghost use Rattle.command_lines.specs.CommandLine.{program_line};
 ghost use Rattle.commands.specs.Refusal.{IsPrintFault};
 ghost use Rattle.commands.specs.Told.{AppendsBeginning};
@@ -41,7 +40,7 @@ pub(crate) fn show<O: Write>(
         ErrorKind::DisplayVersion => print(VERSION_LINE, out),
         kind => {
             let text = error.to_string(alloc)?;
-            let told = mistake_line(alloc, text.as_str(), tip_on(kind, words))?;
+            let told = mistake_line(alloc, text.as_str(), tip_on(kind))?;
             Err(CommandError::Usage(told))
         }
     }
@@ -57,39 +56,13 @@ fn print<O: Write>(text: &str, out: &mut O) -> Result<(), CommandError>
     print_all(out, text.as_bytes())
 }
 
-/// Whether the words begin with `verify`, and name neither a server nor a store.
-fn lack_place(words: &[String]) -> bool
-    ensures { result ≡ lack_place (map string_bytes words.now) }
-{
-    match words.split_first() {
-        Some((command, rest)) => command.as_str() == "verify" && !give_place(rest),
-        None => false,
-    }
-}
-
-/// Whether one of the words gives a server or a store.
-fn give_place(words: &[String]) -> bool
-    ensures { result ≡ list_any gives_place (map string_bytes words.now) }
-{
-    words.iter().any(|word| gives_place(word.as_bytes()))
-}
-
-fn gives_place(word: &[u8]) -> bool
-    ensures { result ≡ gives_place word.now }
-{
-    word.starts_with(b"--server") || word.starts_with(b"--store")
-}
-
 /// What clap doesn't say.
-fn tip_on(kind: ErrorKind, words: &[String]) -> &'static str
-    ensures { IsTip (map string_bytes words.now) kind result.now }
+fn tip_on(kind: ErrorKind) -> &'static str
+    ensures { IsTip kind result.now }
 {
-    if kind == ErrorKind::InvalidSubcommand {
-        "; tip: '--help' prints the commands"
-    } else if kind == ErrorKind::MissingRequiredArgument && lack_place(words) {
-        "; tip: one of --server <ADDR> and --store <FOLDER> is required too"
-    } else {
-        ""
+    match kind {
+        ErrorKind::InvalidSubcommand => "; tip: '--help' prints the commands",
+        _ => "",
     }
 }
 

@@ -48,13 +48,13 @@ verify_knows = record {
           (
             knows (built_in_program verify_line) false (codes "timeout") refl refl refl (λ t. refl) refl (λ t. refl),
             (
-              knows (built_in_program verify_line) true (codes "sources") refl refl refl (λ t. refl) refl (λ t. refl),
+              knows (built_in_program verify_line) false (codes "sources") refl refl refl (λ t. refl) refl (λ t. refl),
               (
-                knows (built_in_program verify_line) true (codes "plan") refl refl refl (λ t. refl) refl (λ t. refl),
+                knows (built_in_program verify_line) false (codes "plan") refl refl refl (λ t. refl) refl (λ t. refl),
                 (
-                  knows (built_in_program verify_line) true (codes "record") refl refl refl (λ t. refl) refl (λ t. refl),
+                  knows (built_in_program verify_line) false (codes "record") refl refl refl (λ t. refl) refl (λ t. refl),
                   (
-                    knows (built_in_program verify_line) true (codes "claim") refl refl refl (λ t. refl) refl (λ t. refl),
+                    knows (built_in_program verify_line) false (codes "claim") refl refl refl (λ t. refl) refl (λ t. refl),
                     tt,
                   ),
                 ),
@@ -65,7 +65,7 @@ verify_knows = record {
       ),
     ),
   );
-  words = tt;
+  words = (record { must = false; by_index = refl; by_id = refl }, tt);
   flags = tt;
   usual = λ name. refl;
   needs = λ there. refl;
@@ -80,9 +80,6 @@ verify_plain = record { no_help_wanted = refl; no_command_wanted = refl; fine_de
 
 pub verify_understood : IsUnderstood verify_line
 verify_understood = understood verify_line (built_in_program verify_line) verify_knows verify_plain verify_calls refl
-
-pub verify_missed : MissesNeeded verify_line
-verify_missed = missed verify_line (built_in_program verify_line) verify_knows verify_plain verify_calls
 
 -- ---- serve
 
@@ -143,7 +140,7 @@ put_knows = record {
       ),
     ),
   );
-  words = (record { by_index = refl; by_id = refl }, tt);
+  words = (record { must = true; by_index = refl; by_id = refl }, tt);
   flags = tt;
   usual = λ name. refl;
   needs = λ there. refl;
@@ -179,7 +176,7 @@ get_knows = record {
       ),
     ),
   );
-  words = (record { by_index = refl; by_id = refl }, tt);
+  words = (record { must = true; by_index = refl; by_id = refl }, tt);
   flags = tt;
   usual = λ name. refl;
   needs = λ there. refl;
@@ -281,13 +278,14 @@ verify_in_two_understood store sources plan noted claim texts =
         );
         once = ((refl, (refl, (refl, (refl, tt)))), ((refl, (refl, (refl, tt))), ((refl, (refl, tt)), ((refl, tt), (tt, tt)))));
       };
-      whole = ((1, omega arith, refl), ((2, omega arith, refl), ((3, omega arith, refl), ((4, omega arith, refl), tt))));
+      whole = tt;
     } in
     let asks = verify_understood given takes in
     let text_is : (name : Text) → option_text (options_of (verify_in_two store sources plan noted claim)) name ≡ unwrap_or (given_text name given) [] =
     λ name. ap (λ o. unwrap_or o []) (asks.texts_are name ∙ or_nothing (given_text name given)) in
     record {
       called = asks.called;
+      plain = asks.texts_are (codes "evidence");
       store_is = text_is (codes "store");
       sources_are = text_is (codes "sources");
       plan_is = text_is (codes "plan");

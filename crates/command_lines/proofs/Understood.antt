@@ -108,7 +108,7 @@ module _ (line : App) (s : Shape) (knows : Knows line s) where
   one_place one other a b apart =
       let x = by_name (KnowsWord s) (names_of_words line) one knows.words a in
       let y = by_name (KnowsWord s) (names_of_words line) other knows.words b in
-      let same : Some (word_rule one) ≡ Some (word_rule other) = sym x.by_index ∙ y.by_index in
+      let same : Some (word_rule x.must one) ≡ Some (word_rule y.must other) = sym x.by_index ∙ y.by_index in
       true≢false (sym ((bytes_eq-Decides one other).1 (ap (λ o. option_map_or (λ r. r.id) o []) same)) ∙ apart)
 
   still_in_place : (m : Manner) (name text : Text) (p : ℕ) (n : Manner) (other words : Text) → HasPlaceFor line m name text → HasPlaceFor line n other words

@@ -18,7 +18,7 @@ use Rattle.clap.specs.declared.builder.value_parser.ValueParser.TheVariants as v
 use Rattle.clap.specs.declared.parser.matches.ValueSource.TheVariants.{CommandLine}
 use Rattle.command_lines.proofs.Defaults.{with_defaults}
 use Rattle.command_lines.proofs.Rows.{at_missing, is_bare, itself}
-use Rattle.command_lines.specs.CommandLine.{flag, required_word}
+use Rattle.command_lines.specs.CommandLine.{flag, optional_word}
 use Rattle.command_lines.specs.Given.{Given, Manner, as_flag, by_itself, can_be_text, in_one_word, in_two_words, typed, typed_as}
 
 -- ---- a word that can be a text
@@ -68,8 +68,8 @@ no_short (c ∷ d ∷ rest) h = go (c == 45) h
 abbrev pub option_rule : Bool → Text → Rule
 option_rule must name = filled (record (new_rule name) { long = Some name; value_names = 1; action = Some Set; required = must })
 
-abbrev pub word_rule : Text → Rule
-word_rule name = with_index 1 (filled (required_word name))
+abbrev pub word_rule : Bool → Text → Rule
+word_rule must name = with_index 1 (filled (record (optional_word name) { required = must }))
 
 abbrev pub flag_rule : Text → Rule
 flag_rule name = filled (flag name)
@@ -89,8 +89,8 @@ option_used : (must : Bool) (name text : Text) (rows : List Row) → has_row nam
 option_used must name text rows new =
     rw (at_missing name (λ _. []) [] rows new, append-nil rows) (at_missing name (more_values CommandLine (text ∷ [])) (row_for name text ∷ []) rows new)
 
-word_used : (name text : Text) (rows : List Row) → has_row name rows ≡ false → used (word_rule name) (text ∷ []) rows ≡ rows ++ row_for name text ∷ []
-word_used name text rows new =
+word_used : (must : Bool) (name text : Text) (rows : List Row) → has_row name rows ≡ false → used (word_rule must name) (text ∷ []) rows ≡ rows ++ row_for name text ∷ []
+word_used must name text rows new =
     rw (at_missing name (λ _. []) [] rows new, append-nil rows) (at_missing name (more_values CommandLine (text ∷ [])) (row_for name text ∷ []) rows new)
 
 flag_used : (name : Text) (rows : List Row) → has_row name rows ≡ false → used (flag_rule name) [] rows ≡ rows ++ row_for name (codes "true") ∷ []
@@ -114,8 +114,9 @@ pub record KnowsOption (s : Shape) (name : Text) : Type 0 where
   pub joined_goes_on : (text : Text) → bytes_eq (codes "--" ++ name ++ codes "=" ++ text) (codes "--") ≡ false
 
 pub record KnowsWord (s : Shape) (name : Text) : Type 0 where
-  pub by_index : arg_by_index s.rules 1 ≡ Some (word_rule name)
-  pub by_id : arg_by_id s.rules name ≡ Some (word_rule name)
+  pub must : Bool
+  pub by_index : arg_by_index s.rules 1 ≡ Some (word_rule must name)
+  pub by_id : arg_by_id s.rules name ≡ Some (word_rule must name)
 
 pub record KnowsFlag (s : Shape) (name : Text) : Type 0 where
   pub by_long : arg_by_long s.rules name ≡ Some (flag_rule name)
@@ -185,12 +186,12 @@ module _ (s : Shape) where
   }
 
   -- a word alone
-  word_turn : (name text : Text) (h : Held) → can_be_text text ≡ true → arg_by_index s.rules 1 ≡ Some (word_rule name) → settle_fault s.rules s.args_override_self h ≡ []
+  word_turn : (must : Bool) (name text : Text) (h : Held) → can_be_text text ≡ true → arg_by_index s.rules 1 ≡ Some (word_rule must name) → settle_fault s.rules s.args_override_self h ≡ []
       → Turns (at h 1) text (at (record h { rows = (settled s.rules h).rows; pending = Some (name, text ∷ []) }) 2)
   unfolding walked
-  word_turn name text h plain known fine = record {
-    next = rw (no_end text plain, no_long text plain, no_short text plain, known) (ap (λ b. at (pushed name text (cond b h (settled s.rules h))) 2) (and_none (is_pending (word_rule name) h.pending)));
-    faultless = rw (no_end text plain, no_long text plain, no_short text plain, known) (ap (λ b. cond b [] (settle_fault s.rules s.args_override_self h)) (and_none (is_pending (word_rule name) h.pending)) ∙ fine);
+  word_turn must name text h plain known fine = record {
+    next = rw (no_end text plain, no_long text plain, no_short text plain, known) (ap (λ b. at (pushed name text (cond b h (settled s.rules h))) 2) (and_none (is_pending (word_rule must name) h.pending)));
+    faultless = rw (no_end text plain, no_long text plain, no_short text plain, known) (ap (λ b. cond b [] (settle_fault s.rules s.args_override_self h)) (and_none (is_pending (word_rule must name) h.pending)) ∙ fine);
   }
 
   -- a flag
@@ -226,9 +227,9 @@ module _ (s : Shape) where
       → Rests (record h { rows = rows; pending = Some (name, text ∷ []) }) (rows ++ row_for name text ∷ [])
   option_rests must name text h rows known new = record { rows_are = rw known (option_used must name text rows new); faultless = rw (known, new) }
 
-  word_rests : (name text : Text) (h : Held) (rows : List Row) → arg_by_id s.rules name ≡ Some (word_rule name) → has_row name rows ≡ false
+  word_rests : (must : Bool) (name text : Text) (h : Held) (rows : List Row) → arg_by_id s.rules name ≡ Some (word_rule must name) → has_row name rows ≡ false
       → Rests (record h { rows = rows; pending = Some (name, text ∷ []) }) (rows ++ row_for name text ∷ [])
-  word_rests name text h rows known new = record { rows_are = rw known (word_used name text rows new); faultless = rw (known, new) }
+  word_rests must name text h rows known new = record { rows_are = rw known (word_used must name text rows new); faultless = rw (known, new) }
 
   one_more : (manner : Manner) (name text : Text) (words : List Text) (h : Held) (p : ℕ) (rows all : List Row) → Rests h rows → HasItsPlace s p manner name text → has_row name rows ≡ false
       → ((k : Held) → Rests k (rows ++ row_for name text ∷ []) → Arrives (at k (place_after manner p)) words all) → Arrives (at h p) (typed_as manner name text ++ words) all
@@ -248,9 +249,9 @@ module _ (s : Shape) where
       let now = (settled s.rules h).rows in
       let none : has_row name now ≡ false = ap (has_row name) rests.rows_are ∙ new in
       subst (λ n. Arrives (at h n) (text ∷ words) all) (sym ready.2)
-      (turned _ _ _ _ all (word_turn name text h ready.1 k.by_index rests.faultless)
+      (turned _ _ _ _ all (word_turn k.must name text h ready.1 k.by_index rests.faultless)
       (next (record h { rows = now; pending = Some (name, text ∷ []) })
-      (subst (λ rs. Rests (record h { rows = now; pending = Some (name, text ∷ []) }) (rs ++ row_for name text ∷ [])) rests.rows_are (word_rests name text h now k.by_id none))))
+      (subst (λ rs. Rests (record h { rows = now; pending = Some (name, text ∷ []) }) (rs ++ row_for name text ∷ [])) rests.rows_are (word_rests k.must name text h now k.by_id none))))
   one_more as_flag name text words h p rows all rests ready new next =
       let k = ready.0 in
       let row_is : row_for name (codes "true") ≡ row_for name text = ap (row_for name) (sym ready.1) in

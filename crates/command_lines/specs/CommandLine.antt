@@ -1,5 +1,5 @@
 -- The program's command line, and what its words ask for.
-use Rattle.std.specs.Prelude.{◌≡◌, true, List, [], ◌∷◌, ◌++◌, Some, codes, option_map}
+use Rattle.std.specs.Prelude.{◌≡◌, true, List, [], ◌∷◌, ◌++◌, None, Some, codes, option_map}
 use Rattle.std.specs.Prelude.{unwrap_or}
 use Rattle.std.specs.List.{AllByRecursion}
 use Rattle.std.specs.Option.{option_map_or}
@@ -18,7 +18,10 @@ abbrev pub required_option : Text → Rule
 required_option name =
     record (new_rule name) { long = Some name; value_names = 1; action = Some Set; required = true }
 
--- a word on its own, that a command cannot do without
+-- a word on its own, and one that a command cannot do without
+abbrev pub optional_word : Text → Rule
+optional_word name = record (new_rule name) { value_names = 1; action = Some Set }
+
 abbrev pub required_word : Text → Rule
 required_word name = record (new_rule name) { value_names = 1; action = Some Set; required = true }
 
@@ -33,6 +36,9 @@ may_have app name = with_rule app (optional_option name)
 abbrev pub must_have : App → Text → App
 must_have app name = with_rule app (required_option name)
 
+abbrev pub may_take_word : App → Text → App
+may_take_word app name = with_rule app (optional_word name)
+
 abbrev pub takes_word : App → Text → App
 takes_word app name = with_rule app (required_word name)
 
@@ -45,7 +51,8 @@ client_line name =
     may_have (may_have (must_have (new_app name) (codes "server")) (codes "prefix"))
     (codes "timeout")
 
--- `verify` with the options that say where the recorded build is, and with all
+-- `verify` with the options that say where the recorded build is, and with all; which of them go
+-- together is told by the command
 abbrev pub placed_line : App
 placed_line =
     may_have (may_have
@@ -54,8 +61,8 @@ placed_line =
 
 abbrev pub verify_line : App
 verify_line =
-    must_have (must_have (must_have (must_have placed_line
-    (codes "sources")) (codes "plan")) (codes "record")) (codes "claim")
+    may_take_word (may_have (may_have (may_have (may_have placed_line
+    (codes "sources")) (codes "plan")) (codes "record")) (codes "claim")) (codes "evidence")
 
 -- `serve` and its options
 abbrev pub serve_line : App
@@ -130,9 +137,10 @@ verify_words store sources plan noted claim =
     codes "verify" ∷ (codes "--store=" ++ store) ∷ (codes "--sources=" ++ sources) ∷
     (codes "--plan=" ++ plan) ∷ (codes "--record=" ++ noted) ∷ (codes "--claim=" ++ claim) ∷ []
 
--- the words call `verify` with these texts for its options
+-- the words call `verify` with these texts for its options, and name no evidence
 pub record AsksVerify (words : List Text) (store sources plan noted claim : Text) : Type 0 where
   pub called : CallsCommand words (codes "verify")
+  pub plain : first_of (codes "evidence") (options_of words) ≡ None
   pub store_is : option_text (options_of words) (codes "store") ≡ store
   pub sources_are : option_text (options_of words) (codes "sources") ≡ sources
   pub plan_is : option_text (options_of words) (codes "plan") ≡ plan

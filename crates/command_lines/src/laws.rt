@@ -19,10 +19,9 @@ pub fn words_are_understood()
     ensures short_command_help { EachIsAtFault (codes "-h" ∷ []) kinds.DisplayHelp }
     ensures version { IsAtFault (codes "--version" ∷ []) kinds.DisplayVersion }
     ensures short_version { IsAtFault (codes "-V" ∷ []) kinds.DisplayVersion }
-    // No words, and a command with an unknown option or by itself.
+    // No words, and a command with an unknown option.
     ensures nothing { IsAtFault [] kinds.MissingSubcommand }
     ensures option_unknown { EachIsAtFault (codes "--color" ∷ []) kinds.UnknownArgument }
-    ensures alone { EachIsAtFault [] kinds.MissingRequiredArgument }
     // Whatever a command can take, in any order, each text in one word with its option or in the
     // next: the words ask for just that.
     ensures verify { IsUnderstood verify_line }
@@ -30,8 +29,8 @@ pub fn words_are_understood()
     ensures put { IsUnderstood put_line }
     ensures get { IsUnderstood get_line }
     ensures build { IsUnderstood build_line }
-    // Where one that a command needs isn't given, the words are at fault with just that.
-    ensures verify_misses { MissesNeeded verify_line }
+    // Where one that a command needs isn't given, the words are at fault with just that. `verify`
+    // tells by itself what it wants.
     ensures serve_misses { MissesNeeded serve_line }
     ensures put_misses { MissesNeeded put_line }
     ensures get_misses { MissesNeeded get_line }

@@ -1,8 +1,8 @@
 ghost use Rattle.std.specs.Prelude.{◌≡◌, IfOk, map, string_bytes, false};
 ghost use Rattle.clap.specs.Words.{FailsBy, app_of, fault_of, rule_of, subcommand_of};
 ghost use Rattle.clap.specs.Words.{subcommand_rows_of};
-ghost use Rattle.command_lines.specs.CommandLine.{flag, optional_option, required_option};
-ghost use Rattle.command_lines.specs.CommandLine.{required_word};
+ghost use Rattle.command_lines.specs.CommandLine.{flag, optional_option, optional_word};
+ghost use Rattle.command_lines.specs.CommandLine.{required_option, required_word};
 ghost use Rattle.command_lines.specs.CommandLine.{build_line, client_line, get_line};
 ghost use Rattle.command_lines.specs.CommandLine.{placed_line, program_line, put_line};
 ghost use Rattle.command_lines.specs.CommandLine.{serve_line, verify_line};
@@ -30,6 +30,16 @@ fn required<'a>(alloc: Global, name: &'static str, value: &'static str) -> Arg<'
         .long(name)
         .value_name(value)
         .required(true)
+        .action(ArgAction::Set)
+}
+
+/// A word on its own.
+fn optional_word<'a>(alloc: Global, name: &'static str, value: &'static str) -> Arg<'a>
+    ensures rule { rule_of result ≡ optional_word name.now }
+    ensures local { result.global ≡ false }
+{
+    Arg::new(alloc, name)
+        .value_name(value)
         .action(ArgAction::Set)
 }
 
@@ -68,10 +78,11 @@ fn verify_command<'a>(alloc: Global) -> Result<Command<'a>, AllocError>
     ensures { IfOk result (λ c. app_of c ≡ verify_line) }
 {
     placed_command(alloc)?
-        .arg(required(alloc, "sources", "DIGEST"))?
-        .arg(required(alloc, "plan", "FILE"))?
-        .arg(required(alloc, "record", "FILE"))?
-        .arg(required(alloc, "claim", "DIGEST"))
+        .arg(optional(alloc, "sources", "DIGEST"))?
+        .arg(optional(alloc, "plan", "FILE"))?
+        .arg(optional(alloc, "record", "FILE"))?
+        .arg(optional(alloc, "claim", "DIGEST"))?
+        .arg(optional_word(alloc, "evidence", "EVIDENCE"))
 }
 
 fn serve_command<'a>(alloc: Global) -> Result<Command<'a>, AllocError>

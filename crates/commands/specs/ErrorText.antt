@@ -8,9 +8,9 @@ use Rattle.blob_digest.specs.Digest.{DigestValue}
 use Rattle.blob_digest.specs.Text.{digest_text}
 use Rattle.remote.specs.Fault.{fault_text}
 use Rattle.commands.specs.declared.error.CommandError.{CommandError}
-use Rattle.commands.specs.declared.error.CommandError.TheVariants.{Accept, Address, Blob}
+use Rattle.commands.specs.declared.error.CommandError.TheVariants.{Accept, Address, Archive, Blob}
 use Rattle.commands.specs.declared.error.CommandError.TheVariants.{Connection, Digest, Entry, File}
-use Rattle.commands.specs.declared.error.CommandError.TheVariants.{InvalidValue}
+use Rattle.commands.specs.declared.error.CommandError.TheVariants.{DigestFile, InvalidValue}
 use Rattle.commands.specs.declared.error.CommandError.TheVariants.{Memory, NotAFile, Number, Output}
 use Rattle.commands.specs.declared.error.CommandError.TheVariants.{Process, Random, Server, Text}
 use Rattle.commands.specs.declared.error.CommandError.TheVariants.{TooLarge, Usage}
@@ -46,10 +46,12 @@ IsOfPath path said text = (quoted : List ℕ) × IsQuoted path quoted × (text �
 abbrev pub IsWordsAt : List ℕ → List ℕ → Type 0
 IsWordsAt path text = (said : List ℕ) × IsOfPath path said text
 
--- an option as it is written; the digest of `get` is a word without one
+-- an option as it is written; `get`'s digest and `verify`'s evidence are words without one
 abbrev pub written_option : List ℕ → List ℕ
 written_option option =
-    if bytes_eq option (codes "digest") then codes "<DIGEST>" else codes "--" ++ option
+    if bytes_eq option (codes "digest") then codes "<DIGEST>"
+    else (if bytes_eq option (codes "evidence") then codes "<EVIDENCE>"
+    else codes "--" ++ option)
 
 -- said of an option, for which this was given
 abbrev pub IsOfOption : List ℕ → List ℕ → List ℕ → List ℕ → Type 0
@@ -113,6 +115,9 @@ IsErrorText (Digest option given fault) text =
     (said : List ℕ) × IsOfOption option.now said (string_bytes given) text
 IsErrorText (Number option greatest given) text =
     IsOfOption option.now (codes "expected " ++ number_at_most greatest) (string_bytes given) text
+IsErrorText (DigestFile path fault) text = IsWordsAt (string_bytes path) text
+IsErrorText (Archive path at refusal) text = (words : List ℕ)
+    × IsOfPath (string_bytes path) (said_of (codes "at byte " ++ decimal at) words) text
 IsErrorText (Text path fault hint) text = IsWordsInLine (string_bytes path) fault.line hint text
 IsErrorText (File path fault) text = IsWordsAt (string_bytes path) text
 IsErrorText (NotAFile path) text = IsOfPath (string_bytes path) (codes "not a file") text

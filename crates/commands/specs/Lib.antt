@@ -2,6 +2,7 @@ pub mod Children
 pub mod Client
 pub mod Ended
 pub mod ErrorText
+pub mod Evidence
 pub mod Faults
 pub mod GetRefused
 pub mod Got

@@ -61,6 +61,7 @@ ComesOver (Some bytes) flow = (flow.coming ≡ Some bytes) × (flow.sent ≡ Som
 abbrev pub sees_world : Files → Files → Sight
 sees_world files replies = record sees_nothing {
   reads = λ path bytes. files path ≡ Some bytes;
+  opens = λ path contents. (files path ≡ contents) × IsSome contents;
   lists = λ path names. ⊥;
   stands = λ path found. (found ≡ a_file) × IsSome (files path);
   leads = λ path is. is ≡ false;

@@ -3,7 +3,7 @@ use Rattle.std.specs.Prelude.{ℕ}
 use Rattle.commands.specs.declared.error.CommandError.{CommandError}
 use Rattle.commands.specs.declared.error.CommandError.TheVariants.{Usage, Digest, Number, Text}
 use Rattle.commands.specs.declared.error.CommandError.TheVariants.{File, NotAFile, TooLarge}
-use Rattle.commands.specs.declared.error.CommandError.TheVariants.{InvalidValue}
+use Rattle.commands.specs.declared.error.CommandError.TheVariants.{Archive, DigestFile, InvalidValue}
 use Rattle.commands.specs.declared.error.CommandError.TheVariants.{Entry, Connection, Server}
 use Rattle.commands.specs.declared.error.CommandError.TheVariants.{Accept, Address, Random, Output}
 use Rattle.commands.specs.declared.error.CommandError.TheVariants.{Blob, Memory, Process}
@@ -16,6 +16,8 @@ exit_status (Digest option text fault) = 2
 exit_status (Number option greatest text) = 2
 exit_status (Text path fault hint) = 2
 exit_status (InvalidValue option expected text) = 2
+exit_status (DigestFile path fault) = 2
+exit_status (Archive path at refusal) = 2
 exit_status (File path fault) = 3
 exit_status (NotAFile path) = 3
 exit_status (TooLarge path) = 3

@@ -34,6 +34,8 @@ pub data FoundValue : Type 0 where
 pub record Sight : Type 1 where
   -- the file at the path was read, and had these bytes
   pub reads : List ℕ → List ℕ → Type 0
+  -- the file at the path was opened, and has these bytes, where they are known
+  pub opens : List ℕ → Option (List ℕ) → Type 0
   -- the folder at the path was read, and had entries of these names
   pub lists : List ℕ → List (List ℕ) → Type 0
   -- what was found stands at the path, where a link isn't followed
@@ -75,6 +77,7 @@ pub record Sight : Type 1 where
 abbrev pub sees_nothing : Sight
 sees_nothing = record {
   reads = λ _ _. Unit {0};
+  opens = λ _ _. Unit {0};
   lists = λ _ _. Unit {0};
   stands = λ _ _. Unit {0};
   leads = λ _ _. Unit {0};

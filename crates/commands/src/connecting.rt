@@ -1,6 +1,5 @@
 ghost use Rattle.std.specs.Prelude.{◌≡◌, ◌∷◌, [], IfOk, IsTrue, OnErr, OnOk, codes, string_bytes};
 ghost use Rattle.std.specs.Io.Buffered.{reader_buffer, reader_inner};
-ghost use Rattle.clap.specs.Words.{found_of, rows_of};
 ghost use Rattle.command_lines.specs.CommandLine.{option_text};
 ghost use Rattle.commands.specs.Options.{IsServerOf, IsTimeout, number_or};
 ghost use Rattle.commands.specs.Words.{IsCheckedBy, has_prefix, has_timeout, names_server};
@@ -8,9 +7,7 @@ ghost use Rattle.commands.specs.Words.{server_words};
 
 use crate::again::{read_again, write_again};
 use crate::error::CommandError;
-use crate::options::{invalid_value, is_address, limit_of, number_in};
-use clap::ArgMatches;
-use command_lines::{option_of, text_of};
+use crate::options::{Options, invalid_value, is_address, limit_of, number_in, text_for};
 use http_core::{Host, Prefix};
 use remote::Stream;
 use std::alloc::Global;
@@ -32,12 +29,12 @@ pub struct ServerOptions {
     pub timeout: Option<Duration>,
 }
 
-fn read_host(alloc: Global, matches: &ArgMatches<'_>) -> Result<Host<Global>, CommandError>
+fn read_host<M: Options>(alloc: Global, options: &M) -> Result<Host<Global>, CommandError>
     ensures host { IfOk result
-        (λ host. host ≡ option_text (rows_of (found_of matches.now)) (codes "server")) }
-    ensures checked { IsCheckedBy (names_server (rows_of (found_of matches.now)) ∷ []) result }
+        (λ host. host ≡ option_text (M.rows options.now) (codes "server")) }
+    ensures checked { IsCheckedBy (names_server (M.rows options.now) ∷ []) result }
 {
-    let address = text_of(matches, "server");
+    let address = text_for(options, "server");
     let host = Host::read(alloc, address)?;
     match host {
         Some(host) if is_address(address) => Ok(host),
@@ -46,15 +43,15 @@ fn read_host(alloc: Global, matches: &ArgMatches<'_>) -> Result<Host<Global>, Co
 }
 
 /// How long the server may be silent.
-fn read_timeout(alloc: Global, matches: &ArgMatches<'_>) -> Result<Option<Duration>, CommandError>
+fn read_timeout<M: Options>(alloc: Global, options: &M) -> Result<Option<Duration>, CommandError>
     ensures timeout { IfOk result
-        (IsTimeout (number_or 60 (rows_of (found_of matches.now)) (codes "timeout"))) }
-    ensures checked { IsCheckedBy (has_timeout (rows_of (found_of matches.now)) ∷ []) result }
+        (IsTimeout (number_or 60 (M.rows options.now) (codes "timeout"))) }
+    ensures checked { IsCheckedBy (has_timeout (M.rows options.now) ∷ []) result }
 {
-    if option_of(matches, "timeout").is_none() {
+    if options.text("timeout").is_none() {
         return Ok(limit_of(SILENT));
     }
-    let text = text_of(matches, "timeout");
+    let text = text_for(options, "timeout");
     match number_in(text) {
         Some(seconds) => Ok(limit_of(seconds)),
         None => Err(invalid_value(alloc, "timeout", "a number of seconds", text)?),
@@ -62,15 +59,15 @@ fn read_timeout(alloc: Global, matches: &ArgMatches<'_>) -> Result<Option<Durati
 }
 
 /// The prefix that the words give.
-pub(crate) fn read_prefix(
+pub(crate) fn read_prefix<M: Options>(
     alloc: Global,
-    matches: &ArgMatches<'_>,
+    options: &M,
 ) -> Result<Prefix<Global>, CommandError>
     ensures prefix { IfOk result
-        (λ prefix. prefix ≡ option_text (rows_of (found_of matches.now)) (codes "prefix")) }
-    ensures checked { IsCheckedBy (has_prefix (rows_of (found_of matches.now)) ∷ []) result }
+        (λ prefix. prefix ≡ option_text (M.rows options.now) (codes "prefix")) }
+    ensures checked { IsCheckedBy (has_prefix (M.rows options.now) ∷ []) result }
 {
-    let text = text_of(matches, "prefix");
+    let text = text_for(options, "prefix");
     match Prefix::read(alloc, text.as_bytes())? {
         Some(prefix) => Ok(prefix),
         None => Err(invalid_value(alloc, "prefix", "a path like /team/main", text)?),
@@ -78,15 +75,15 @@ pub(crate) fn read_prefix(
 }
 
 /// The server that the words name, with the timeout and the prefix that they give.
-pub fn read_server(alloc: Global, matches: &ArgMatches<'_>) -> Result<ServerOptions, CommandError>
-    ensures server { IfOk result (IsServerOf (rows_of (found_of matches.now))) }
-    ensures checked { IsCheckedBy (server_words (rows_of (found_of matches.now))) result }
+pub fn read_server<M: Options>(alloc: Global, options: &M) -> Result<ServerOptions, CommandError>
+    ensures server { IfOk result (IsServerOf (M.rows options.now)) }
+    ensures checked { IsCheckedBy (server_words (M.rows options.now)) result }
 {
-    let host = read_host(alloc, matches)?;
-    let timeout = read_timeout(alloc, matches)?;
-    let prefix = read_prefix(alloc, matches)?;
+    let host = read_host(alloc, options)?;
+    let timeout = read_timeout(alloc, options)?;
+    let prefix = read_prefix(alloc, options)?;
     Ok(ServerOptions {
-        address: String::from_str(alloc, text_of(matches, "server"))?,
+        address: String::from_str(alloc, text_for(options, "server"))?,
         host,
         prefix,
         timeout,

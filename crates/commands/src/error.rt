@@ -6,6 +6,7 @@ use crate::connecting::ServerOptions;
 use crate::failure::Failure;
 use crate::hint::Hint;
 use crate::process_fault::ProcessFault;
+use archive::Refusal;
 use blob_digest::{Digest, DigestError};
 use plan::PlanError;
 use service::NotAccepted;
@@ -28,6 +29,17 @@ pub enum CommandError {
         option: &'static str,
         greatest: u64,
         text: String,
+    },
+    /// The line of a file is no digest.
+    DigestFile {
+        path: String,
+        fault: DigestError,
+    },
+    /// A file is no archive that is read: the first header at fault, and how.
+    Archive {
+        path: String,
+        at: u64,
+        refusal: Refusal,
     },
     /// A line of a plan or of a record is at fault.
     Text {
@@ -102,6 +114,8 @@ impl CommandError {
             | CommandError::Digest { .. }
             | CommandError::Number { .. }
             | CommandError::InvalidValue { .. }
+            | CommandError::DigestFile { .. }
+            | CommandError::Archive { .. }
             | CommandError::Text { .. } => 2,
             CommandError::File { .. }
             | CommandError::NotAFile { .. }

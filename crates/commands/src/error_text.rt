@@ -9,6 +9,7 @@ use crate::error::CommandError;
 use crate::failure::{Failure, Method};
 use crate::hint::{Hint, hint_text};
 use crate::process_fault::{ProcessCause, ProcessFault};
+use archive::Refusal;
 use blob_digest::{Digest, DigestError};
 use plan::PlanError;
 use service::NotAccepted;
@@ -49,14 +50,16 @@ fn fault_at(alloc: Global, path: &str, fault: &io::Error) -> Result<String, Allo
     of_path(alloc, path, said.as_str())
 }
 
-/// An option as it is written. The digest of `get` is a word without one.
+/// An option as it is written. The digest of `get` and the evidence of `verify` are words without
+/// one.
 fn written_option(alloc: Global, option: &str) -> Result<String, AllocError>
     ensures { IfOk result (λ text. string_bytes text ≡ written_option option.now) }
 {
-    if option == "digest" {
-        return String::from_str(alloc, "<DIGEST>");
+    match option {
+        "digest" => String::from_str(alloc, "<DIGEST>"),
+        "evidence" => String::from_str(alloc, "<EVIDENCE>"),
+        _ => format!(in alloc; "--{option}"),
     }
-    format!(in alloc; "--{option}")
 }
 
 /// What is said of an option, for which a text was given.
@@ -121,6 +124,25 @@ fn faulty_line(
     let mut words = fault.fault.to_string(alloc)?;
     words.push_str(hint_text(hint))?;
     let said = said_of(alloc, head.as_str(), words.as_str())?;
+    of_path(alloc, path, said.as_str())
+}
+
+/// That a file is no archive, from a byte on.
+fn no_archive(alloc: Global, path: &str, at: u64, refusal: Refusal) -> Result<String, AllocError>
+    ensures { IfOk result (λ text. (words : List ℕ)
+        × IsOfPath path.now (said_of (codes "at byte " ++ decimal at) words) (string_bytes text)) }
+{
+    let head = format!(in alloc; "at byte {at}")?;
+    let words = refusal.to_string(alloc)?;
+    let said = said_of(alloc, head.as_str(), words.as_str())?;
+    of_path(alloc, path, said.as_str())
+}
+
+/// That the line of a file is no digest.
+fn no_digest_line(alloc: Global, path: &str, fault: &DigestError) -> Result<String, AllocError>
+    ensures { IfOk result (λ text. IsWordsAt path.now (string_bytes text)) }
+{
+    let said = fault.to_string(alloc)?;
     of_path(alloc, path, said.as_str())
 }
 
@@ -237,6 +259,10 @@ pub(crate) fn error_text(alloc: Global, error: &CommandError) -> Result<String, 
             text,
             fault,
         } => no_digest(alloc, option, fault, text.as_str()),
+        CommandError::DigestFile { path, fault } => no_digest_line(alloc, path.as_str(), fault),
+        CommandError::Archive { path, at, refusal } => {
+            no_archive(alloc, path.as_str(), *at, *refusal)
+        }
         CommandError::Number {
             option,
             greatest,

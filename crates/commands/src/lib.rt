@@ -3,6 +3,7 @@
 #![tactic(auto)]
 
 mod again;
+mod archived;
 mod blobs_and_results;
 mod children;
 mod client;
@@ -10,6 +11,8 @@ mod connecting;
 mod ended;
 mod error;
 mod error_text;
+mod evidence;
+mod evidence_options;
 mod failure;
 mod files;
 mod folder_store;
@@ -27,6 +30,7 @@ mod serving;
 mod telling;
 mod terminal_line;
 mod trees;
+mod verify_words;
 mod verifying;
 mod world;
 
@@ -34,17 +38,18 @@ pub use client::{AsksResults, Client, GetsAlone, Opened, Permit, PutsToo, open};
 pub use connecting::{Connection, ServerOptions, read_server};
 pub use ended::{Ended, Note};
 pub use error::CommandError;
+pub use evidence::run_verify;
 pub use failure::{Failure, Method};
 pub use getting::run_get;
 pub use hint::Hint;
 pub use laws::a_fault_has_one_hint;
 pub use memory_world::{MemoryWorld, verify_in_memory};
-pub use options::{invalid_value, number_in, read_digest};
+pub use options::{Options, invalid_value, number_in, read_digest};
 pub use printing::print_all;
 pub use process_fault::{ProcessCause, ProcessFault};
 pub use putting::run_put;
 pub use serving::run_serve;
 pub use telling::{tell, tell_note};
 pub use terminal_line::TerminalLine;
-pub use verifying::{plan_in_file, run_verify};
-pub use world::{Found, Hosting, Inputs, Listening, Outputs, Service, System, World};
+pub use verifying::plan_in_file;
+pub use world::{Archives, Found, Hosting, Inputs, Listening, Outputs, Service, System, World};

@@ -15,8 +15,9 @@ use crate::connecting::ServerOptions;
 use crate::ended::Ended;
 use crate::error::CommandError;
 use crate::files::unread;
-use crate::verifying::run_verify;
-use crate::world::{Found, Inputs, World};
+use crate::verifying::verify_asked;
+use crate::world::{Archives, Found, Inputs, World};
+use archive::Blocks;
 use clap::ArgMatches;
 use http_core::FailStream;
 use plan::{
@@ -123,7 +124,34 @@ impl Inputs for MemoryWorld {
     }
 }
 
-/// `verify` over a world in memory: its verdict is on what that holds.
+/// A file of a world in memory, open.
+#[derive(Drop)]
+pub struct MemoryFile(Vec<u8>);
+
+impl Blocks for MemoryFile {
+    ghost use Rattle.std.specs.Prelude.{Some};
+
+    ghost contents = { λ file. Some file.0.items };
+
+    fn size(&self) -> io::Result<u64> {
+        self.0.as_slice().size()
+    }
+
+    fn read_at(&self, offset: u64, buffer: &mut [u8]) -> io::Result<()> {
+        self.0.as_slice().read_at(offset, buffer)
+    }
+}
+
+impl Archives for MemoryWorld {
+    type File = MemoryFile;
+
+    fn open(&self, alloc: Global, path: &str) -> Result<MemoryFile, FileError<Global>> {
+        Ok(MemoryFile(self.read(alloc, path)?))
+    }
+}
+
+/// `verify` with its options, without evidence, over a world in memory: its verdict is on what that
+/// holds.
 pub fn verify_in_memory<O: Write>(
     alloc: Global,
     world: &MemoryWorld,
@@ -157,5 +185,5 @@ pub fn verify_in_memory<O: Write>(
     spells_one_record();
     faults_are_single_valued();
     record_faults_are_single_valued();
-    run_verify(alloc, world, matches, out)
+    verify_asked(alloc, world, matches, out)
 }

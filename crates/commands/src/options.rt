@@ -1,5 +1,4 @@
-ghost use Rattle.std.specs.Prelude.{◌↔◌, IfErr, IfOk, IsTrue, SomeIff};
-ghost use Rattle.clap.specs.Words.{found_of, rows_of};
+ghost use Rattle.std.specs.Prelude.{◌≡◌, ◌↔◌, IfErr, IfOk, IsTrue, SomeIff};
 ghost use Rattle.command_lines.specs.CommandLine.{option_text};
 ghost use Rattle.commands.specs.Faults.{IsDigestFault, IsInvalidValue};
 ghost use Rattle.commands.specs.Options.{IsAddress, IsNumber, IsTimeout, decimal_number};
@@ -8,22 +7,51 @@ ghost use Rattle.text_verifier.specs.Texts.{IsDigestText};
 use crate::error::CommandError;
 use blob_digest::Digest;
 use clap::ArgMatches;
-use command_lines::text_of;
+use command_lines::option_of;
 use std::alloc::{AllocError, Global};
 use std::time::Duration;
 
+/// The texts of a command's options.
+pub trait Options {
+    ghost use Rattle.std.specs.Prelude.{◌≡◌, List, option_map};
+    ghost use Rattle.clap.specs.Words.{Row, first_of};
+
+    ghost rows: { Self → List Row };
+
+    /// The text of an option, where it is there.
+    fn text(&self, option: &'static str) -> Option<&str>
+        ensures { option_map (λ s. s.now) result ≡ first_of option.now (Self.rows self.now) };
+}
+
+/// The options as they were said.
+impl Options for ArgMatches<'_> {
+    ghost use Rattle.clap.specs.Words.{found_of, rows_of};
+
+    ghost rows = { λ matches. rows_of (found_of matches) };
+
+    fn text(&self, option: &'static str) -> Option<&str> {
+        option_of(self, option)
+    }
+}
+
+/// The text of an option, or none of no bytes.
+pub(crate) fn text_for<'m, M: Options>(options: &'m M, option: &'static str) -> &'m str
+    ensures { result.now ≡ option_text (M.rows options.now) option.now }
+{
+    options.text(option).unwrap_or("")
+}
+
 /// The digest that an option spells.
-pub fn read_digest(
+pub fn read_digest<M: Options>(
     alloc: Global,
-    matches: &ArgMatches<'_>,
+    options: &M,
     option: &'static str,
 ) -> Result<Digest, CommandError>
-    ensures found { IfOk result
-        (IsDigestText (option_text (rows_of (found_of matches.now)) option.now)) }
+    ensures found { IfOk result (IsDigestText (option_text (M.rows options.now) option.now)) }
     ensures fault { IfErr result
-        (IsDigestFault option.now (option_text (rows_of (found_of matches.now)) option.now)) }
+        (IsDigestFault option.now (option_text (M.rows options.now) option.now)) }
 {
-    let text = text_of(matches, option);
+    let text = text_for(options, option);
     match Digest::read_text(text.as_bytes()) {
         Ok(digest) => Ok(digest),
         Err(fault) => Err(CommandError::Digest {

@@ -1,9 +1,10 @@
-ghost use Rattle.std.specs.Prelude.{◌≡◌, ◌∷◌, ◌↔◌, [], IfErr, IfOk, IfSome, IsFalse, IsTrue};
+ghost use Rattle.std.specs.Prelude.{◌≡◌, ◌∷◌, [], IfErr, IfOk, IfSome, IsFalse, IsTrue};
 ghost use Rattle.std.specs.Prelude.{None, OnErr, OnOk, codes, option_map, string_bytes};
 ghost use Rattle.std.specs.Io.KnownBytes.{Appends};
-ghost use Rattle.clap.specs.Words.{found_of, first_of, rows_of};
+ghost use Rattle.clap.specs.Words.{first_of};
 ghost use Rattle.command_lines.specs.CommandLine.{option_text};
 ghost use Rattle.commands.specs.Ended.{is_done};
+ghost use Rattle.commands.specs.Evidence.{AnswersVerdict};
 ghost use Rattle.commands.specs.Faults.{OrMemory};
 ghost use Rattle.commands.specs.Places.{FailsInFolder, FailsOver, IsFresh, IsOfFolder};
 ghost use Rattle.commands.specs.Places.{FailsOfParts, IsOfBoth, IsToldByParts, LacksOfBoth};
@@ -12,7 +13,7 @@ ghost use Rattle.commands.specs.Places.{LacksInFolder, LacksIt, LacksOfParts, Se
 ghost use Rattle.commands.specs.Places.{gets_alone};
 ghost use Rattle.commands.specs.Printed.{AsksQuestion, BeginsVerdict, IsNamedPlace, IsOfPlace};
 ghost use Rattle.commands.specs.Printed.{LacksAtPlace, LacksFolder, MayHaveFolder, NotesFolder};
-ghost use Rattle.commands.specs.Printed.{NotesStore, PrintsVerdict, named_folder};
+ghost use Rattle.commands.specs.Printed.{named_folder};
 ghost use Rattle.commands.specs.Refusal.{FailsDigests, FailsAtPlace, FailsPlan, FailsRecord};
 ghost use Rattle.commands.specs.Refusal.{FailsOfBoth, FailsServer, FailsVerify, HasPlanRead};
 ghost use Rattle.commands.specs.Refusal.{IsPrintFault};
@@ -23,7 +24,6 @@ ghost use Rattle.commands.specs.Words.{may_name_folder, place_words, server_word
 ghost use Rattle.remote.specs.Remote.{connection_of};
 ghost use Rattle.report.specs.Line.{IsOneLine};
 ghost use Rattle.text_verifier.specs.Texts.{IsDigestText};
-ghost use Rattle.verifier.specs.Verdict.{IsYes};
 
 use crate::blobs_and_results::BlobsAndResults;
 use crate::client::{Client, GetsAlone, GetsBlobs, Opened, open};
@@ -32,11 +32,9 @@ use crate::ended::{Ended, Note};
 use crate::error::CommandError;
 use crate::folder_store::{FolderMark, FolderStore};
 use crate::hint::Hint;
-use crate::options::{invalid_value, read_digest};
+use crate::options::{Options, invalid_value, read_digest, text_for};
 use crate::telling::write_bytes;
 use crate::world::{FilesOf, Inputs};
-use clap::ArgMatches;
-use command_lines::{option_of, text_of};
 use plan::{Plan, PlanError};
 use remote::{FileError, Remote, Stream};
 use std::alloc::{AllocError, Global};
@@ -55,16 +53,16 @@ enum RecordedBuild {
 }
 
 /// The digests that the words spell. That of the sources is read first.
-fn typed_digests(alloc: Global, matches: &ArgMatches<'_>) -> Result<Digests, CommandError>
+fn typed_digests<M: Options>(alloc: Global, options: &M) -> Result<Digests, CommandError>
     ensures sources { IfOk result (λ digests.
-        IsDigestText (option_text (rows_of (found_of matches.now)) (codes "sources"))
+        IsDigestText (option_text (M.rows options.now) (codes "sources"))
         digests.sources) }
     ensures claim { IfOk result (λ digests.
-        IsDigestText (option_text (rows_of (found_of matches.now)) (codes "claim")) digests.claim) }
-    ensures fault { IfErr result (FailsDigests (rows_of (found_of matches.now))) }
+        IsDigestText (option_text (M.rows options.now) (codes "claim")) digests.claim) }
+    ensures fault { IfErr result (FailsDigests (M.rows options.now)) }
 {
-    let sources = read_digest(alloc, matches, "sources")?;
-    let claim = read_digest(alloc, matches, "claim")?;
+    let sources = read_digest(alloc, options, "sources")?;
+    let claim = read_digest(alloc, options, "claim")?;
     Ok(Digests { sources, claim })
 }
 
@@ -83,15 +81,15 @@ fn text_error(alloc: Global, path: &str, text: &[u8], fault: PlanError) -> Comma
 }
 
 /// The plan in the file that the words name.
-pub fn plan_in_file<W: Inputs>(
+pub fn plan_in_file<W: Inputs, M: Options>(
     alloc: Global,
     world: &W,
-    matches: &ArgMatches<'_>,
+    options: &M,
 ) -> Result<Plan<Global>, CommandError>
-    ensures found { IfOk result (HasPlanRead (W.sees world.now) (rows_of (found_of matches.now))) }
-    ensures fault { IfErr result (FailsPlan (W.sees world.now) (rows_of (found_of matches.now))) }
+    ensures found { IfOk result (HasPlanRead (W.sees world.now) (M.rows options.now)) }
+    ensures fault { IfErr result (FailsPlan (W.sees world.now) (M.rows options.now)) }
 {
-    let path = text_of(matches, "plan");
+    let path = text_for(options, "plan");
     let bytes = world.read(alloc, path)?;
     let text = bytes.as_slice();
     match read_plan(alloc, text) {
@@ -102,23 +100,23 @@ pub fn plan_in_file<W: Inputs>(
 }
 
 /// What is asked: the digests, the plan, and the record of it in the file that the words name.
-fn read_case<W: Inputs>(
+fn read_case<W: Inputs, M: Options>(
     alloc: Global,
     world: &W,
-    matches: &ArgMatches<'_>,
+    options: &M,
     digests: Digests,
     plan: Plan<Global>,
 ) -> Result<Case<Global>, CommandError>
     requires sources { IsDigestText
-        (option_text (rows_of (found_of matches.now)) (codes "sources")) digests.sources }
+        (option_text (M.rows options.now) (codes "sources")) digests.sources }
     requires claim { IsDigestText
-        (option_text (rows_of (found_of matches.now)) (codes "claim")) digests.claim }
-    requires plan { HasPlanRead (W.sees world.now) (rows_of (found_of matches.now)) plan }
-    ensures asks { IfOk result (AsksQuestion (W.sees world.now) (rows_of (found_of matches.now))) }
-    ensures fault { IfErr result (FailsRecord (W.sees world.now) (rows_of (found_of matches.now))
+        (option_text (M.rows options.now) (codes "claim")) digests.claim }
+    requires plan { HasPlanRead (W.sees world.now) (M.rows options.now) plan }
+    ensures asks { IfOk result (AsksQuestion (W.sees world.now) (M.rows options.now)) }
+    ensures fault { IfErr result (FailsRecord (W.sees world.now) (M.rows options.now)
         plan) }
 {
-    let path = text_of(matches, "record");
+    let path = text_for(options, "record");
     let bytes = world.read(alloc, path)?;
     let text = bytes.as_slice();
     match Case::read(alloc, digests, plan, text) {
@@ -136,67 +134,67 @@ fn usage_error(alloc: Global, words: &str) -> Result<CommandError, AllocError>
 }
 
 /// An option that goes with a server isn't said beside `--store`.
-fn check_beside_store(
+fn check_beside_store<M: Options>(
     alloc: Global,
-    matches: &ArgMatches<'_>,
+    options: &M,
     option: &'static str,
 ) -> Result<(), CommandError>
-    requires { IsSaid (rows_of (found_of matches.now)) (codes "store") }
+    requires { IsSaid (M.rows options.now) (codes "store") }
     ensures checked { IsCheckedBy
-        (goes_with_server (rows_of (found_of matches.now)) option.now ∷ []) result }
-    ensures unsaid { OnOk result (first_of option.now (rows_of (found_of matches.now)) ≡ None) }
+        (goes_with_server (M.rows options.now) option.now ∷ []) result }
+    ensures unsaid { OnOk result (first_of option.now (M.rows options.now) ≡ None) }
 {
-    if option_of(matches, option).is_none() {
+    if options.text(option).is_none() {
         return Ok(());
     }
     Err(CommandError::Usage(format!(in alloc; "--{option} cannot be used with --store")?))
 }
 
 /// A folder for entries has a name, where the option for it is said.
-fn check_folder(
+fn check_folder<M: Options>(
     alloc: Global,
-    matches: &ArgMatches<'_>,
+    options: &M,
     option: &'static str,
 ) -> Result<(), CommandError>
-    ensures { IsCheckedBy (may_name_folder (rows_of (found_of matches.now)) option.now ∷ [])
+    ensures { IsCheckedBy (may_name_folder (M.rows options.now) option.now ∷ [])
         result }
 {
-    match option_of(matches, option) {
+    match options.text(option) {
         Some("") => Err(invalid_value(alloc, option, "a folder", "")?),
         _ => Ok(()),
     }
 }
 
 /// The server that the words name, with the folder for results, if they name one.
-fn read_server_place(alloc: Global, matches: &ArgMatches<'_>) -> Result<RecordedBuild, CommandError>
-    requires server { IsSaid (rows_of (found_of matches.now)) (codes "server") }
-    requires store { first_of (codes "store") (rows_of (found_of matches.now)) ≡ None }
-    ensures place { IfOk result (IsNamedPlace (rows_of (found_of matches.now))) }
-    ensures checked { IsCheckedBy (server_words (rows_of (found_of matches.now))) result }
+fn read_server_place<M: Options>(alloc: Global, options: &M) -> Result<RecordedBuild, CommandError>
+    requires server { IsSaid (M.rows options.now) (codes "server") }
+    requires store { first_of (codes "store") (M.rows options.now) ≡ None }
+    ensures place { IfOk result (IsNamedPlace (M.rows options.now)) }
+    ensures checked { IsCheckedBy (server_words (M.rows options.now)) result }
 {
-    let server = read_server(alloc, matches)?;
-    match option_of(matches, "results") {
+    let server = read_server(alloc, options)?;
+    match options.text("results") {
         Some(folder) => Ok(RecordedBuild::Both(server, String::from_str(alloc, folder)?)),
         None => Ok(RecordedBuild::Server(server)),
     }
 }
 
 /// Where the words say that the recorded build is: a store folder or a server, and not both.
-fn read_place(alloc: Global, matches: &ArgMatches<'_>) -> Result<RecordedBuild, CommandError>
-    ensures place { IfOk result (IsNamedPlace (rows_of (found_of matches.now))) }
-    ensures checked { IsCheckedBy (place_words (rows_of (found_of matches.now))) result }
+fn read_place<M: Options>(alloc: Global, options: &M) -> Result<RecordedBuild, CommandError>
+    ensures place { IfOk result (IsNamedPlace (M.rows options.now)) }
+    ensures checked { IsCheckedBy (place_words (M.rows options.now)) result }
 {
-    match (option_of(matches, "store"), option_of(matches, "server")) {
+    match (options.text("store"), options.text("server")) {
         (Some(folder), None) => {
-            check_beside_store(alloc, matches, "prefix")?;
-            check_beside_store(alloc, matches, "timeout")?;
-            check_beside_store(alloc, matches, "results")?;
-            check_folder(alloc, matches, "store")?;
+            check_beside_store(alloc, options, "prefix")?;
+            check_beside_store(alloc, options, "timeout")?;
+            check_beside_store(alloc, options, "results")?;
+            check_folder(alloc, options, "store")?;
             Ok(RecordedBuild::Folder(String::from_str(alloc, folder)?))
         }
         (None, Some(_)) => {
-            check_folder(alloc, matches, "results")?;
-            read_server_place(alloc, matches)
+            check_folder(alloc, options, "results")?;
+            read_server_place(alloc, options)
         }
         (Some(_), Some(_)) => Err(usage_error(alloc, "--store cannot be used with --server")?),
         (None, None) => Err(usage_error(alloc, "one of --store and --server is required")?),
@@ -343,19 +341,19 @@ fn judge_both<W: Inputs>(
 }
 
 /// The answer over the place where the recorded build is.
-fn judge<W: Inputs>(
+fn judge<W: Inputs, M: Options>(
     alloc: Global,
     world: &W,
-    matches: &ArgMatches<'_>,
+    options: &M,
     build: RecordedBuild,
     case: &Case<Global>,
 ) -> Result<Answer<Global>, CommandError>
-    requires { IsNamedPlace (rows_of (found_of matches.now)) build }
+    requires { IsNamedPlace (M.rows options.now) build }
     ensures answered { IfOk result
-        (IsAnsweredBy (IsOfPlace (W.sees world.now) (rows_of (found_of matches.now)))
-        (LacksAtPlace (W.sees world.now) (rows_of (found_of matches.now))) case.now) }
+        (IsAnsweredBy (IsOfPlace (W.sees world.now) (M.rows options.now))
+        (LacksAtPlace (W.sees world.now) (M.rows options.now)) case.now) }
     ensures fault { IfErr result
-        (OrMemory (λ e. ∥ FailsAtPlace (W.sees world.now) (rows_of (found_of matches.now)) e ∥₁)) }
+        (OrMemory (λ e. ∥ FailsAtPlace (W.sees world.now) (M.rows options.now) e ∥₁)) }
 {
     match build {
         RecordedBuild::Folder(folder) => judge_folder::<W, Brand>(alloc, world, folder, case),
@@ -383,11 +381,11 @@ fn print_line<O: Write>(answer: &Answer<Global>, out: &mut O) -> Result<(), Comm
 }
 
 /// The folder that the words name, as a store or for results, for a note.
-fn named_folder(alloc: Global, matches: &ArgMatches<'_>) -> Result<Option<String>, AllocError>
+fn named_folder<M: Options>(alloc: Global, options: &M) -> Result<Option<String>, AllocError>
     ensures { IfOk result (λ folder. option_map string_bytes folder
-        ≡ named_folder (rows_of (found_of matches.now))) }
+        ≡ named_folder (M.rows options.now)) }
 {
-    match option_of(matches, "store").or(option_of(matches, "results")) {
+    match options.text("store").or(options.text("results")) {
         Some(folder) => Ok(Some(String::from_str(alloc, folder)?)),
         None => Ok(None),
     }
@@ -422,38 +420,29 @@ fn ended_of<W: Inputs>(alloc: Global, world: &W, folder: Option<String>, is_yes:
     }
 }
 
-/// Prints the verdict's line, and answers done where it is yes. The words are read first, then the
-/// plan's file and its text, then the record's; then the store, the server or both are asked. By
-/// its bound it writes no file, and doesn't listen.
-pub fn run_verify<W: Inputs, O: Write>(
+/// Prints the line of the verdict that these options ask for. The words are read first, then the
+/// plan's file and its text, then the record's; then the store, the server or both are asked.
+pub(crate) fn verify_asked<W: Inputs, M: Options, O: Write>(
     alloc: Global,
     world: &W,
-    matches: &ArgMatches<'_>,
+    options: &M,
     out: &mut O,
 ) -> Result<Ended, CommandError>
-    ensures printed { IfOk result (λ ended.
-        (prints : PrintsVerdict (W.sees world.now) (rows_of (found_of matches.now))
-        (O.contents out.old)
-        (O.contents out.new))
-        × (IsTrue (is_done ended) ↔ IsYes prints.verdict)) }
-    ensures noted { IfOk result (NotesStore (W.sees world.now) (rows_of (found_of matches.now))) }
-    // Where it is for anything but the output, nothing was printed.
+    ensures answered { IfOk result (AnswersVerdict (W.sees world.now) (M.rows options.now)
+        (O.contents out.old) (O.contents out.new)) }
     ensures unprinted { IfErr result
         (λ fault. ¬ IsPrintFault fault → O.contents out.new ≡ O.contents out.old) }
-    // A refusal leaves no byte that isn't of that line, and no newline.
-    ensures begun { OnErr result (BeginsVerdict (W.sees world.now) (rows_of (found_of matches.now))
+    ensures begun { OnErr result (BeginsVerdict (W.sees world.now) (M.rows options.now)
         (O.contents out.old) (O.contents out.new)) }
     ensures unended { OnErr result (PrintsNoLine (O.contents out.old) (O.contents out.new)) }
-    // It is for the first fault: what comes before it has none.
-    ensures refused { IfErr result
-        (FailsVerify (W.sees world.now) (rows_of (found_of matches.now))) }
+    ensures refused { IfErr result (FailsVerify (W.sees world.now) (M.rows options.now)) }
 {
-    let build = read_place(alloc, matches)?;
-    let folder = named_folder(alloc, matches)?;
-    let digests = typed_digests(alloc, matches)?;
-    let plan = plan_in_file(alloc, world, matches)?;
-    let case = read_case(alloc, world, matches, digests, plan)?;
-    let answer = judge(alloc, world, matches, build, &case)?;
+    let build = read_place(alloc, options)?;
+    let folder = named_folder(alloc, options)?;
+    let digests = typed_digests(alloc, options)?;
+    let plan = plan_in_file(alloc, world, options)?;
+    let case = read_case(alloc, world, options, digests, plan)?;
+    let answer = judge(alloc, world, options, build, &case)?;
     print_line(&answer, out)?;
     Ok(ended_of(alloc, world, folder, answer.is_yes))
 }

@@ -13,6 +13,7 @@ use crate::connecting::{Connection, ServerOptions};
 use crate::files::{of_entry, unread};
 use crate::options::limit_of;
 use crate::replacing::{check_replaceable, replace_file};
+use archive::Blocks;
 use blob_digest::Digest;
 use blob_source::BlobSource;
 use cache_server::{Cache, Server};
@@ -126,6 +127,18 @@ pub trait Inputs: World {
             (Self.Link.flow link)) }
         ensures fault { IfErr result ((Self.sees self.now).refuses
             (string_bytes server.now.address)) };
+}
+
+/// Files that are read at offsets, so that an archive of any size is.
+pub trait Archives: World {
+    type File: Blocks + Drop;
+
+    /// The file at a path, open.
+    fn open(&self, alloc: Global, path: &str) -> Result<Self::File, FileError<Global>>
+        ensures opened { IfOk result (λ file.
+            (Self.sees self.now).opens path.now (Self.File.contents file)) }
+        ensures error { IfErr result (IsErrorOf path.now) }
+        ensures fault { IfErr result ((Self.sees self.now).fails path.now) };
 }
 
 /// What a command writes: files, and trees into folders.
@@ -250,6 +263,25 @@ impl<'r, R: AllocGlobal + Files + Net<Stream = TcpStream>> Inputs for System<'r,
 
     fn connect(&self, alloc: Global, server: &ServerOptions) -> io::Result<Connection<'r, R>> {
         Connection::open(alloc, self.0, server)
+    }
+}
+
+impl<R: AllocGlobal + Files<File = fs::File>> Archives for System<'_, R> {
+    type File = fs::File;
+
+    fn open(&self, alloc: Global, path: &str) -> Result<fs::File, FileError<Global>> {
+        match fs::metadata(self.0, path) {
+            Ok(metadata) if metadata.is_file() => {}
+            Ok(_) => {
+                let path = String::from_str(alloc, path)?;
+                return Err(FileError::NotAFile { path });
+            }
+            Err(fault) => return Err(unread(alloc, path, fault)),
+        }
+        match fs::open(self.0, path) {
+            Ok(file) => Ok(file),
+            Err(fault) => Err(unread(alloc, path, fault)),
+        }
     }
 }
 

@@ -34,7 +34,7 @@ pub returns-in_ok-run_verify-in-verify-clause-ended : goal.returns-in_ok-run_ver
 returns-in_ok-run_verify-in-verify-clause-ended g c =
     let words = map string_bytes c.args.words.now in
     let call = called_by words (codes "verify") (subcommand_rows_of c.in-Ok.matches) _ c.in-Ok.ensures.fails c.in-Ok.ensures.called (search rules) c.in-Some.ensures.rows in
-    verify_ends (g.P.Workplace.below c.args.workplace (errors_asked (options_of words))) words call.1 _ call.0 c.in_ok-run_verify-in-verify.ensures.printed c.in_ok-run_verify-in-verify.ensures.noted
+    verify_ends (g.P.Workplace.below c.args.workplace (errors_asked (options_of words))) words call.1 _ call.0 c.in_ok-run_verify-in-verify.ensures.answered
 
 pub returns-in_ok-run_get-in-get-clause-ended : goal.returns-in_ok-run_get-in-get-clause-ended
 returns-in_ok-run_get-in-get-clause-ended g c =

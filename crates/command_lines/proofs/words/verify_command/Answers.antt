@@ -5,7 +5,8 @@ use Rattle.command_lines.proofs.words.verify_command.Goals as goal
 
 pub returns : goal.returns
 returns c =
-    let with_1 = c.in_ok-arg.ensures.shape c.required.ensures.local ∙ ap₂ with_rule c.in_ok-placed_command.ensures c.required.ensures.rule in
-    let with_2 = c.in_ok-arg-2.ensures.shape c.required-2.ensures.local ∙ ap₂ with_rule with_1 c.required-2.ensures.rule in
-    let with_3 = c.in_ok-arg-3.ensures.shape c.required-3.ensures.local ∙ ap₂ with_rule with_2 c.required-3.ensures.rule in
-    IfOk-weaker c.arg-4.result _ _ (λ r h. h.shape c.required-4.ensures.local ∙ ap₂ with_rule with_3 c.required-4.ensures.rule) c.arg-4.ensures
+    let with_1 = c.in_ok-arg.ensures.shape c.optional.ensures.local ∙ ap₂ with_rule c.in_ok-placed_command.ensures c.optional.ensures.rule in
+    let with_2 = c.in_ok-arg-2.ensures.shape c.optional-2.ensures.local ∙ ap₂ with_rule with_1 c.optional-2.ensures.rule in
+    let with_3 = c.in_ok-arg-3.ensures.shape c.optional-3.ensures.local ∙ ap₂ with_rule with_2 c.optional-3.ensures.rule in
+    let with_4 = c.in_ok-arg-4.ensures.shape c.optional-4.ensures.local ∙ ap₂ with_rule with_3 c.optional-4.ensures.rule in
+    IfOk-weaker c.arg-5.result _ _ (λ r h. h.shape c.optional_word.ensures.local ∙ ap₂ with_rule with_4 c.optional_word.ensures.rule) c.arg-5.ensures

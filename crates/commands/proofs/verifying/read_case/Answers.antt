@@ -1,6 +1,5 @@
 use Rattle.std.proofs.Common.{subst, sym}
 use Rattle.std.specs.Prelude.{codes}
-use Rattle.clap.specs.Words.{found_of, rows_of}
 use Rattle.command_lines.specs.CommandLine.{option_text}
 use Rattle.plan.specs.Record.{IsRecordFault, names_of}
 use Rattle.text_verifier.specs.Refused.{IsRecordRefusal}
@@ -12,16 +11,16 @@ use Rattle.commands.proofs.verifying.read_case.Goals as goal
 pub returns-in_err-bytes-clause-fault : goal.returns-in_err-bytes-clause-fault
 returns-in_err-bytes-clause-fault g c =
     let sees = g.W.World.sees c.args.world.now in
-    let options = rows_of (found_of c.args.matches.now) in
+    let options = g.M.Options.rows c.args.options.now in
     exit_by (FailsRecord sees options c.args.plan) _ c.from_residual.ensures.1
-    (unread_fails sees c.text_of-path.result.now (option_text options (codes "record")) (IsRecordFault (names_of c.args.plan)) c.text_of-path.ensures _ c.in_err-bytes.ensures.fault)
+    (unread_fails sees c.text_for-path.result.now (option_text options (codes "record")) (IsRecordFault (names_of c.args.plan)) c.text_for-path.ensures _ c.in_err-bytes.ensures.fault)
 
 pub returns-in-Err-Record-clause-fault : goal.returns-in-Err-Record-clause-fault
 returns-in-Err-Record-clause-fault g c =
     let sees = g.W.World.sees c.args.world.now in
-    let path = c.text_of-path.result.now in
+    let path = c.text_for-path.result.now in
     let text = c.as_slice-text.result.now in
     let names = names_of c.args.plan in
-    text_fails sees path (option_text (rows_of (found_of c.args.matches.now)) (codes "record")) (IsRecordFault names) c.text_of-path.ensures text c.in-Err-Record.fault _
+    text_fails sees path (option_text (g.M.Options.rows c.args.options.now) (codes "record")) (IsRecordFault names) c.text_for-path.ensures text c.in-Err-Record.fault _
     (subst (sees.reads path) (sym c.as_slice-text.ensures.value) c.in_ok-bytes.ensures.read)
     (subst (IsRecordRefusal names text) c.in-Err-Record.field-0-is c.in-Err-Record.ensures.fault) c.text_error.ensures

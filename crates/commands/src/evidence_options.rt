@@ -1,0 +1,156 @@
+ghost use Rattle.std.specs.Prelude.{◌≡◌, ◌↔◌, IfErr, IfOk, None, codes, string_bytes};
+ghost use Rattle.clap.specs.Words.{first_of};
+ghost use Rattle.commands.specs.Evidence.{FailsDigestLine, FailsStated, HasDigestLine, IsLineFault};
+ghost use Rattle.commands.specs.Evidence.{IsLineOf, IsStated, entries_option, in_evidence};
+ghost use Rattle.blob_digest.specs.Text.{BeginsWithHash};
+ghost use Rattle.commands.specs.Faults.{OrMemory, SpellsNone};
+
+use crate::error::CommandError;
+use crate::options::Options;
+use crate::world::Inputs;
+use blob_digest::{Digest, DigestError};
+use std::alloc::{AllocError, Global};
+
+/// The options by which evidence is judged: what it states stands before what was said.
+#[derive(Drop)]
+pub(crate) struct EvidenceOptions<'m, M> {
+    sources: String,
+    claim: String,
+    plan: String,
+    noted: String,
+    /// The option for the entries: `store`, or `results` beside a server.
+    place: &'static str,
+    entries: String,
+    said: &'m M,
+}
+
+impl<M: Options> Options for EvidenceOptions<'_, M> {
+    ghost use Rattle.commands.specs.Evidence.{options_in};
+
+    ghost rows = { λ o. options_in (M.rows o.said.now) o };
+
+    fn text(&self, option: &'static str) -> Option<&str> {
+        match option {
+            "sources" => Some(self.sources.as_str()),
+            "claim" => Some(self.claim.as_str()),
+            "plan" => Some(self.plan.as_str()),
+            "record" => Some(self.noted.as_str()),
+            _ if option == self.place => Some(self.entries.as_str()),
+            _ => self.said.text(option),
+        }
+    }
+}
+
+/// A text without the newline at its end.
+fn line_of(text: &[u8]) -> &[u8]
+    ensures { IsLineOf text.now result.now }
+{
+    match text.split_last() {
+        Some((b'\n', line)) => line,
+        _ => text,
+    }
+}
+
+/// The error of a file whose line is no digest.
+fn line_error(
+    alloc: Global,
+    path: &str,
+    line: &[u8],
+    fault: DigestError,
+) -> Result<CommandError, AllocError>
+    requires none { SpellsNone line.now }
+    requires hash { (fault ≡ DigestError.BadHex) ↔ ¬ BeginsWithHash line.now }
+    ensures { IfOk result (IsLineFault path.now line.now) }
+{
+    let _ = line;
+    let path = String::from_str(alloc, path)?;
+    Ok(CommandError::DigestFile { path, fault })
+}
+
+/// The digest that a file has as its line.
+fn digest_in_file<W: Inputs>(alloc: Global, world: &W, path: &str) -> Result<Digest, CommandError>
+    ensures found { IfOk result (HasDigestLine (W.sees world.now) path.now) }
+    ensures fault { IfErr result (OrMemory (FailsDigestLine (W.sees world.now) path.now)) }
+{
+    let text = world.read(alloc, path)?;
+    let line = line_of(&text);
+    match Digest::read_text(line) {
+        Ok(digest) => Ok(digest),
+        Err(fault) => Err(line_error(alloc, path, line, fault)?),
+    }
+}
+
+/// The path of what evidence has under a name.
+fn path_in(alloc: Global, evidence: &str, name: &str) -> Result<String, AllocError>
+    ensures { IfOk result (λ path. string_bytes path ≡ in_evidence evidence.now name.now) }
+{
+    format!(in alloc; "{evidence}/{name}")
+}
+
+/// The text of a digest's option: as it was said, or that of the evidence's file of its name.
+fn stated_digest<W: Inputs, M: Options>(
+    alloc: Global,
+    world: &W,
+    options: &M,
+    evidence: &str,
+    name: &'static str,
+) -> Result<String, CommandError>
+    ensures stated { IfOk result (λ text.
+        IsStated (W.sees world.now) (M.rows options.now) evidence.now name.now
+        (string_bytes text)) }
+    ensures fault { IfErr result (OrMemory (λ e.
+        (first_of name.now (M.rows options.now) ≡ None)
+        × FailsDigestLine (W.sees world.now) (in_evidence evidence.now name.now) e)) }
+{
+    if let Some(said) = options.text(name) {
+        return Ok(String::from_str(alloc, said)?);
+    }
+    let path = path_in(alloc, evidence, name)?;
+    let digest = digest_in_file(alloc, world, path.as_str())?;
+    Ok(digest.write_text(alloc)?)
+}
+
+/// The option for the entries of evidence.
+fn entries_option<M: Options>(said: &M) -> &'static str
+    ensures { result.now ≡ entries_option (M.rows said.now) }
+{
+    match said.text("server") {
+        Some(_) => "results",
+        None => "store",
+    }
+}
+
+/// The options that say what evidence does, with its digests and the place of its entries.
+pub(crate) fn read_options<'m, W: Inputs, M: Options>(
+    alloc: Global,
+    world: &W,
+    said: &'m M,
+    evidence: &str,
+) -> Result<EvidenceOptions<'m, M>, CommandError>
+    ensures sources { IfOk result (λ o. IsStated (W.sees world.now) (M.rows said.now) evidence.now
+        (codes "sources") (string_bytes o.sources)) }
+    ensures claim { IfOk result (λ o. IsStated (W.sees world.now) (M.rows said.now) evidence.now
+        (codes "claim") (string_bytes o.claim)) }
+    ensures plan { IfOk result (λ o.
+        string_bytes o.plan ≡ in_evidence evidence.now (codes "plan")) }
+    ensures noted { IfOk result (λ o.
+        string_bytes o.noted ≡ in_evidence evidence.now (codes "record")) }
+    ensures place { IfOk result (λ o. o.place.now ≡ entries_option (M.rows said.now)) }
+    ensures entries { IfOk result (λ o.
+        string_bytes o.entries ≡ in_evidence evidence.now (codes "store")) }
+    ensures said { IfOk result (λ o. o.said.now ≡ said.now) }
+    ensures fault { IfErr result
+        (OrMemory (FailsStated (W.sees world.now) (M.rows said.now) evidence.now)) }
+{
+    let sources = stated_digest(alloc, world, said, evidence, "sources")?;
+    let claim = stated_digest(alloc, world, said, evidence, "claim")?;
+    Ok(EvidenceOptions {
+        sources,
+        claim,
+        plan: path_in(alloc, evidence, "plan")?,
+        noted: path_in(alloc, evidence, "record")?,
+        place: entries_option(said),
+        entries: path_in(alloc, evidence, "store")?,
+        said,
+    })
+}

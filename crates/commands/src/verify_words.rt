@@ -1,0 +1,112 @@
+ghost use Rattle.std.specs.Prelude.{◌≡◌, ◌∷◌, [], IfOk, codes, map, string_bytes};
+ghost use Rattle.commands.specs.Evidence.{evidence_words, goes_alone, has_wanted, missing};
+ghost use Rattle.commands.specs.Evidence.{missing_option};
+ghost use Rattle.commands.specs.Evidence.{names_evidence, needs_server};
+ghost use Rattle.commands.specs.Words.{IsCheckedBy, server_words, where_said};
+
+use crate::connecting::read_server;
+use crate::error::CommandError;
+use crate::options::{Options, invalid_value, text_for};
+use std::alloc::{AllocError, Global};
+
+/// An option that is wanted where no evidence is named, as help writes it, if it isn't said.
+fn missing_option<M: Options>(
+    alloc: Global,
+    options: &M,
+    option: &'static str,
+    value: &str,
+) -> Result<String, AllocError>
+    ensures { IfOk result (λ text. string_bytes text
+        ≡ missing_option (M.rows options.now) option.now value.now) }
+{
+    if options.text(option).is_some() {
+        return Ok(String::new(alloc));
+    }
+    format!(in alloc; " --{option} <{value}>")
+}
+
+/// All that is wanted where no evidence is named, and isn't said.
+fn missing_options<M: Options>(alloc: Global, options: &M) -> Result<String, AllocError>
+    ensures { IfOk result (λ text. string_bytes text ≡ missing (M.rows options.now)) }
+{
+    let sources = missing_option(alloc, options, "sources", "DIGEST")?;
+    let plan = missing_option(alloc, options, "plan", "FILE")?;
+    let record = missing_option(alloc, options, "record", "FILE")?;
+    let claim = missing_option(alloc, options, "claim", "DIGEST")?;
+    format!(in alloc; "{sources}{plan}{record}{claim}")
+}
+
+/// Without evidence all that is wanted is said.
+pub(crate) fn check_wanted<M: Options>(alloc: Global, options: &M) -> Result<(), CommandError>
+    ensures { IsCheckedBy (has_wanted (M.rows options.now) ∷ []) result }
+{
+    let missing = missing_options(alloc, options)?;
+    if missing.is_empty() {
+        return Ok(());
+    }
+    let head = "the following required arguments were not provided:";
+    Err(CommandError::Usage(format!(in alloc; "{head}{missing}, or <EVIDENCE>")?))
+}
+
+/// An option that can't stand beside evidence isn't said.
+fn check_alone<M: Options>(
+    alloc: Global,
+    options: &M,
+    option: &'static str,
+) -> Result<(), CommandError>
+    ensures { IsCheckedBy (goes_alone (M.rows options.now) option.now ∷ []) result }
+{
+    if options.text(option).is_none() {
+        return Ok(());
+    }
+    Err(CommandError::Usage(format!(in alloc; "--{option} cannot be used with <EVIDENCE>")?))
+}
+
+/// An option that is of a server isn't said without one.
+fn check_with_server<M: Options>(
+    alloc: Global,
+    options: &M,
+    option: &'static str,
+) -> Result<(), CommandError>
+    ensures { IsCheckedBy (needs_server (M.rows options.now) option.now ∷ []) result }
+{
+    if options.text(option).is_none() || options.text("server").is_some() {
+        return Ok(());
+    }
+    Err(CommandError::Usage(format!(in alloc; "--{option} cannot be used without --server")?))
+}
+
+/// The path of evidence isn't empty.
+fn check_named<M: Options>(alloc: Global, options: &M) -> Result<(), CommandError>
+    ensures { IsCheckedBy (names_evidence (M.rows options.now) ∷ []) result }
+{
+    if text_for(options, "evidence").is_empty() {
+        return Err(invalid_value(alloc, "evidence", "a folder or an archive", "")?);
+    }
+    Ok(())
+}
+
+/// What is said of a server is valid, where one is said.
+fn check_server<M: Options>(alloc: Global, options: &M) -> Result<(), CommandError>
+    ensures { IsCheckedBy (map (where_said (M.rows options.now) (codes "server"))
+        (server_words (M.rows options.now))) result }
+{
+    if options.text("server").is_some() {
+        read_server(alloc, options)?;
+    }
+    Ok(())
+}
+
+/// What is said beside evidence goes with it.
+pub(crate) fn check_words<M: Options>(alloc: Global, options: &M) -> Result<(), CommandError>
+    ensures { IsCheckedBy (evidence_words (M.rows options.now)) result }
+{
+    check_alone(alloc, options, "plan")?;
+    check_alone(alloc, options, "record")?;
+    check_alone(alloc, options, "store")?;
+    check_alone(alloc, options, "results")?;
+    check_with_server(alloc, options, "prefix")?;
+    check_with_server(alloc, options, "timeout")?;
+    check_named(alloc, options)?;
+    check_server(alloc, options)
+}
