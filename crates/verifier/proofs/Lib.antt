@@ -45,3 +45,9 @@ pub mod Totals
 pub mod VerdictTotal
 pub mod NamedMessages
 pub mod FiniteLooks
+pub mod Lasting
+pub mod Alike
+pub mod AlikeMerges
+pub mod AlikeSteps
+pub mod VerdictsAlike
+pub mod TwoTellings

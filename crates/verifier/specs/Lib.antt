@@ -10,6 +10,7 @@ pub mod Named
 pub mod StepChecks
 pub mod Checks
 pub mod Verdict
+pub mod TwoTellings
 pub mod BuildStages
 pub mod AsRecorded
 pub mod TwoBuilds

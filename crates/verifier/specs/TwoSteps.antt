@@ -3,6 +3,7 @@
 -- The source tree is empty.
 use Rattle.std.specs.Prelude.{ℕ, pos, false, List, [], ◌∷◌, codes, Some, None, Result, Ok, Err}
 use Rattle.std.specs.Prelude.{true, if◌then◌else◌}
+use Rattle.std.specs.Option.{unwrap_or}
 use Rattle.std.specs.Ordering.{is_eq}
 use Rattle.hex.specs.declared.error.FromHexError.{FromHexError}
 use Rattle.hex.specs.Hex.{decode_of}
@@ -388,3 +389,11 @@ rerun_claim = digest_named
 
 abbrev pub silent : Telling
 silent = record { blobs = λ d. None; results = λ d. None; failures = 0; calls = 0; puts = [] }
+
+-- ---- a source that tells more: the empty bytes wherever else it would tell nothing
+
+abbrev pub filled : Blobs → Blobs
+filled told d = Some (unwrap_or (told d) [])
+
+abbrev pub lavish : Telling
+lavish = record telling { blobs = filled blobs; results = filled results }

@@ -16,6 +16,7 @@ ghost use Rattle.verifier.specs.declared.verdict.Cause.TheVariants.{BlobMissing,
 ghost use Rattle.verifier.specs.declared.verdict.Cause.TheVariants.{OriginMissing, InputConflict};
 ghost use Rattle.verifier.specs.declared.verdict.Cause.TheVariants.{FrameDiffers, ExitCode};
 ghost use Rattle.verifier.specs.declared.verdict.Cause.TheVariants.{OutputUnlisted};
+ghost use Rattle.verifier.specs.declared.verdict.Place.{Place};
 ghost use Rattle.verifier.specs.declared.verdict.Place.TheVariants.{Root, Step};
 ghost use Rattle.verifier.specs.declared.verdict.Verdict.{Verdict};
 ghost use Rattle.verifier.specs.declared.verdict.Verdict.TheVariants.{Yes, No};
@@ -44,6 +45,7 @@ ghost use Rattle.verifier.specs.Unbuilt.{IsOfLines, NoRunStarts, NoRunHasRoot};
 ghost use Rattle.verifier.specs.Unbuilt.{IsOfAction, NoRunHasAction, EveryRunEndsStep};
 ghost use Rattle.verifier.specs.Unbuilt.{EndsWithCode, MakesUnlisted};
 ghost use Rattle.verifier.specs.Verdict.{IsVerdict, IsYes};
+ghost use Rattle.verifier.specs.TwoTellings.{TellsMore, TellAlike, IsForMissing};
 
 use std::alloc::Allocator;
 
@@ -282,6 +284,54 @@ pub fn verdicts_are_single_valued<A: Allocator>()
         → IsVerdict tells sources plan recorded claim w → v ≡ w }
 {}
 
+/// A verdict depends on nothing but what its checks look at: where two sources tell the same there,
+/// or nothing both, they have one verdict, and the checks look at the same. A law: it does nothing.
+pub fn verdicts_depend_on_what_is_looked_at<A: Allocator>()
+    ensures verdict { (one other : Telling) (sources : DigestValue) (plan : PlanValue)
+        (recorded : List DigestValue) (claim : DigestValue) (v : Verdict A)
+        → TellAlike (PlanLooksAt A one sources plan recorded) one other
+        → (IsVerdict one sources plan recorded claim v
+        ↔ IsVerdict other sources plan recorded claim v) }
+    ensures looks { (one other : Telling) (sources : DigestValue) (plan : PlanValue)
+        (recorded : List DigestValue) (a : Asked)
+        → TellAlike (PlanLooksAt A one sources plan recorded) one other
+        → (PlanLooksAt A one sources plan recorded a
+        ↔ PlanLooksAt A other sources plan recorded a) }
+{}
+
+/// A yes stays a yes when a source tells more. So does each no that isn't for something missing. A
+/// law: it does nothing.
+pub fn verdicts_stay_when_more_is_told<A: Allocator>()
+    ensures yes { (fewer more : Telling) (sources : DigestValue) (plan : PlanValue)
+        (recorded : List DigestValue) (claim root : DigestValue) (steps : ℕ)
+        → TellsMore fewer more
+        → IsVerdict {A = A} fewer sources plan recorded claim (Yes root steps)
+        → IsVerdict {A = A} more sources plan recorded claim (Yes root steps) }
+    ensures no { (fewer more : Telling) (sources : DigestValue) (plan : PlanValue)
+        (recorded : List DigestValue) (claim : DigestValue) (place : Place A) (cause : Cause A)
+        → TellsMore fewer more → (IsForMissing (No place cause) → ⊥)
+        → IsVerdict fewer sources plan recorded claim (No place cause)
+        → IsVerdict more sources plan recorded claim (No place cause) }
+{}
+
+/// Where a source only forgets, a yes becomes a yes or a no for something missing, and a no stays
+/// that no or becomes one for something missing. A law: it does nothing.
+pub fn what_is_forgotten_is_missing<A: Allocator>()
+    ensures same { (more fewer : Telling) (sources : DigestValue) (plan : PlanValue)
+        (recorded : List DigestValue) (claim : DigestValue) (v w : Verdict A)
+        → TellsMore fewer more
+        → IsVerdict more sources plan recorded claim v
+        → IsVerdict fewer sources plan recorded claim w
+        → ((w ≡ v) ⊎ IsForMissing w) }
+    // A blob that is missing then and wasn't before was told before.
+    ensures told { (more fewer : Telling) (sources : DigestValue) (plan : PlanValue)
+        (recorded : List DigestValue) (claim d : DigestValue) (v : Verdict A) (place : Place A)
+        → TellsMore fewer more
+        → IsVerdict more sources plan recorded claim v → v ≢ No place (BlobMissing d)
+        → IsVerdict fewer sources plan recorded claim (No place (BlobMissing d))
+        → (bytes : List ℕ) × (more.blobs d ≡ Some bytes) }
+{}
+
 /// The premises of what a yes says can be met together, where the verdict is yes: by a build of two
 /// steps, one of which is started three times and lost once. A law: it does nothing.
 pub fn a_build_meets_the_premises()
@@ -380,6 +430,24 @@ pub fn two_builds_meet_the_premises()
     // The first step is alike, and the second isn't.
     ensures alike { IsAlike two.telling two.rerun two.recorded two.recorded 0 }
     ensures unlike { IsUnlike two.telling two.rerun two.recorded two.recorded 1 }
+{}
+
+/// The premises of what is said of two sources can be met together: where all is forgotten that was
+/// told of the build of two steps, where more is told, and where they are alike at what is looked
+/// at. A law: it does nothing.
+pub fn two_sources_meet_the_premises<A: Allocator>()
+    ensures less { TellsMore two.silent two.telling }
+    ensures yes { IsVerdict {A = A} two.telling two.sources two.plan two.recorded two.claim
+        (Yes two.claim 2) }
+    ensures no { IsVerdict {A = A} two.silent two.sources two.plan two.recorded two.claim
+        (No (Step (codes "gen")) (BlobMissing two.gen_action_digest)) }
+    // More is told after a yes, and after a no for another root.
+    ensures more { TellsMore two.telling two.lavish }
+    ensures other { IsVerdict {A = A} two.telling two.sources two.plan two.recorded two.sources
+        (No Root (RootDiffers two.claim)) }
+    // Where nothing is told, no result is looked at.
+    ensures alike { TellAlike (PlanLooksAt A two.silent two.sources two.plan two.recorded)
+        two.silent (record two.silent { results = two.results }) }
 {}
 
 /// What the words of a record and of outcomes come to. A law: it does nothing.

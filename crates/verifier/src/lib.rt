@@ -17,8 +17,10 @@ pub use laws::{
     no_is_unlike_recorded, only_messages_are_looked_at, other_actions_are_never_run,
     outcomes_are_maps, plans_have_verdicts, recorded_plans_end_in_the_claim,
     stages_end_in_the_last_claim, stages_meet_the_premises, steps_are_as_recorded,
-    verdicts_are_single_valued, version_one_is_grafted, what_is_looked_at_is_finite,
-    yes_is_as_recorded,
+    two_builds_meet_the_premises, two_sources_meet_the_premises, two_yeses_differ_at_an_action,
+    verdicts_are_single_valued, verdicts_depend_on_what_is_looked_at,
+    verdicts_stay_when_more_is_told, version_one_is_grafted, what_is_forgotten_is_missing,
+    what_is_looked_at_is_finite, yes_is_as_recorded,
 };
 pub use origins::{Outcomes, put_together};
 pub use verdict::{Cause, Place, Verdict};
