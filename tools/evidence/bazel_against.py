@@ -1,5 +1,5 @@
 """The steps of a recorded build beside the log of another build of the same sources, as the one that was shipped: which actions
-came to other results there, and which only read what those made. The rules are those of docs/VERIFY_BAZEL.md."""
+came to other results there, and which only read what those made. The rules are those of tools/evidence/README.md."""
 
 from collections import Counter
 

@@ -1,5 +1,5 @@
 """What the artifact of a build has: which outputs of the log, and the folder on disk that is shipped. The rules are those of
-docs/VERIFY_BAZEL.md."""
+tools/evidence/README.md."""
 
 import hashlib
 import re

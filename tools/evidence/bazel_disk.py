@@ -1,5 +1,5 @@
 """The outputs of the recorded build on disk, compared with what its log says of them. Bazel 4.2.3 logs an output directory only
-up to a link to a folder in it, and not what rules write without a command. The rules are those of docs/VERIFY_BAZEL.md."""
+up to a link to a folder in it, and not what rules write without a command. The rules are those of tools/evidence/README.md."""
 
 import os
 import re

@@ -1,5 +1,5 @@
 """What the lines of a step give it: the files that it reads, and whole directories where it reads all that lies below them. The
-rules are those of docs/VERIFY_BAZEL.md."""
+rules are those of tools/evidence/README.md."""
 
 from collections import Counter
 

@@ -1,5 +1,5 @@
 """Bazel's execution log, as `--execution_log_json_file` writes it: the spawns, each as it is read, or why there is no plan
-of it. The rules are those of docs/VERIFY_BAZEL.md."""
+of it. The rules are those of tools/evidence/README.md."""
 
 import functools
 import json

@@ -15,12 +15,15 @@ that Bazel ran). FOLDER gets these files:
     store/            cas/HASH and ac/HASH: commands, actions, directories, trees and results, not the contents of files;
                       with --store in another folder; with --server the blobs are in a cache over HTTP
 
+With --archive FILE all that would be in FOLDER is in one tar archive, stage by stage (docs/FORMATS.md, Archives). Where --store
+names such an archive, of earlier evidence, it has to have no other result of an action, and nothing is put into it.
+
 With --stages, or where one plan doesn't hold all steps, each stage has a folder 1, 2, .. in FOLDER with a plan, a record,
 sources and a claim of its own, and the file `stages` names these folders; tools/evidence/verify_stages.py verifies them.
 
-The rules are those of docs/VERIFY_BAZEL.md. What a plan can't say is refused with status 2 and one line, which names
+The rules are those of tools/evidence/README.md. What a plan can't say is refused with status 2 and one line, which names
 the file, the line of the log at which the spawn begins, and the spawn; then none of the files is written, and FOLDER has
-no claim of a run before.
+no claim of a run before, or FILE isn't there.
 """
 
 import contextlib
@@ -30,9 +33,10 @@ import os
 import sys
 from dataclasses import dataclass
 
+import archives
 from bazel_against import Against
 from bazel_disk import Disk
-from bazel_stages import builds_of, length
+from bazel_stages import builds_of, groups_of, length
 from bazel_steps import Asked, Steps, spawns_of, steps_of
 from bazel_taken import is_of_outputs
 from plans import MOST_STEPS, check_sizes, escaped, files_at
@@ -70,8 +74,12 @@ WRITTEN = ("claim", "plan", "record", "sources", "stages", "taken", "sources.sum
 
 
 def forget_run(options):
-    """Removes what an earlier run wrote into FOLDER, but for the store, so that nothing of it is verified if this run fails."""
-    if lies_in_artifact(options, options.folder):
+    """Removes what an earlier run wrote into FOLDER, but for the store, or as FILE, so that nothing of it is verified if this run
+    fails."""
+    if lies_in_artifact(options, options.archive or options.folder):
+        return
+    if options.archive is not None:
+        archives.forget(options.archive)
         return
     for name in WRITTEN:
         stores.forget(os.path.join(options.folder, name))
@@ -91,22 +99,21 @@ def is_of_checkout(path):
 
 def write(made, folder, store):
     """Writes all: the blobs before the results that refer to them, then the files of FOLDER, and the claim last."""
-    steps = made.steps
-    steps.store.put_into(store)
-    claimed = dict(it for name, entry in steps.claimed().items() for it in files_at(name, entry))
-    whole = {
-        "taken": map(escaped, steps.taken), "sources": [made.sources.text()],
-        "sources.sums": sums_of(steps.given.sources, is_of_checkout), "artifact.sums": sums_of(claimed),
-    }
-    if made.are_stages:
-        names = [str(number) for number in range(1, len(made.builds) + 1)]
-        for name, build in zip(names, made.builds):
-            texts = {"sources": [build.sources.text()], "claim": [build.claim.text()]}
-            stores.write_texts(os.path.join(folder, name), {"plan": build.plan, "record": build.record, **texts})
-        whole["stages"] = names
-    else:
-        whole.update(plan=made.builds[0].plan, record=made.builds[0].record)
-    stores.write_texts(folder, {**whole, "claim": [made.claim.text()]})
+    made.steps.store.put_into(store)
+    for name, texts in zip(made.names(), made.plans()):
+        stores.write_texts(os.path.join(folder, name), texts)
+    stores.write_texts(folder, {**made.lists(), **made.asked()})
+
+
+def write_archive(made, out, store):
+    """Writes all into an archive: what is asked; then of each plan its files, and what of the store it is the first to look at, the
+    blobs before the results; then the lists."""
+    out.add_texts(made.asked())
+    for name, texts, group in zip(made.names(), made.plans(), groups_of(made.steps.store, made.builds)):
+        out.add_texts(texts, name)
+        for it in sorted(group, key=lambda it: (it[0] != "cas", it)):
+            store.put(*it, group[it])
+    out.add_texts(made.lists())
 
 
 def parse(words):
@@ -115,7 +122,7 @@ def parse(words):
         "log", metavar="LOG", type=command_line.place_of,
         help="the log of a build that ran all its spawns, as the first one after `bazel clean`",
     )
-    stores.add_options(parser)
+    archives.add_option(parser, stores.add_options(parser))
     parser.add_argument(
         "--outputs", metavar="PATTERN", nargs="+", action="extend", default=[],
         help="what the artifact has: each output whose path has a PATTERN, in which *, ? and [..] are as in a shell, and * "
@@ -171,7 +178,10 @@ def parse(words):
         help=f"write stages, each a plan of at most STEPS steps (1 to {MOST_STEPS}, which is the default); a build too large for "
         "one plan is written in stages without this option, too",
     )
-    return parser.parse_args(words)
+    options = parser.parse_args(words)
+    if options.archive and options.store and os.path.realpath(options.archive) == os.path.realpath(options.store):
+        parser.error("--archive and --store are one file")
+    return options
 
 
 @dataclass
@@ -184,6 +194,29 @@ class Made:
     sources: Digest
     claim: Digest
 
+    def names(self):
+        """The folders of the plans."""
+        return [str(number) for number in range(1, len(self.builds) + 1)] if self.are_stages else [""]
+
+    def asked(self):
+        """The files of the whole, the claim last."""
+        stages = {"stages": self.names()} if self.are_stages else {}
+        return {**stages, "sources": [self.sources.text()], "claim": [self.claim.text()]}
+
+    def plans(self):
+        """The files of each plan."""
+        for it in self.builds:
+            texts = {"plan": it.plan, "record": it.record}
+            asked = {"sources": [it.sources.text()], "claim": [it.claim.text()]} if self.are_stages else {}
+            yield dict(sorted({**texts, **asked}.items()))
+
+    def lists(self):
+        """The files at which no verdict looks."""
+        steps = self.steps
+        claimed = dict(it for name, entry in steps.claimed().items() for it in files_at(name, entry))
+        sources = sums_of(steps.given.sources, is_of_checkout)
+        return {"artifact.sums": sums_of(claimed), "sources.sums": sources, "taken": map(escaped, steps.taken)}
+
 
 def lies_in_artifact(options, place):
     """Whether a place is in the folder that is shipped."""
@@ -195,7 +228,8 @@ def lies_in_artifact(options, place):
 
 def check_places(options):
     """Refuses to write into the artifact, which would have other files than are claimed then."""
-    for place in (options.folder, options.store or options.folder):
+    whole = options.archive or options.folder
+    for place in (whole, options.store or whole):
         if lies_in_artifact(options, place):
             raise Refused(f'"{place}" lies in the artifact, and nothing may be written there')
 
@@ -229,9 +263,8 @@ def tell(notes):
         command_line.complain(f"note: there are {len(notes) - MOST_NOTES} more differences")
 
 
-def make(options, store):
-    """Makes the plans of the log and writes them, where nothing of it is refused."""
-    check_places(options)
+def make(options, held):
+    """Makes the plans of the log, where nothing of it is refused, and no store that is held has other results."""
     asked = Asked.by(options)
     with named(options.log):
         steps = read_as_log(options.log, lambda text: steps_of(text, asked))
@@ -245,7 +278,8 @@ def make(options, store):
             Disk(options.outputs_on_disk).check(steps, asked)
         builds, are_stages = builds_of(steps, options.stages)
         check_sizes(steps.store, {"plan": max((it.plan for it in builds), key=length)})
-        check_store(steps, store)
+        for it in held:
+            check_store(steps, it)
     if options.against is not None:
         with named(options.against):
             others = read_as_log(options.against, lambda text: spawns_of(text, asked))
@@ -253,16 +287,20 @@ def make(options, store):
         notes += against.notes()
         steps.counts.update(against.counts)
     tell(notes)
-    made = Made(steps, builds, are_stages, builds[0].sources, builds[-1].claim)
-    write(made, options.folder, store)
-    return made
+    return Made(steps, builds, are_stages, builds[0].sources, builds[-1].claim)
 
 
 def lines_of(options):
     """Does all, and the status and what is printed then."""
     forget_run(options)
-    with contextlib.closing(stores.store_of(options)) as store:
-        made = make(options, store)
+    earlier = archives.take_store(options)
+    check_places(options)
+    with archives.written(options.archive) as out, contextlib.closing(stores.store_of(options, out)) as store:
+        made = make(options, [store, *earlier])
+        if out:
+            write_archive(made, out, store)
+        else:
+            write(made, options.folder, store)
     counts = {"stages": len(made.builds) if made.are_stages else 0, **made.steps.counts}
     more = "".join(f" {name} {count}" for name, count in counts.items() if count)
     steps = f"steps {len(made.steps.spawns)} taken {len(made.steps.taken)}{more}"
@@ -276,7 +314,7 @@ def main(words):
     status = command_line.status_of(lambda: lines_of(options))
     if status != 0:
         # (as where only its lines couldn't be printed)
-        with contextlib.suppress(OSError):
+        with contextlib.suppress(OSError, Refused):
             forget_run(options)
     return status
 

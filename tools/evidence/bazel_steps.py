@@ -1,5 +1,5 @@
 """The steps of a log: its spawns in order, where each of their inputs comes from, and what the store has to be told. The rules
-are those of docs/VERIFY_BAZEL.md."""
+are those of tools/evidence/README.md."""
 
 import heapq
 import re

@@ -1,6 +1,6 @@
 """What a step reads of the folders in which Bazel puts what it makes, though no spawn of the log made it. It may be a false
 result that an earlier build left, so it is refused, but for what Bazel writes itself and what --taken names. The rules are those
-of docs/VERIFY_BAZEL.md."""
+of tools/evidence/README.md."""
 
 import re
 

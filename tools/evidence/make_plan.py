@@ -20,9 +20,9 @@ default at that path. `root` has what the build ends in, in the same words. A st
 each a name with a value, in place of those of the object. Targets may meet; then the plan has version 2.
 
 FOLDER gets the files `plan` and `sources` (the digest of the source tree). The commands, the frames, the source tree's
-Directories and the contents of its files go to the store: FOLDER/store, or where --store or --server says. A file of the
-sources never has the executable bit, as `buildcache put` puts it. Wrong steps are refused with status 2 and one line that
-says where, and then nothing is written.
+Directories and the contents of its files go to the store: FOLDER/store, or where --store or --server says. With --archive FILE
+all that would be in FOLDER is in one tar archive (docs/FORMATS.md, Archives). A file of the sources never has the executable
+bit, as `buildcache put` puts it. Wrong steps are refused with status 2 and one line that says where, and then nothing is written.
 """
 
 import contextlib
@@ -32,6 +32,7 @@ import re
 import sys
 from dataclasses import dataclass
 
+import archives
 from plans import LONGEST_STEP, MOST_BYTES, MOST_LINES, MOST_STEPS, Store
 from plans import check_sizes, entries_of, escaped, folders_of, is_path, is_target, is_text, stands_at, target_of
 from plans import targets_meet, without_repeats
@@ -255,7 +256,7 @@ class Maker:
 def parse(words):
     parser = command_line.Parser("make_plan.py", __doc__)
     parser.add_argument("steps", metavar="STEPS", type=command_line.place_of, help="the steps, as JSON")
-    stores.add_options(parser)
+    archives.add_option(parser, stores.add_options(parser))
     return parser.parse_args(words)
 
 
@@ -281,12 +282,17 @@ def make(options):
 
 def lines_of(options):
     """Does all, and the status and what is printed then."""
-    with contextlib.closing(stores.store_of(options)) as place:
+    with archives.written(options.archive) as out, contextlib.closing(stores.store_of(options, out)) as place:
         plan, root, store = make(options)
+        texts = {"sources": [root.text()], "plan": plan}
+        if out:
+            out.add_texts(texts)
         store.put_into(place)
-        stores.write_texts(options.folder, {"plan": plan, "sources": [root.text()]})
-    at = os.path.join(options.folder, "plan").encode(errors="backslashreplace").decode()
-    return 0, f"sources {root.text()}", f"plan {at}", f"steps {sum(it.startswith('step ') for it in plan)}"
+        if not out:
+            stores.write_texts(options.folder, texts)
+    at = f"archive {options.archive}" if options.archive else f"plan {os.path.join(options.folder, 'plan')}"
+    at = at.encode(errors="backslashreplace").decode()
+    return 0, f"sources {root.text()}", at, f"steps {sum(it.startswith('step ') for it in plan)}"
 
 
 def main(words):

@@ -147,11 +147,11 @@ class Store:
         return digest
 
     def put_into(self, store):
-        """Tells a store all: the blobs before the results that refer to them."""
-        for digest, blob in self.blobs.items():
-            store.put("cas", digest.hash, blob)
-        for action, result in self.results.items():
-            store.put("ac", action.hash, result)
+        """Tells a store all, by the hashes: the blobs before the results that refer to them."""
+        for digest in sorted(self.blobs):
+            store.put("cas", digest.hash, self.blobs[digest])
+        for action in sorted(self.results):
+            store.put("ac", action.hash, self.results[action])
 
 
 def check_sizes(store, texts):

@@ -11,7 +11,8 @@
 #
 # FOLDER is new, or that of an earlier run, and then has:
 #     shipped      the copy of SHIPPED on which the verdict is
-#     evidence     what bazel_plan.py wrote; tools/evidence/verify_stages.py verifies it again. After status 2 or 3 it isn't there
+#     evidence     what bazel_plan.py wrote; tools/evidence/verify_stages.py verifies it again. After status 2 or 3 it isn't there.
+#                  With --archive it is one file, evidence.tar
 #     build.json   Bazel's log of the build; and `log`, what Bazel and the other commands said
 #
 # COMMIT is a whole hash, as `git rev-parse HEAD` prints it where the sources are believed: a branch may have been moved.
@@ -22,6 +23,7 @@
 #     --below PATH            the folder of the execution root that is the top of the release
 #     --taken PATTERN         files that no logged command made, and that you believe (..)
 #     --stages STEPS          stages of at most so many steps
+#     --archive               writes evidence.tar in place of the folder evidence
 #     --drop-timeouts         takes tests as steps without a timeout
 #     --latin1-names          takes characters beyond ASCII for bytes, as Bazel 4 logs them
 #     --pass-over FIELD       a field of the log of which bazel_plan.py knows nothing (..)
@@ -56,7 +58,8 @@ finish() {
   local status=$?
   [ -z "$work" ] || remove "$work"
   if [ "$status" -gt 1 ]; then
-    { [ -n "$is_ours" ] && remove "$folder/evidence"; } || rm -f -- "$folder/evidence/claim" 2>/dev/null
+    { [ -n "$is_ours" ] && remove "$folder/evidence" && remove "$folder/evidence.tar"; } \
+      || rm -f -- "$folder/evidence/claim" "$folder/evidence.tar" 2>/dev/null
   fi
   exit "$status"
 }
@@ -64,7 +67,7 @@ finish() {
 # The command line.
 
 outputs=() bazel_options=() variables=() words=() plan_options=()
-workspace='' below='' stages='' jobs='' work='' folder=''
+workspace='' below='' stages='' jobs='' work='' folder='' evidence=evidence
 may_fetch='' has_namespace=yes was_cached=yes is_ours=''
 
 # Sets a variable to the value of an option that may be given once.
@@ -84,6 +87,7 @@ read_words() {
       continue
       ;;
     --drop-timeouts | --latin1-names) plan_options+=("$1") ;;
+    --archive) evidence=evidence.tar ;;
     --fetch) may_fetch=yes ;;
     --no-namespace) has_namespace='' ;;
     --no-cache-was-used) was_cached='' ;;
@@ -159,7 +163,7 @@ check_servers() {
 
 check_programs() {
   local it
-  for it in git python3 "${bazel[0]}" "$program"; do
+  for it in git python3 tar "${bazel[0]}" "$program"; do
     command -v "$it" >/dev/null || fail 3 "$it isn't there"
   done
   "$top/tools/evidence/unproved.py" "$program"
@@ -181,13 +185,13 @@ prepare() {
   shipped=$from folder=$to
   for it in "$folder"/* "$folder"/.[!.]*; do
     case ${it#"$folder/"} in
-    evidence | shipped | build.json | log) ;;
+    evidence | evidence.tar | shipped | build.json | log) ;;
     *) ! [ -e "$it" ] || fail 2 "\"$it\" isn't of this script: FOLDER has to be new, or that of an earlier run" ;;
     esac
   done
   mkdir -p -- "$folder" || fail 3 "\"$folder\" can't be made"
   is_ours=yes
-  for it in evidence shipped build.json log; do
+  for it in evidence evidence.tar shipped build.json log; do
     remove "$folder/$it" || fail 3 "\"$folder/$it\" of an earlier run can't be removed"
   done
 }
@@ -261,13 +265,14 @@ execution_root() {
 }
 
 make_plan() {
-  local root options=("${plan_options[@]}") it
+  local root options=("${plan_options[@]}") to=("$folder/$evidence")
   root=$(execution_root) || exit
   options+=(--refuse-cached --outputs-on-disk "$root" --outputs "${outputs[@]}")
   [ -z "$below" ] || options+=(--below "$below")
   [ -z "$stages" ] || options+=(--stages "$stages")
   options+=(--artifact "$folder/shipped")
-  "$top/tools/evidence/bazel_plan.py" "${options[@]}" -- "$folder/build.json" "$folder/evidence" >>"$folder/log"
+  [ "$evidence" = evidence ] || options+=(--archive "${to[0]}") to=()
+  "$top/tools/evidence/bazel_plan.py" "${options[@]}" -- "$folder/build.json" "${to[@]}" >>"$folder/log"
   case $? in
   0) ;;
   2) exit 2 ;;
@@ -279,12 +284,18 @@ make_plan() {
 # Compares the sources that the log names with those of a second checkout in the place of the first, which no command of the build
 # has seen, and with the other repositories on the disk.
 compare_sources() {
-  local options=(--external "$work/base/external" --expect "$folder/evidence/sources")
+  local options=(--external "$work/base/external") lists=$folder/evidence
+  if [ "$evidence" != evidence ]; then
+    lists=$work/lists
+    mkdir "$lists" && tar -C "$lists" -xf "$folder/$evidence" sources sources.sums taken 2>>"$folder/log" \
+      || fail 3 "\"$folder/$evidence\" can't be read; see $folder/log"
+  fi
+  options+=(--expect "$lists/sources")
   remove "$work/checkout" || fail 3 "\"$work/checkout\" can't be removed"
   check_out "$work/checkout"
-  [ ! -s "$folder/evidence/taken" ] || options+=(--as-listed 'bazel-out/*')
+  [ ! -s "$lists/taken" ] || options+=(--as-listed 'bazel-out/*')
   "$top/tools/evidence/sources_digest.py" "${options[@]}" -- "$work/checkout/$workspace" \
-    <"$folder/evidence/sources.sums" >>"$folder/log" 2>&1
+    <"$lists/sources.sums" >>"$folder/log" 2>&1
   case $? in
   0) ;;
   1) fail 2 "the sources that Bazel read aren't those of commit $commit; see $folder/log" ;;
@@ -316,7 +327,7 @@ main() {
 # Prints the verdict, and ends with its status.
 judge() {
   local line status
-  line=$("$top/tools/evidence/verify_stages.py" "$folder/evidence" --artifact "$folder/shipped" ${jobs:+--jobs "$jobs"})
+  line=$("$top/tools/evidence/verify_stages.py" "$folder/$evidence" --artifact "$folder/shipped" ${jobs:+--jobs "$jobs"})
   status=$?
   case "$status $line" in
   '0 yes '* | '1 no '*) printf '%s\n' "$line" || fail 3 "the verdict can't be printed"; exit "$status" ;;

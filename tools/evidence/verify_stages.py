@@ -8,7 +8,8 @@ FOLDER has a plan, a record, sources and a claim; or the file `stages` with the 
 The sources of the first stage have to be those in FOLDER, the sources of each later stage the claim of the stage before, and the
 last claim the one in FOLDER. Then the verdicts compose: if each is yes, whoever builds the stages one after another, the first
 from these sources and each later one from what the stage before ended in, ends in exactly the claim in FOLDER. Results are
-read from FOLDER/store (--store), also with --server, which is asked for blobs alone.
+read from FOLDER/store (--store), also with --server, which is asked for blobs alone. In place of FOLDER there may be a tar archive
+of it (docs/FORMATS.md, Archives), which is unpacked into a temporary folder.
 
 The last line is `yes CLAIM stages N steps M` (of one plan `yes CLAIM steps M`), or the no of the first stage that has one, as
 `no stage K step NAME cause ..`. The status is that of `verify`: 0 yes, 1 no, 2 a file is at fault, 3 no verdict.
@@ -33,6 +34,7 @@ import subprocess
 import sys
 from dataclasses import dataclass, replace
 
+import archives
 from bazel_artifact import read_artifact
 from shared import command_line, stores
 from shared.command_line import NotAnswered, Refused
@@ -286,7 +288,7 @@ def add_shares(parser):
 
 def parse(words):
     parser = command_line.Parser("verify_stages.py", __doc__)
-    stores.add_options(parser, "the folder that bazel_plan.py wrote")
+    stores.add_options(parser, "the folder or the archive that bazel_plan.py wrote")
     parser.add_argument(
         "--artifact", metavar="SHIPPED", action=command_line.Once, type=command_line.place_of,
         help="claim the tree of this folder on disk, in place of the claim in FOLDER",
@@ -329,6 +331,15 @@ def claim_of(folder):
 
 
 def lines_of(options):
+    """The status and the line, of a folder or an archive."""
+    has_blobs = not (options.server or options.digest or options.all_of)
+    with archives.as_folder(options.folder, has_blobs) as folder, archives.as_folder(options.store, has_blobs) as store:
+        if store != options.store:
+            store = os.path.join(store, "store")
+        return lines_of_folder(argparse.Namespace(**{**vars(options), "folder": folder, "store": store}))
+
+
+def lines_of_folder(options):
     """The status and the line. Named evidence has to be the same before and after."""
     store = stores.store_of(options)
     if not options.evidence and not options.digest:

@@ -62,6 +62,23 @@ class Once(argparse.Action):
         setattr(namespace, self.dest, value)
 
 
+class InPlaceOf(Once):
+    """An option that stands in the place of a word: exactly one of them is given."""
+
+    def __init__(self, *words, word, **more):
+        super().__init__(*words, **more)
+        self.word = word
+
+    def __call__(self, parser, namespace, value, option_string=None):
+        def refuse(_):
+            raise argparse.ArgumentTypeError(f"{option_string} stands in its place")
+
+        if getattr(namespace, self.word.dest) is not None:
+            parser.error(f"{option_string} stands in the place of {self.word.metavar}")
+        self.word.required, self.word.type = False, refuse
+        super().__call__(parser, namespace, value, option_string)
+
+
 def place_of(text):
     """A path among the words. An empty one, as of a variable that isn't set, is refused."""
     if not text:

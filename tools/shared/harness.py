@@ -8,6 +8,7 @@ import re
 import shutil
 import socket
 import subprocess
+import sys
 import tempfile
 import threading
 import time
@@ -39,6 +40,25 @@ def run(program, *words, seconds=60, env=None):
         return subprocess.run([program, *words], timeout=within(seconds), **how)
     except subprocess.TimeoutExpired as late:
         return subprocess.CompletedProcess(late.cmd, None, late.stdout or b"", late.stderr or b"")
+
+
+# Runs a program, and tells its seconds, status and greatest memory in KiB. What the system tells of a child's memory is never
+# less than its parent's at the start, so the parent is an interpreter that has loaded nothing.
+WATCH = """
+import os, sys, time
+start = time.monotonic()
+child = os.posix_spawn(sys.argv[1], sys.argv[1:], os.environ)
+_, status, usage = os.wait4(child, 0)
+print(time.monotonic() - start, status, usage.ru_maxrss, file=sys.stderr)
+"""
+
+
+def watch(*words, seconds=60):
+    """What a program prints on standard output, and the last line of `WATCH`: seconds, status and memory in KiB."""
+    watched = [sys.executable, "-ISc", WATCH, *words]
+    ran = subprocess.run(watched, capture_output=True, text=True, timeout=within(seconds), check=True)
+    took, status, memory = ran.stderr.splitlines()[-1].split()
+    return ran.stdout, float(took), int(status), int(memory)
 
 
 def path_of(blob):

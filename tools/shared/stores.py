@@ -116,9 +116,9 @@ def is_prefix(text):
     return len(text) <= 256 and re.fullmatch("(/[A-Za-z0-9._~-]+)*", text) is not None
 
 
-def add_options(parser, folder_help="where the files are written; it is made if it isn't there"):
-    """The word FOLDER, and the options that name a store: a folder, by default FOLDER/store, or for blobs a server."""
-    parser.add_argument("folder", metavar="FOLDER", type=place_of, help=folder_help)
+def add_options(parser, folder_help="where the files are written, if not as --archive FILE; it is made if it isn't there"):
+    """The word FOLDER, and the options that name a store: a folder, by default FOLDER/store, or for blobs a server. The word."""
+    word = parser.add_argument("folder", metavar="FOLDER", type=place_of, help=folder_help)
     places = parser.add_mutually_exclusive_group()
     places.add_argument(
         "--store", metavar="STORE", action=Once, type=place_of, help="the store folder, in place of FOLDER/store; it may hold other builds"
@@ -130,11 +130,12 @@ def add_options(parser, folder_help="where the files are written; it is made if 
     parser.add_argument(
         "--prefix", metavar="PREFIX", default="", action=Once, help="what stands before these paths on the server"
     )
+    return word
 
 
-def store_of(options):
-    """The store that the options name."""
-    folder = FolderStore(options.store or os.path.join(options.folder, "store"))
+def store_of(options, own=None):
+    """The store that the options name; the `own` one is that of an archive, in place of FOLDER/store."""
+    folder = FolderStore(options.store) if options.store else own or FolderStore(os.path.join(options.folder, "store"))
     if options.server is None:
         if options.prefix:
             raise Refused("--prefix is for --server")
@@ -163,8 +164,12 @@ def write_file(path, content):
             content = content[out.write(content):]
 
 
+def text_of(lines):
+    return "".join(f"{line}\n" for line in lines).encode()
+
+
 def write_texts(folder, texts):
     """Writes files of a folder, which is made if it isn't there: by each name its lines."""
     os.makedirs(folder, exist_ok=True)
     for name, lines in texts.items():
-        write_file(os.path.join(folder, name), "".join(f"{line}\n" for line in lines).encode())
+        write_file(os.path.join(folder, name), text_of(lines))

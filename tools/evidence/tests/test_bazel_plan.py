@@ -1,6 +1,6 @@
 """Tests of bazel_plan.py.
 
-Each rule and each refusal of docs/VERIFY_BAZEL.md has a small log here. The bytes of messages are those of Python's
+Each rule and each refusal of tools/evidence/README.md has a small log here. The bytes of messages are those of Python's
 protobuf (3.21.12, over the fields of remote_execution.proto). bazel_case.py says what judges what is made.
 """
 

@@ -57,7 +57,7 @@ class StagesCase(Case):
 
 class KeptLog(Case):
     """A log of Bazel 4.2.3 for //pages:counts of examples/bazel, and what was made of it, which the gate has judged
-    in `test_program` (see docs/VERIFY_BAZEL.md)."""
+    in `test_program` (see tools/evidence/README.md)."""
 
     WORDS = ["--outputs", "*/counts.txt", "*/site", "--below", "bazel-out/k8-fastbuild/bin/pages"]
 

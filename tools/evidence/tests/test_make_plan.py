@@ -1,7 +1,7 @@
 """Tests of make_plan.py.
 
-The plans of examples/ were first written by protoc and a script, and are compared whole. Where the program is built, an
-example is built and verified by it.
+The plans of examples/ were first written by protoc and a script, and are compared whole. (tools/end_to_end/page_rows.py builds
+and verifies them.)
 """
 
 import contextlib
@@ -18,7 +18,6 @@ HERE = os.path.dirname(os.path.realpath(__file__))
 
 import make_plan
 from shared.crates import TOP
-from shared.harness import PROGRAM, Server, run
 from shared.messages import Digest
 
 # One step that copies its input.
@@ -169,19 +168,3 @@ class Refusals(Case):
     def test_places(self):
         self.refuse("--prefix is for --server", {"steps": [], "root": []}, "--prefix", "/x")
         self.assertEqual(self.call({"sources": "none", "steps": [], "root": []})[0], 3)
-
-
-@unittest.skipUnless(os.path.exists(PROGRAM), "the program isn't built: no example is built by it")
-class Built(Case):
-    def test_an_example_is_built_and_verified(self):
-        with Server(PROGRAM) as server:
-            example = os.path.join(TOP, "examples", "release", "steps.json")
-            with contextlib.redirect_stdout(io.StringIO()) as out:
-                self.assertEqual(make_plan.main([example, self.at("asked"), "--server", server.address]), 0)
-            os.mkdir(self.at("work"))
-            asked = ["--server", server.address, "--sources", out.getvalue().split()[1], "--plan", self.at("asked", "plan")]
-            asked += ["--record", self.at("record")]
-            built = run(PROGRAM, "build", *asked, "--work", self.at("work"), "--jobs", "2")
-            self.assertRegex(built.stdout.decode(), "^built [0-9a-f]{64}/[0-9]+ steps 3\n$")
-            judged = run(PROGRAM, "verify", *asked, "--claim", built.stdout.split()[1].decode())
-            self.assertEqual(judged.stdout, built.stdout.replace(b"built", b"yes"))

@@ -146,7 +146,8 @@ class Scripts(Case):
         found, out, err = self.place.run(*words, **env)
         self.assertEqual((found, out, err.count("\n"), err[:7]), (status, "", 1, "error: "), err)
         self.assertIn(reason, err)
-        self.assertFalse(os.path.exists(self.at("place", "out", "evidence")))
+        for name in ("evidence", "evidence.tar"):
+            self.assertFalse(os.path.exists(self.at("place", "out", name)))
         self.assertEqual(os.listdir(self.at("place", "tmp")), [])
 
 
@@ -273,6 +274,27 @@ class Releases(Scripts):
         self.assertEqual(self.place.run(*self.place.words()), (0, self.yes, ""))
         self.assertEqual(sorted(os.listdir(self.at("place", "out"))), ["build.json", "evidence", "log", "shipped"])
         self.assertEqual(os.listdir(self.at("place", "tmp")), [])
+
+    def test_evidence_in_an_archive(self):
+        words = self.place.words("--archive")
+        self.assertEqual(self.place.run(*self.place.words())[:2], (0, self.yes))
+        for stages, yes in ([], self.yes), (["--stages", "1"], self.yes.replace("steps", "stages 1 steps")):
+            self.assertEqual(self.place.run(*words, *stages)[:2], (0, yes))
+            self.assertEqual(sorted(os.listdir(self.at("place", "out"))), ["build.json", "evidence.tar", "log", "shipped"])
+            self.assertEqual(os.listdir(self.at("place", "tmp")), [])
+        self.place.ship(a="poison")
+        self.assertEqual(self.place.run(*words)[:2], (1, f"no root cause root-differs {self.yes.split()[1]}\n"))
+        self.assertTrue(os.path.exists(self.at("place", "out", "evidence.tar")))
+        self.place.ship(a="A\n")
+        write_program(self.at("place", "bin", "tar"), "#!/bin/sh\nexit 1\n")
+        self.refuses('/out/evidence.tar" can\'t be read', 3, *words)
+        os.remove(self.at("place", "bin", "tar"))
+        stores.write_texts(self.at("place"), {"after": ["a", "other"]})
+        self.place.ship(a="OTHER")
+        self.refuses("the sources that Bazel read aren't those", 2, *words)
+        stores.write_texts(self.at("place"), {"unlogged": [f"{BELOW}/c"]})
+        self.refuses(f"{BELOW}/c", 2, *words)
+        self.assertFalse(os.path.exists(self.at("place", "out", "evidence.tar")))
 
     def test_another_release(self):
         """As a false result in the cache made it: the record is what the commit comes to."""
