@@ -23,6 +23,7 @@ import time
 from typing import NamedTuple
 
 import server_rows
+from evidence_forms import archive_of, blob_at, result_at, write_folder
 from server_streams import ABSENT, BAD, DIGITS, DONE, FEED, NINE, RESULT, TREE, TREE_HASH, found
 from shared import harness, stores
 from shared.harness import get, put
@@ -108,7 +109,7 @@ class Commands:
 
     def lay_out(self):
         """A folder to be put, a large blob, and a build of one step that reads its sources: its blobs in a store folder and in
-        the server."""
+        the server, and evidence of it in a folder and in an archive."""
         nine = File(Digest.of(NINE), is_executable=False)
         command = command_message(["/bin/true"], ["out"])
         sources, given = {"a": nine, "b": {"a": nine}}, {"in": {"a": nine}}
@@ -116,12 +117,18 @@ class Commands:
         blobs += [directory_message(it) for it in (sources, sources["b"], given, given["in"], {"made": {"a": nine}})]
         action = action_message(Digest.of(command), Digest.of(directory_message(given)))
         self.sources, self.claim = Digest.of(blobs[4]), Digest.of(blobs[-1]).text()
+        result = result_message({"out": Digest.of(blobs[3])})
         for store in (stores.FolderStore(f"{self.folder}/store"), self.store):
             for blob in [*blobs, action, LARGE]:
                 store.put("cas", Digest.of(blob).hash, blob)
-            store.put("ac", Digest.of(action).hash, result_message({"out": Digest.of(blobs[3])}))
+            store.put("ac", Digest.of(action).hash, result)
         self.plan = plan_of(blobs[2], "in/a src b/a")
         self.record = record_of(action)
+        digests = {"sources": self.sources.text().encode(), "claim": self.claim.encode()}
+        texts = {**digests, "plan": self.plan, "record": self.record}
+        evidence = {**texts, **{blob_at(it): it for it in (*blobs, action)}, result_at(action): result}
+        write_folder(f"{self.folder}/evidence", evidence)
+        stores.write_file(f"{self.folder}/archive", archive_of(evidence))
         stores.write_file(f"{self.folder}/plan", self.plan)
         stores.write_file(f"{self.folder}/record", self.record)
         os.makedirs(f"{self.folder}/tree/b")
@@ -134,7 +141,7 @@ class Commands:
     def verify(self, place, claim, out, status):
         words = ["verify", *place, "--sources", self.sources.text(), "--plan", f"{self.folder}/plan"]
         words += ["--record", f"{self.folder}/record"]
-        return lambda fault: wrong_of(self.run(fault, *words, "--claim", claim), out.encode(), status)
+        return lambda fault: wrong_of(self.run(fault, *words, "--claim", claim), out, status)
 
     def asked(self, out, status, *words):
         return lambda fault: wrong_of(self.run(fault, *words), out, status, fault.failed())
@@ -190,7 +197,8 @@ class Commands:
     def all(self):
         server, store = ["--server", self.server.address], ["--store", f"{self.folder}/store"]
         nine, large = Digest.of(NINE).text(), Digest.of(LARGE).text()
-        yes, no = f"yes {self.claim} steps 1\n", f"no root cause root-differs {self.claim}\n"
+        yes, no = f"yes {self.claim} steps 1\n".encode(), f"no root cause root-differs {self.claim}\n".encode()
+        evidence, archive = f"{self.folder}/evidence", f"{self.folder}/archive"
         return {
             "put of a file": self.asked(f"{nine}\n".encode(), 0, "put", *server, f"{self.folder}/tree/a"),
             "put of a folder": self.asked(f"{self.sources.text()}\n".encode(), 0, "put", *server, f"{self.folder}/tree"),
@@ -202,6 +210,11 @@ class Commands:
             "verify over a store: yes": self.verify(store, self.claim, yes, 0),
             "verify over a store: no": self.verify(store, EMPTY.text(), no, 1),
             "verify over a server": self.verify(server, self.claim, yes, 0),
+            "verify over a folder of evidence": self.asked(yes, 0, "verify", evidence),
+            "verify over an archive: yes": self.asked(yes, 0, "verify", archive),
+            "verify over an archive: no": self.asked(no, 1, "verify", archive, "--claim", EMPTY.text()),
+            "verify over no archive": self.asked(b"", 2, "verify", f"{self.folder}/plan"),
+            "verify over an archive and a server": self.asked(yes, 0, "verify", archive, *server),
             "verify by results of a folder": self.verify([*server, "--results", f"{self.folder}/store"], self.claim, yes, 0),
             "build of a step whose result is held": lambda fault: self.built_twice(fault, self.plan, self.record),
             "build": self.build,

@@ -1,11 +1,12 @@
 #!/usr/bin/env python3
 """Tries what the program says to its words, and to files that can't be read: word_rows.py PROGRAM
 
-The help of each command; words that are missing, unknown, too many or no UTF-8; numbers at and beyond each limit; several
-faults at once, of which the first is told; plans and records of all kinds; and names with other letters. It
+The help of each command; words that are missing, unknown, too many or no UTF-8; what goes beside evidence; numbers at and beyond
+each limit; several faults at once, of which the first is told; plans and records of all kinds; and names with other letters. It
 prints a line for each row, and ends with status 1 where one failed. Nothing outside this machine is asked.
 """
 
+import itertools
 import os
 import re
 import subprocess
@@ -76,6 +77,9 @@ def try_help(words):
             words.rows.tell(f"{command} {word}: each option, and status 0", shown and (told.returncode, told.stderr) == (0, b""), told)
         beside = words.run(*words_of(command), "--help")
         words.rows.tell(f"{command} with all its words and --help: the help alone", beside.stdout == words.run(command, "-h").stdout, beside)
+    told = words.run("verify", "evidence", "--help")
+    lines = b"Usage: buildcache verify [OPTIONS] <EVIDENCE>\n", b"  <EVIDENCE>  A folder"
+    words.rows.tell("verify --help: evidence too", told.returncode == 0 and all(it in told.stdout for it in lines), told)
     for word in ("--version", "-V"):
         told = words.run(word)
         right = re.fullmatch(rb"buildcache \d+\.\d+\.\d+\n", told.stdout) and (told.returncode, told.stderr) == (0, b"")
@@ -86,14 +90,14 @@ def try_missing(words):
     words.refuse("no words", 2, [])
     words.refuse("an unknown command", 2, ["verfy"], "verfy")
     words.refuse("the word help", 2, ["help"], "tip: '--help' prints")
-    words.refuse("verify by itself: the place too", 2, ["verify"], "one of --server <ADDR> and --store <FOLDER>")
     for command, (needed, others, own) in COMMANDS.items():
         for option in needed:
             words.refuse(f"{command} without --{option}", 2, words_of(command, without=option), f"--{option}")
             words.refuse(f"{command} with --{option} twice", 2, [*words_of(command), f"--{option}", "1"], f"--{option}")
         words.refuse(f"{command} with an unknown option", 2, [*words_of(command), "--nonsense"], "--nonsense")
         words.refuse(f"{command} with an option that lacks its text", 2, [*words_of(command), f"--{[*others][0]}"], f"--{[*others][0]}")
-        words.refuse(f"{command} with a word too many", 2, [*words_of(command), "more"], "more")
+        surplus = "more" if command != "verify" else "--plan cannot be used with <EVIDENCE>"
+        words.refuse(f"{command} with a word too many", 2, [*words_of(command), "more"], surplus)
         words.refuse(f"{command} with a word after --", 2, [*words_of(command), "--", "more"])
         if own:
             words.refuse(f"{command} without its word", 2, words_of(command)[:-1])
@@ -109,6 +113,76 @@ def try_missing(words):
                  "--store cannot be used with --server")
     words.refuse("verify --results twice", 2, [*words_of("verify", server=ADDRESS, results="store"), "--results", "other"], "--results")
     words.refuse("verify --server --results, and no server", 3, words_of("verify", server=ADDRESS, results="store"), ADDRESS)
+
+
+def try_wanted(words):
+    """`verify` without evidence tells each option that it wants, whatever else is said."""
+    wanted = {"sources": "DIGEST", "plan": "FILE", "record": "FILE", "claim": "DIGEST"}
+    texts = COMMANDS["verify"][0]
+    for count in range(len(wanted)):
+        for given in itertools.combinations(wanted, count):
+            missing = "".join(f" --{it} <{text}>" for it, text in wanted.items() if it not in given)
+            line = f"error: the following required arguments were not provided:{missing}, or <EVIDENCE>\n"
+            said = [word for it in given for word in (f"--{it}", texts[it])]
+            words.refuse(f"verify with {' and '.join(given) or 'nothing'} of what it wants", 2, ["verify", *said], line)
+    line = "error: the following required arguments were not provided: --claim <DIGEST>, or <EVIDENCE>\n"
+    for more in (["--store", ""], ["--server", "x", "--prefix", "p"], ["--store", "a", "--server", "b"]):
+        words.refuse(f"verify without --claim, and {' '.join(more)}", 2, [*words_of("verify", without="claim"), *more], line)
+
+
+def try_evidence(words):
+    """`verify` over evidence: what can't stand beside it, and of its files the first that is at fault."""
+    out = f"yes {EMPTY.text()} steps 0\n"
+    right = {"sources": EMPTY.text(), "claim": EMPTY.text(), "plan": "buildplan 1\nroot\n", "record": "buildrecord 1\n"}
+    os.makedirs(f"{words.folder}/evidence/store")
+    for name, text in right.items():
+        words.write(f"evidence/{name}", text.encode())
+    words.accept("verify over evidence", out, ["verify", "evidence"])
+    words.accept("verify over evidence behind --", out, ["verify", "--", "evidence"])
+    words.accept("both digests beside evidence", out, ["verify", "--claim", EMPTY.text(), "evidence", f"--sources={EMPTY.text()}"])
+    for option in ("plan", "record", "store", "results"):
+        for text in ("none", "", f"evidence/{option}"):
+            words.refuse(f"--{option} {text!r} beside evidence", 2, ["verify", "evidence", f"--{option}", text],
+                         f"error: --{option} cannot be used with <EVIDENCE>\n")
+    for option in ("prefix", "timeout"):
+        for text in ("/p", "1", ""):
+            words.refuse(f"--{option} {text!r} beside evidence without a server", 2, ["verify", f"--{option}", text, "evidence"],
+                         f"error: --{option} cannot be used without --server\n")
+    words.refuse("--server and --store beside evidence", 2, ["verify", "evidence", "--server", ADDRESS, "--store", "store"],
+                 "error: --store cannot be used with <EVIDENCE>\n")
+    words.refuse("a second word of evidence", 2, ["verify", "evidence", "more"], "more")
+    words.refuse("evidence as an option", 2, ["verify", "--evidence", "evidence"], "--evidence")
+    words.refuse("evidence without a name", 2, ["verify", ""], 'expected a folder or an archive, got ""')
+    words.refuse("evidence with a name that is no UTF-8", 2, ["verify", b"\xff"])
+    words.refuse("evidence and --claim twice", 2, ["verify", "evidence", "--claim", "x", "--claim", "x"], "--claim")
+    for option, text in (("server", "x"), ("prefix", "p"), ("timeout", "x")):
+        said = [it for name, given in {"server": ADDRESS, option: text}.items() for it in (f"--{name}", given)]
+        words.refuse(f"--{option} {text} beside evidence that isn't there", 2, ["verify", "none", *said], f"--{option}: expected")
+    words.refuse("a server that isn't there", 3, ["verify", "evidence", "--server", ADDRESS], ADDRESS)
+    try_first_of_evidence(words, right, out)
+
+
+def try_first_of_evidence(words, right, out):
+    """All faults of words at once, and then all of files: each time the first is told, and then mended."""
+    faults = [(f"--{option}", "cannot be used with <EVIDENCE>") for option in ("plan", "record", "store", "results")]
+    faults += [(f"--{option}", "cannot be used without --server") for option in ("prefix", "timeout")]
+    for number, (option, said) in enumerate(faults):
+        more = [word for it, _ in faults[number:] for word in (it, "")]
+        words.refuse(f"{len(faults) - number} words beside evidence without a name", 2, ["verify", "", *more, "--claim", "x"],
+                     f"error: {option} {said}\n")
+    words.refuse("evidence that isn't there, and a claim that is none", 3, ["verify", "none", "--claim", "x"], '"none"')
+    words.refuse("evidence that is a plan, and a claim that is none", 2, ["verify", "plan", "--claim", "x"], '"plan": at byte 0: ')
+    wrong = {"sources": b"x", "claim": b"", "plan": b"buildplan 1\nroot \n", "record": b"buildrecord 1\n\n"}
+    asked = ["verify", "evidence", "--server", ADDRESS]
+    for name in right:
+        os.remove(f"{words.folder}/evidence/{name}")
+    for name, text in wrong.items():
+        line = f'error: "evidence/{name}": ' + ("line 2: " if text.startswith(b"build") else "")
+        words.refuse(f"evidence without its {name}, and a server that isn't there", 3, asked, f'error: "evidence/{name}": ')
+        words.write(f"evidence/{name}", text)
+        words.refuse(f"evidence with its {name} at fault, and a server that isn't there", 2, asked, line)
+        words.write(f"evidence/{name}", right[name].encode())
+    words.accept("evidence that was mended", out, ["verify", "evidence"])
 
 
 NO_NUMBERS = ["", "x", "+1", "-1", " 1", "1 ", "1_0", "1.0", "0x1", "٣", str(2**64)]
@@ -236,7 +310,7 @@ def try_addresses(words):
 def try_all(rows, program):
     with tempfile.TemporaryDirectory() as folder:
         words = Words(program, folder, rows)
-        for part in (try_help, try_missing, try_numbers, try_order, try_texts, try_names, try_addresses):
+        for part in (try_help, try_missing, try_wanted, try_evidence, try_numbers, try_order, try_texts, try_names, try_addresses):
             part(words)
 
 

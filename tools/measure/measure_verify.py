@@ -29,18 +29,8 @@ import time
 
 from shared import stores
 from shared.command_line import fail, numbers_of, program_at, words_of
+from shared.harness import WATCH
 from shared.messages import EMPTY, Digest, File, action_message, command_message, directory_message, result_message, tree_message
-
-# Runs a program, and tells its seconds, status and greatest memory. What the system tells of a child's memory is never less
-# than its parent's at the start, so the parent is an interpreter that has loaded nothing.
-WATCH = """
-import os, sys, time
-start = time.monotonic()
-child = os.posix_spawn(sys.argv[1], sys.argv[1:], os.environ)
-_, status, usage = os.wait4(child, 0)
-print(time.monotonic() - start, status, usage.ru_maxrss, file=sys.stderr)
-"""
-
 
 class Build:
     """A store folder, and the texts of a plan and a record."""

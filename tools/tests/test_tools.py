@@ -20,7 +20,8 @@ TOOLS = sorted(
 )
 # A program that isn't there, and a file; each with the other words that the tool wants.
 NEEDS_A_PROGRAM = {
-    **{f"end_to_end/{it}_rows.py": [] for it in ("build", "client", "server", "fault", "store", "word")}, "end_to_end/soak.py": ["1"],
+    **{f"end_to_end/{it}_rows.py": [] for it in ("build", "client", "evidence", "fault", "page", "server", "store", "word")},
+    "end_to_end/soak.py": ["1"],
     "measure/measure_build.py": [], "measure/measure_verify.py": ["steps", "1"], "measure/measure_all.py": ["put"],
     "measure/serve_speed.py": ["1"],
 }

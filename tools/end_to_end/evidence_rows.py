@@ -1,0 +1,299 @@
+#!/usr/bin/env python3
+"""Tries `verify` over evidence: evidence_rows.py PROGRAM [--many]
+
+Questions of all kinds, each by options, as a folder and as an archive: the same verdict and status, and of the files the same one
+is named. Digests that are said in place of the files; a server beside evidence; archives as GNU tar (where it is installed) and
+Python's tarfile write them, and in other orders. Archives of which each field of a header is turned, or a member that isn't read
+is among them, are refused in the words of docs/FORMATS.md; so are archives that end too early, wherever. Archives that are turned
+at random, for ten seconds, come to what a model of that page says: a refusal, or the verdict on a folder of their files. An
+archive of 100,000 files (with --many of 1,000,000) is judged in bounded memory. It prints a line for each row, and ends with
+status 1 where one failed. Nothing outside this machine is asked.
+"""
+
+import collections
+import os
+import random
+import re
+import sys
+import tarfile
+import tempfile
+import time
+
+from archive_model import FIELDS, TWICE, NoArchive, files_of, members_of, turned, with_field
+from archive_vectors import CUT, END, NAME, TURNED, header
+from evidence_forms import (
+    ANSWERS, CLAIM, EMPTY, GEN, OF_FILES, QUESTIONS, RIGHT, TREE, YES, archive_of, blob_at, by_tar, by_tarfile, changed, digest,
+    has_gnu_tar, member, options_of, result_at, write_folder, wrong_of,
+)
+from shared import harness, stores
+from shared.command_line import fail, program_at, words_of
+from shared.crates import TOP
+from shared.rows import Rows
+
+# How long archives are turned at random, with the built program and with any; and so many are, which come to each kind of answer.
+SECONDS, MOST_SECONDS, FEWEST = 10, 30, 100
+# The files of a large archive, of which a slow program has its part, and with --many.
+FILES, MANY = 100_000, 1_000_000
+# The KiB that each file may cost, and the program beside them; a slow one may take twice that. (The reader of test_archive was
+# seen to take 16,100 KiB for 100,000 files, the preview 66,808, and 30,104 for 12,500.)
+KIB_OF_A_FILE, KIB_OF_A_PROGRAM = 0.25, 16384
+NO_SERVER = f"{harness.LOCAL}:1"
+
+
+class Evidence:
+    """The program in a folder of its own, and the rows that tell what it said of evidence there."""
+
+    def __init__(self, program, place, rows):
+        self.program, self.place, self.rows = program, place, rows
+
+    def verify(self, *words):
+        return harness.run(self.program, "verify", *words)
+
+    def expect(self, name, evidence, out, status, named="", more=()):
+        wrong = wrong_of(self.verify(evidence, *more), evidence, out, status, named)
+        self.rows.tell(f"{name}: status {status}", not wrong, wrong)
+
+    def expect_words(self, name, told, status, named):
+        """Refused for what is named, which is no file of evidence."""
+        right = (told.returncode, told.stdout) == (status, b"") and harness.is_error(told.stderr)
+        self.rows.tell(f"{name}: status {status}", right and told.stderr.startswith(f"error: {named}: ".encode()), told)
+
+    def folder(self, files, name="folder"):
+        return write_folder(f"{self.place}/{name}", files)
+
+    def archive(self, content, name="archive"):
+        stores.write_file(f"{self.place}/{name}", content)
+        return f"{self.place}/{name}"
+
+    def expect_both(self, name, files, out, status, named="", more=()):
+        """Told so of a folder of files, and of the archive of them."""
+        self.expect(f"{name}, in a folder", self.folder(files), out, status, named, more)
+        self.expect(f"{name}, in an archive", self.archive(archive_of(files)), out, status, named, more)
+
+    def expect_archive(self, name, content, out=YES, status=0, named=""):
+        self.expect(name, self.archive(content), out, status, named)
+
+    def refuse(self, name, content, at, words):
+        self.expect_archive(name, content, "", 2, f'": at byte {at}: {words}\n')
+
+
+def try_questions(tried):
+    for name, (changes, out, status, named) in QUESTIONS.items():
+        files = changed(changes)
+        tried.expect_both(name, files, out, status, named)
+        told = tried.verify(*options_of(folder := tried.folder(files), files))
+        if option := re.match("claim|sources", named):
+            tried.expect_words(f"{name}, by options", told, status, f"--{option[0]}")
+        else:
+            tried.rows.tell(f"{name}, by options: status {status}", not wrong_of(told, folder, out, status, named), told)
+    for name, (changes, out, status, named) in OF_FILES.items():
+        tried.expect_both(name, changed(changes), out, status, named)
+    with open(f"{TOP}/README.md", encoding="utf-8") as page:
+        tried.rows.tell("that is README's line", f"\n{YES}" in page.read(), YES)
+
+
+def try_said(tried):
+    """`--claim` and `--sources` in place of the files."""
+    empty, data = EMPTY.text(), QUESTIONS["an input of the sources"][0]
+    other, sources = ["--claim", empty], data["sources"].decode()
+    tried.expect_both("another claim is said", RIGHT, f"no root cause root-differs {CLAIM}\n", 1, more=other)
+    claims = changed({"claim": empty.encode()})
+    tried.expect_both("the right claim is said, and the file has another", claims, YES, 0, more=["--claim", CLAIM])
+    tried.expect_both("other sources are said", changed(data), "no step use cause origin-missing x\n", 1, more=["--sources", empty])
+    tried.expect_both("the sources are said", changed({**data, "sources": None}), YES, 0, more=["--sources", sources])
+    for name, content in (("isn't there", None), ("is at fault", b"x")):
+        both = changed({"claim": content, "sources": content})
+        tried.expect_both(f"both are said, and their file {name}", both, YES, 0, more=["--claim", CLAIM, "--sources", empty])
+        status = 3 if content is None else 2
+        tried.expect_both(f"the claim alone is said, and their file {name}", both, "", status, 'sources": ', other)
+    for option in ("--claim", "--sources"):
+        for evidence in (tried.folder(RIGHT), tried.archive(archive_of(RIGHT))):
+            tried.expect_words(f"{option} x beside {os.path.basename(evidence)}", tried.verify(evidence, option, "x"), 2, option)
+
+
+def try_servers(tried):
+    """Blobs of a server, and results of evidence."""
+    missing = f"no step gen cause blob-missing {digest(GEN)}\n"
+    blobs = {name: content for name, content in RIGHT.items() if name.startswith("store/cas/")}
+    results = {name: content for name, content in RIGHT.items() if name.startswith("store/ac/")}
+    without = changed(dict.fromkeys(blobs))
+    with harness.Keeper() as keeper:
+        server = ["--server", keeper.address]
+        tried.expect_both("a server has no blob, and evidence has all", RIGHT, missing, 1, more=server)
+        keeper.held = {f"{prefix}{name[5:]}": content for prefix in ("", "/p") for name, content in blobs.items()}
+        tried.expect_both("a server has the blobs", without, YES, 0, more=server)
+        tried.expect_both("a server with a timeout", without, YES, 0, more=[*server, "--timeout", "9"])
+        keeper.held |= {name[5:]: b"\xff" for name in results}
+        tried.expect_both("a server has other results", without, YES, 0, more=server)
+        keeper.held |= {name[5:]: content for name, content in results.items()}
+        lacks = changed(dict.fromkeys(results), without)
+        tried.expect_both("a server has the results", lacks, "no step gen cause result-missing\n", 1, more=server)
+        keeper.held = {name: content for name, content in keeper.held.items() if name.startswith("/p/")}
+        tried.expect_both("a server below a prefix", without, YES, 0, more=[*server, "--prefix", "/p"])
+        tried.expect_both("and without the prefix", without, missing, 1, more=server)
+        keeper.held[f"/p{blob_at(TREE)[5:]}"] = TREE[:-1]
+        wrong = f"no step gen cause blob-wrong {digest(TREE)}\n"
+        tried.expect_both("a server has other bytes", RIGHT, wrong, 1, more=[*server, "--prefix", "/p"])
+    for evidence in (tried.folder(RIGHT), tried.archive(archive_of(RIGHT))):
+        told = tried.verify(evidence, "--server", NO_SERVER)
+        tried.expect_words(f"no server beside {os.path.basename(evidence)}", told, 3, NO_SERVER)
+
+
+def try_archives(tried):
+    """Archives of the same files, by several hands."""
+    folder = tried.folder(RIGHT)
+    for form in ("ustar", "gnu", "pax", "v7") if has_gnu_tar() else ():
+        for named in (".", "names", "reversed"):
+            tried.expect_archive(f"GNU tar --format={form}, {named}", by_tar(folder, form, named))
+    if not has_gnu_tar():
+        print("GNU tar isn't installed: its archives are left out")
+    for name, form in (("ustar", tarfile.USTAR_FORMAT), ("GNU", tarfile.GNU_FORMAT), ("pax", tarfile.PAX_FORMAT)):
+        for before in ("", "./"):
+            tried.expect_archive(f"tarfile's {name} format, behind {before!r}", by_tarfile(RIGHT, form, before))
+    for seed in range(4):
+        files = {name: RIGHT[name] for name in random.Random(seed).sample([*RIGHT], len(RIGHT))}
+        tried.expect_archive(f"members in order {seed}", archive_of(files, ("", "./")[seed % 2], with_folders=seed > 1))
+    more = {"a": b"a", "store/a": b"", "plan.old": b"x", "z/z": b"z" * 9999}
+    tried.expect_archive("files that aren't asked for", archive_of({**more, **RIGHT}))
+    tried.expect_archive("and behind those that are", archive_of({**RIGHT, **more}))
+    tried.expect_archive("files in a folder of the archive", archive_of(RIGHT, "evidence/"), "", 3, 'sources": ')
+    folder_of_plan = member("plan/", flag=b"5") + archive_of(changed({"plan": None}))
+    tried.expect_archive("a plan that is a folder", folder_of_plan, "", 3, 'plan": ')
+    names = [f"plan{letter}" for letter in " é\n\""]
+    tried.expect_archive("names like the plan's", archive_of({**dict.fromkeys(names, b"x"), **RIGHT}))
+    tried.expect_archive("an archive in an archive", archive_of({"archive": archive_of({"plan": b"x"}), **RIGHT}))
+    archive = archive_of(RIGHT)
+    tried.expect_archive("a file of 8 GiB, which is a hole", header(b"hole", b"77777777000\0"), "", 2, f'": at byte 0: {CUT}\n')
+    with open(f"{tried.place}/archive", "wb") as out:
+        out.write(header(b"hole", b"77777777000\0"))
+        out.seek(512 + 0o77777777000)
+        out.write(archive)
+    tried.expect("and evidence behind it", f"{tried.place}/archive", YES, 0)
+    try_paths(tried, folder, tried.archive(archive))
+
+
+def try_paths(tried, folder, archive):
+    for name, evidence in (("folder", folder), ("archive", archive)):
+        os.symlink(evidence, f"{tried.place}/link of {name}")
+        tried.expect(f"a link to the {name}", f"{tried.place}/link of {name}", YES, 0)
+        tried.expect(f"the {name} by a path from here", os.path.relpath(evidence), YES, 0)
+    tried.expect("the folder behind a slash", f"{folder}/", YES, 0)
+    os.mkfifo(f"{tried.place}/fifo")
+    for name, path in (("nothing there", f"{tried.place}/none"), ("a device", "/dev/null"), ("a fifo", f"{tried.place}/fifo"),
+                       ("an archive with a slash", f"{archive}/"), ("nothing below an archive", f"{archive}/evidence")):
+        tried.expect(name, path, "", 3, '": ')
+    tried.expect("an empty folder", tried.folder({}, "none yet"), "", 3, 'sources": ')
+
+
+def try_hostile(tried):
+    """Members that aren't read, each alone, before evidence and behind it."""
+    whole = archive_of(RIGHT)
+    right = whole.removesuffix(END)
+    for name, (content, refused) in TURNED.items():
+        if refused:
+            tried.refuse(f"{name}, alone", content, *refused)
+            tried.refuse(f"{name}, behind evidence", right + content, len(right) + refused[0], refused[1])
+        else:
+            tried.expect_archive(f"{name}, alone", content, "", 3, 'sources": ')
+            tried.expect_archive(f"{name}, behind evidence", right + content)
+    for name, field in FIELDS.items():
+        content, refused = with_field(*field), field[2]
+        if refused:
+            tried.refuse(f"{name}, before evidence", content + (END if refused == CUT else whole), 0, refused)
+            tried.refuse(f"{name}, behind evidence", right + content + END, len(right), refused)
+        else:
+            tried.expect_archive(f"{name}, before evidence", content + whole)
+            tried.expect_archive(f"{name}, behind evidence", right + content + END)
+    for name in ("plan", "store/cas/" + "0" * 64, blob_at(TREE), result_at(GEN)):
+        before = right + member(name) * (name not in RIGHT)
+        tried.refuse(f"{name[:12]} twice", before + member(name, b"other") + END, len(before), TWICE)
+    for name, prefix, it, words in (("of 65 names", b"a/" * 31 + b"a", b"a/" * 32 + b"a", NAME), ("above", b"", b"../plan", NAME),
+                                    ("of no UTF-8", b"", b"plan\xff", NAME), ("behind which is a NUL", b"", b"plan\0x", TWICE)):
+        tried.refuse(f"a name {name}", right + header(it, b"0\0", prefix=prefix) + END, len(right), words)
+
+
+def try_cuts(tried):
+    """An archive is cut at each block, and at 200 other places: the first member that isn't whole is told."""
+    for name, archive in (("own", archive_of(RIGHT, with_folders=True)), ("tarfile's", by_tarfile(RIGHT, tarfile.PAX_FORMAT))):
+        offsets = [0, *(behind for _, behind, *_ in members_of(archive))]
+        places = {*range(0, len(archive), 512), *random.Random(1).sample(range(len(archive)), 100)}
+        wrong = None
+        for place in sorted(places):
+            at = max(it for it in offsets if it <= place)
+            expected = ("", 2, f'": at byte {at}: {CUT}\n') if place < offsets[-1] + len(END) else (YES, 0)
+            wrong = wrong or wrong_of(tried.verify(path := tried.archive(archive[:place])), path, *expected)
+        tried.rows.tell(f"{name} archive of {len(archive)} bytes, cut at {len(places)} places", not wrong, wrong)
+
+
+def wrong_of_turned(tried, archive, seen):
+    """What is wrong with what is told of an archive that was turned, or None."""
+    told = tried.verify(path := tried.archive(archive))
+    seen[told.returncode] += 1
+    try:
+        files = files_of(archive)
+    except NoArchive as refused:
+        at, words = refused.args
+        seen[words] += 1
+        return wrong_of(told, path, "", 2, f'": at byte {at}: {words}\n')
+    if files.items() >= RIGHT.items():
+        return wrong_of(told, path, YES, 0)
+    is_line = told.returncode in ANSWERS and re.fullmatch(ANSWERS[told.returncode], told.stdout)
+    if not is_line or not harness.is_told(told.stderr, told.returncode):
+        return told
+    if any(it in ("store", "store/cas", "store/ac") or it.startswith(tuple(f"{name}/" for name in RIGHT)) for it in files):
+        return None  # (a folder with these files is another one)
+    seen["as a folder"] += 1
+    alike = tried.verify(tried.folder({name: it for name, it in files.items() if name in RIGHT or name.startswith("store/")}))
+    return None if (alike.stdout, alike.returncode) == (told.stdout, told.returncode) else (told, alike)
+
+
+def try_turned(tried):
+    """Archives that are turned at random; each has the seed of its number."""
+    archives = [archive_of(RIGHT), archive_of(RIGHT, "./", with_folders=True), by_tarfile(RIGHT, tarfile.PAX_FORMAT)]
+    seen, number, wrong = collections.Counter(), 0, None
+    end = time.monotonic() + min(harness.within(SECONDS), MOST_SECONDS)
+    while (time.monotonic() < end or number < FEWEST) and not wrong:
+        number += 1
+        chance = random.Random(number)
+        wrong = wrong_of_turned(tried, turned(chance, chance.choice(archives)), seen)
+    tried.rows.tell(f"{number} archives that were turned at random", not wrong, f"seed {number}: {wrong}")
+    tried.rows.tell("they are judged and refused in several ways", seen[0] and seen[1] and seen[2] and len(seen) > 8, seen)
+
+
+def try_many(tried, count):
+    """An archive of many small files, and evidence between them."""
+    path = f"{tried.place}/many"
+    with open(path, "wb") as out:
+        for number in range(count):
+            if number == count // 2:
+                out.write(archive_of(RIGHT).removesuffix(END))
+            out.write(member(f"store/cas/{number:064x}", b"%d" % number))
+        out.write(END)
+    out, seconds, status, memory = harness.watch(tried.program, "verify", path, seconds=600)
+    print(f"{count} files: {seconds:.1f} s, {memory} KiB")
+    tried.rows.tell(f"an archive of {count} more files: yes", (out, status) == (YES, 0), (out, status))
+    most = int(KIB_OF_A_PROGRAM + KIB_OF_A_FILE * count) * (2 if harness.is_slow() else 1)
+    tried.rows.tell(f"and its memory is within {most} KiB", memory <= most, memory)
+    os.remove(path)
+
+
+def try_all(rows, program, count=None):
+    with tempfile.TemporaryDirectory() as place:
+        tried = Evidence(program, place, rows)
+        for part in (try_questions, try_said, try_servers, try_archives, try_hostile, try_cuts, try_turned):
+            part(tried)
+        try_many(tried, count or FILES // harness.SLOWNESS)
+
+
+def main():
+    words = words_of(__doc__, 1, 2, ["--many"])
+    named = [it for it in words if it != "--many"]
+    if len(named) != 1:
+        fail(2, "one program is named; see --help")
+    rows = Rows()
+    try_all(rows, program_at(named[0]), MANY if "--many" in words else None)
+    sys.exit(rows.end())
+
+
+if __name__ == "__main__":
+    main()
