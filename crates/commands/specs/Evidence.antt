@@ -1,4 +1,4 @@
--- Evidence: in a folder or an archive the files of a question, and the entries by which it is judged.
+-- Evidence: in a folder or an archive the files of a question, and the entries that judge it.
 use Rattle.std.specs.Prelude.{◌≡◌, ◌≢◌, ◌⊎◌, ◌↔◌, ℕ, true, false, List, [], ◌∷◌, ◌++◌}
 use Rattle.std.specs.Prelude.{Option, None, Some, IfSome, IsSome, codes, is_some, map}
 use Rattle.std.specs.Prelude.{IsTrue, if◌then◌else◌, string_bytes}
@@ -90,8 +90,8 @@ abbrev pub in_evidence : List ℕ → List ℕ → List ℕ
 in_evidence evidence name = evidence ++ 47 ∷ name
 
 -- a text's line: all but a newline (10) at its end
-abbrev pub IsLineOf : List ℕ → List ℕ → Type 0
-IsLineOf text line = (text ≡ line ++ 10 ∷ [])
+abbrev pub HasLine : List ℕ → List ℕ → Type 0
+HasLine text line = (text ≡ line ++ 10 ∷ [])
     ⊎ ((text ≡ line) × ((rest : List ℕ) → text ≢ rest ++ 10 ∷ []))
 
 -- the file that was read at the path has a digest as its line
@@ -99,7 +99,7 @@ pub record HasDigestLine (sees : Sight) (path : List ℕ) (digest : DigestValue)
   pub text : List ℕ
   pub read : sees.reads path text
   pub line : List ℕ
-  pub is_line : IsLineOf text line
+  pub is_line : HasLine text line
   pub spelled : IsDigestText line digest
 
 -- the text of a digest's option: as it was said, or that of the evidence's file of its name
@@ -247,17 +247,17 @@ TellsArchiveError path archives.Memory e = e ≡ Memory
 TellsArchiveError path error e = ⊥
 
 -- the error tells that the line of the file at the path is no digest
-abbrev pub IsLineFault : List ℕ → List ℕ → CommandError → Type 0
-IsLineFault path line (DigestFile p fault) = (string_bytes p ≡ path)
+abbrev pub TellsNoDigest : List ℕ → List ℕ → CommandError → Type 0
+TellsNoDigest path line (DigestFile p fault) = (string_bytes p ≡ path)
     × SpellsNone line × ((fault ≡ BadHex) ↔ ¬ BeginsWithHash line)
-IsLineFault path line _ = ⊥
+TellsNoDigest path line _ = ⊥
 
 -- a file that has a digest as its line can't be read, or doesn't have it
 abbrev pub FailsDigestLine : Sight → List ℕ → CommandError → Type 0
 FailsDigestLine sees path e =
     ((f : FileError Global) × sees.fails path f × (e ≡ error_of_file f))
-    ⊎ ((text : List ℕ) × (line : List ℕ) × sees.reads path text × IsLineOf text line
-    × IsLineFault path line e)
+    ⊎ ((text : List ℕ) × (line : List ℕ) × sees.reads path text × HasLine text line
+    × TellsNoDigest path line e)
 
 -- the digest of the sources isn't stated, or else that of the claim
 abbrev pub FailsStated : Sight → List Row → List ℕ → CommandError → Type 0

@@ -3,7 +3,8 @@ use Rattle.std.specs.Prelude.{ℕ}
 use Rattle.commands.specs.declared.error.CommandError.{CommandError}
 use Rattle.commands.specs.declared.error.CommandError.TheVariants.{Usage, Digest, Number, Text}
 use Rattle.commands.specs.declared.error.CommandError.TheVariants.{File, NotAFile, TooLarge}
-use Rattle.commands.specs.declared.error.CommandError.TheVariants.{Archive, DigestFile, InvalidValue}
+use Rattle.commands.specs.declared.error.CommandError.TheVariants.{Archive, DigestFile}
+use Rattle.commands.specs.declared.error.CommandError.TheVariants.{InvalidValue}
 use Rattle.commands.specs.declared.error.CommandError.TheVariants.{Entry, Connection, Server}
 use Rattle.commands.specs.declared.error.CommandError.TheVariants.{Accept, Address, Random, Output}
 use Rattle.commands.specs.declared.error.CommandError.TheVariants.{Blob, Memory, Process}

@@ -1,7 +1,7 @@
 ghost use Rattle.std.specs.Prelude.{◌≡◌, ◌↔◌, IfErr, IfOk, None, codes, string_bytes};
 ghost use Rattle.clap.specs.Words.{first_of};
-ghost use Rattle.commands.specs.Evidence.{FailsDigestLine, FailsStated, HasDigestLine, IsLineFault};
-ghost use Rattle.commands.specs.Evidence.{IsLineOf, IsStated, entries_option, in_evidence};
+ghost use Rattle.commands.specs.Evidence.{FailsDigestLine, FailsStated, HasDigestLine, TellsNoDigest};
+ghost use Rattle.commands.specs.Evidence.{HasLine, IsStated, entries_option, in_evidence};
 ghost use Rattle.blob_digest.specs.Text.{BeginsWithHash};
 ghost use Rattle.commands.specs.Faults.{OrMemory, SpellsNone};
 
@@ -43,7 +43,7 @@ impl<M: Options> Options for EvidenceOptions<'_, M> {
 
 /// A text without the newline at its end.
 fn line_of(text: &[u8]) -> &[u8]
-    ensures { IsLineOf text.now result.now }
+    ensures { HasLine text.now result.now }
 {
     match text.split_last() {
         Some((b'\n', line)) => line,
@@ -60,7 +60,7 @@ fn line_error(
 ) -> Result<CommandError, AllocError>
     requires none { SpellsNone line.now }
     requires hash { (fault ≡ DigestError.BadHex) ↔ ¬ BeginsWithHash line.now }
-    ensures { IfOk result (IsLineFault path.now line.now) }
+    ensures { IfOk result (TellsNoDigest path.now line.now) }
 {
     let _ = line;
     let path = String::from_str(alloc, path)?;
