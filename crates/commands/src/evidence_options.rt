@@ -1,6 +1,7 @@
 ghost use Rattle.std.specs.Prelude.{◌≡◌, ◌↔◌, IfErr, IfOk, None, codes, string_bytes};
 ghost use Rattle.clap.specs.Words.{first_of};
-ghost use Rattle.commands.specs.Evidence.{FailsDigestLine, FailsStated, HasDigestLine, TellsNoDigest};
+ghost use Rattle.commands.specs.Evidence.{FailsDigestLine, FailsStated, HasDigestLine};
+ghost use Rattle.commands.specs.Evidence.{TellsNoDigest};
 ghost use Rattle.commands.specs.Evidence.{HasLine, IsStated, entries_option, in_evidence};
 ghost use Rattle.blob_digest.specs.Text.{BeginsWithHash};
 ghost use Rattle.commands.specs.Faults.{OrMemory, SpellsNone};
