@@ -1,0 +1,16 @@
+use Rattle.std.proofs.Math.Logic.{∥∥₁_map}
+use Rattle.blob_source.specs.Source.{bytes_of}
+use Rattle.keeping.proofs.Kept.{one_told, same_told}
+use Rattle.keeping.proofs.keeping.KeepingBlobSource.result.Goals as goal
+
+pub invariant_of-self-2 : goal.invariant_of-self-2
+invariant_of-self-2 g c =
+    let old = g.S.BlobSource.tells c.args.self.now.source in
+    let new = g.S.BlobSource.tells c.result.new.self in
+    let asked = c.in_ok-answer.ensures.called.asked in
+    record {
+      kept = λ whole. ∥∥₁_map (c.args.self.now.kept whole) (λ is. record {
+        blobs_told = same_told old.blobs new.blobs c.args.self.now.blobs asked.blobs is.blobs_told;
+        results_told = one_told old.results new.results c.args.self.now.results c.keep.new.self c.args.digest.now (bytes_of c.in_ok-answer.answer) is.results_told asked.results c.in_ok-keep.ensures.ok c.in_ok-answer.ensures.told;
+      });
+    }
