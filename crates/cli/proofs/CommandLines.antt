@@ -7,12 +7,13 @@ use Rattle.command_lines.specs.CommandLine.{CallsCommand, options_of, program_li
 use Rattle.cli.specs.Built.{BeginsBuild, Below, PrintsBuild}
 use Rattle.cli.specs.Refused.{FailsBuild}
 use Rattle.cli.specs.Ended.{BeginsAsked, EndsNo, Fails, IsDone}
-use Rattle.cli.specs.Ended.BeginsAsked.{built as build_begun, got as get_begun, put as put_begun, served as serve_begun, verified as verify_begun}
+use Rattle.cli.specs.Ended.BeginsAsked.{built as build_begun, hashed as digest_begun, got as get_begun, put as put_begun, served as serve_begun, verified as verify_begun}
 use Rattle.cli.specs.Running.{Ends, TellsEnd}
-use Rattle.cli.specs.Ended.Fails.{in_build, in_get, in_put, in_serve, in_verify}
+use Rattle.cli.specs.Ended.Fails.{in_build, in_digest, in_get, in_put, in_serve, in_verify}
 use Rattle.cli.specs.Ended.IsDone.{built, got, yes}
 use Rattle.cli.specs.Ended.IsNo.{failed, no, none}
-use Rattle.commands.specs.Evidence.{BeginsAnswer, FailsAsked, VerifiesAsked}
+use Rattle.commands.specs.Digested.{BeginsDigestRead, FailsDigest}
+use Rattle.commands.specs.Verified.{BeginsAnswer, FailsAsked, VerifiesAsked}
 use Rattle.commands.specs.Printed.{BeginsDigest, BeginsListening, GetsAsked, GetsPart}
 use Rattle.commands.specs.World.{Sight}
 use Rattle.commands.specs.GetRefused.{FailsGet}
@@ -26,7 +27,7 @@ use Rattle.commands.specs.declared.error.CommandError.{CommandError}
 use Rattle.commands.specs.declared.error.CommandError.TheVariants.{Archive, DigestFile, Usage, Digest, Number, Text as TextFault, InvalidValue, File}
 use Rattle.commands.specs.declared.error.CommandError.TheVariants.{NotAFile, TooLarge, Entry, Connection}
 use Rattle.commands.specs.declared.error.CommandError.TheVariants.{Server, Blob, Accept, Address, Random}
-use Rattle.commands.specs.declared.error.CommandError.TheVariants.{Output, Memory, Process}
+use Rattle.commands.specs.declared.error.CommandError.TheVariants.{Output, Memory, Process, Stages}
 
 -- the rows of the subcommand that was found are those of the one that the words call
 options_found : (found called : Option (Text × List Row)) (rows : List Row) → found ≡ called → Some rows ≡ option_map (λ p. p.1) found → rows ≡ option_map_or (λ p. p.1) called []
@@ -81,6 +82,9 @@ module _ {sees : Sight} {below : Below} (words : List Text) {rows : List Row} (i
   pub put_begins : {old new : Option (List ℕ)} → CallsCommand words (codes "put") → BeginsDigest sees rows old new → BeginsAsked sees below words old new
   put_begins {old} {new} called h = put_begun called (subst (λ (o : List Row). BeginsDigest sees o old new) is h)
 
+  pub digest_begins : {old new : Option (List ℕ)} → CallsCommand words (codes "digest") → BeginsDigestRead sees rows old new → BeginsAsked sees below words old new
+  digest_begins {old} {new} called h = digest_begun called (subst (λ (o : List Row). BeginsDigestRead sees o old new) is h)
+
   pub serve_begins : {old new : Option (List ℕ)} → CallsCommand words (codes "serve") → BeginsListening sees rows old new → BeginsAsked sees below words old new
   serve_begins {old} {new} called h = serve_begun called (subst (λ (o : List Row). BeginsListening sees o old new) is h)
 
@@ -89,6 +93,9 @@ module _ {sees : Sight} {below : Below} (words : List Text) {rows : List Row} (i
 
   pub put_fails : (e : CommandError) → CallsCommand words (codes "put") → FailsPut sees rows e → Fails sees below words e
   put_fails e called h = in_put called (subst (λ (o : List Row). FailsPut sees o e) is h)
+
+  pub digest_fails : (e : CommandError) → CallsCommand words (codes "digest") → FailsDigest sees rows e → Fails sees below words e
+  digest_fails e called h = in_digest called (subst (λ (o : List Row). FailsDigest sees o e) is h)
 
   pub get_fails : (e : CommandError) → CallsCommand words (codes "get") → FailsGet sees rows e → Fails sees below words e
   get_fails e called h = in_get called (subst (λ (o : List Row). FailsGet sees o e) is h)
@@ -108,6 +115,7 @@ status_is (TextFault path fault hint) = inl refl
 status_is (InvalidValue option expected text) = inl refl
 status_is (DigestFile path fault) = inl refl
 status_is (Archive path at refusal) = inl refl
+status_is (Stages path line) = inl refl
 status_is (File path fault) = inr refl
 status_is (NotAFile path) = inr refl
 status_is (TooLarge path) = inr refl

@@ -8,7 +8,8 @@ use Rattle.command_lines.specs.CommandLine.{CallsCommand, options_of, program_li
 use Rattle.cli.specs.Built.{BeginsBuild, Below, PrintsBuild}
 use Rattle.cli.specs.Help.{IsTip, help_asked, version_line}
 use Rattle.cli.specs.Refused.{FailsBuild}
-use Rattle.commands.specs.Evidence.{BeginsAnswer, FailsAsked, VerifiesAsked}
+use Rattle.commands.specs.Digested.{BeginsDigestRead, FailsDigest, PrintsDigestRead}
+use Rattle.commands.specs.Verified.{BeginsAnswer, FailsAsked, VerifiesAsked}
 use Rattle.commands.specs.Printed.{BeginsDigest, BeginsListening, GetsAsked, GetsPart}
 use Rattle.commands.specs.Printed.{PrintsDigest, ServesAsked}
 use Rattle.commands.specs.GetRefused.{FailsGet}
@@ -41,8 +42,9 @@ pub data BeginsShown (words : List Text) (old new : Option (List ℕ)) : Type 0 
   help : WantsHelp words → AppendsBeginning old new (help_asked words) → BeginsShown words old new
   version : WantsVersion words → AppendsBeginning old new version_line → BeginsShown words old new
 
--- The line of a yes was printed, or a blob, or the line of the digest of what was put, or that of
--- the address where connections were served, or that of a build's root, or the help or the version.
+-- The line of a yes was printed, or a blob, or the line of the digest of what was put or read, or
+-- that of the address where connections were served, or that of a build's root, or the help or the
+-- version.
 pub data IsDone (sees : Sight) (below : Below) (words : List Text) (old new : Option (List ℕ))
     : Type 0 where
   yes : CallsCommand words (codes "verify") → VerifiesAsked sees (options_of words) old new Done
@@ -50,6 +52,8 @@ pub data IsDone (sees : Sight) (below : Below) (words : List Text) (old new : Op
   got : CallsCommand words (codes "get") → GetsAsked sees (options_of words) old new Done
       → IsDone sees below words old new
   put : CallsCommand words (codes "put") → PrintsDigest sees (options_of words) old new
+      → IsDone sees below words old new
+  hashed : CallsCommand words (codes "digest") → PrintsDigestRead sees (options_of words) old new
       → IsDone sees below words old new
   served : CallsCommand words (codes "serve") → ServesAsked sees (options_of words) old new
       → IsDone sees below words old new
@@ -88,6 +92,8 @@ pub data BeginsAsked (sees : Sight) (below : Below) (words : List Text)
   got : CallsCommand words (codes "get") → GetsPart sees (options_of words) old new
       → BeginsAsked sees below words old new
   put : CallsCommand words (codes "put") → BeginsDigest sees (options_of words) old new
+      → BeginsAsked sees below words old new
+  hashed : CallsCommand words (codes "digest") → BeginsDigestRead sees (options_of words) old new
       → BeginsAsked sees below words old new
   served : CallsCommand words (codes "serve") → BeginsListening sees (options_of words) old new
       → BeginsAsked sees below words old new
@@ -128,6 +134,8 @@ pub data Fails (sees : Sight) (below : Below) (words : List Text) (e : CommandEr
   in_build : CallsCommand words (codes "build") → FailsBuild sees below (options_of words) e
       → Fails sees below words e
   in_put : CallsCommand words (codes "put") → FailsPut sees (options_of words) e
+      → Fails sees below words e
+  in_digest : CallsCommand words (codes "digest") → FailsDigest sees (options_of words) e
       → Fails sees below words e
   in_get : CallsCommand words (codes "get") → FailsGet sees (options_of words) e
       → Fails sees below words e

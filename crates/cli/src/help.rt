@@ -11,6 +11,7 @@ Commands:
   verify  Say whether every build of a plan ends in exactly the claimed root
   put     Upload a file, or a folder with all below it, and print its digest
   get     Write a blob to standard output, or a tree into a folder
+  digest  Print the digest of a file, or of a folder with all below it
   build   Build a plan, and write the record of the build
 
 Options:
@@ -31,12 +32,14 @@ Usage: buildcache serve [OPTIONS] --listen <ADDR> --limit <BYTES> --result-limit
 
 Options:
       --listen <ADDR>         Address to listen on, HOST:PORT; port 0: any free port
-      --limit <BYTES>         Most bytes of blobs; one blob has at most 16777216
+      --limit <BYTES>         Most bytes of blobs, as 8G; one blob has at most 16M. K, M, G and T
+                              are powers of 1,024
       --result-limit <BYTES>  Most bytes of action results; each counts its length plus 64
       --prefix <P>            Path before /cas and /ac, like /team/main
       --idle <SECONDS>        Seconds of silence after which a client is disconnected; 0: never
                               [default: 60]
-      --at-once <N>           Most connections held at a time, 1 to 1024 [default: 1]
+      --at-once <N>           Most connections held at a time, 1 to 1024 [default: 256; with
+                              --connections 1]
       --connections <N>       Exit after this many connections; by default never
   -h, --help                  Print help
 
@@ -51,12 +54,13 @@ Say whether every build of a plan ends in exactly the claimed root
 
 Usage: buildcache verify [OPTIONS] <EVIDENCE>
        buildcache verify [OPTIONS] --sources <DIGEST> --plan <FILE> --record <FILE> \
---claim <DIGEST> <--server <ADDR>|--store <FOLDER>>
+<--claim <DIGEST>|--artifact <FOLDER>> <--server <ADDR>|--store <FOLDER>>
 
 Arguments:
   <EVIDENCE>  A folder with the files sources, claim, plan and record and the folder store, or a
-              tar archive of it (docs/FORMATS.md). Beside it go --claim and --sources, in place of
-              its files, and --server, which is asked for blobs alone
+              tar archive of it; of a build in stages, with the file stages and a folder of each
+              (docs/FORMATS.md). Beside it go --sources, and --claim or --artifact, in place of its
+              files, and --server, which is asked for blobs alone
 
 Options:
       --server <ADDR>      Server that has the recorded build, HOST:PORT
@@ -69,6 +73,8 @@ Options:
       --plan <FILE>        The plan's file (docs/FORMATS.md)
       --record <FILE>      The record's file (docs/FORMATS.md)
       --claim <DIGEST>     Claimed digest of the root, HASH/SIZE
+      --artifact <FOLDER>  Folder whose tree is the claimed root, as it is read
+      --no-bits            Take each file of that folder as not executable, as put does
   -h, --help               Print help
 
 Status:
@@ -122,6 +128,24 @@ Status:
   3  The folder, the server, standard output or memory failed
 ";
 
+const DIGEST: &str = "\
+Print the digest of a file, or of a folder with all below it
+
+Usage: buildcache digest [OPTIONS] <PATH>
+
+Arguments:
+  <PATH>  The file or the folder; nothing is uploaded or written
+
+Options:
+      --no-bits  Take each file as not executable, as put does; by default its owner's bit counts
+  -h, --help     Print help
+
+Status:
+  0  The digest was printed
+  2  The command line is invalid
+  3  A file or standard output failed, or an entry has no place in a tree
+";
+
 const BUILD: &str = "\
 Build a plan, and write the record of the build
 
@@ -160,6 +184,7 @@ fn help_on(name: &str) -> &'static str
         "verify" => VERIFY,
         "put" => PUT,
         "get" => GET,
+        "digest" => DIGEST,
         "build" => BUILD,
         _ => PROGRAM,
     }

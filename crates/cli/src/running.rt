@@ -11,8 +11,8 @@ use crate::showing::show;
 use crate::workplace::Workplace;
 use command_lines::parse;
 use commands::{
-    Archives, CommandError, Ended, Hosting, Inputs, Outputs, run_get, run_put, run_serve,
-    run_verify, tell, tell_note,
+    Archives, CommandError, Ended, Hosting, Inputs, Outputs, run_digest, run_get, run_put,
+    run_serve, run_verify, tell, tell_note,
 };
 use std::alloc::Global;
 use std::io::Write;
@@ -135,6 +135,10 @@ where
             Ok(Ended::Done)
         }
         "get" => Ok(run_get(rt.alloc(), world, inner, out)?),
+        "digest" => {
+            run_digest(rt.alloc(), world, inner, out)?;
+            Ok(Ended::Done)
+        }
         "serve" => {
             run_serve(rt.alloc(), world, inner, out)?;
             Ok(Ended::Done)

@@ -8,8 +8,8 @@ use Rattle.clap.specs.Lexer.{long_of}
 use Rattle.std.specs.Str.{bytes_eq}
 use Rattle.clap.specs.Walk.{Rule, answers_to, arg_by_id, arg_by_long}
 use Rattle.clap.specs.Simple.{App, Shape, built, label_of}
-use Rattle.command_lines.specs.CommandLine.{AsksVerify, build_line, get_line, program_line, put_line, serve_line, verify_line, option_text, options_of}
-use Rattle.command_lines.specs.Given.{CanBeTexts, CanTake, Given, MissesNeeded, IsUnderstood, given_text, in_two_words, verify_in_two}
+use Rattle.command_lines.specs.CommandLine.{AsksVerify, build_line, digest_line, get_line, program_line, put_line, serve_line, verify_line, option_text, options_of}
+use Rattle.command_lines.specs.Given.{CanBeTexts, CanTake, Given, MissesNeeded, IsUnderstood, given_text, in_two_words, usual_text, verify_in_two}
 use Rattle.clap.specs.Words.{Text}
 use Rattle.command_lines.proofs.Walking.{CallsBuilt, IsPlainLevel, KnowsOption, flag_rule, option_rule}
 use Rattle.command_lines.proofs.Understood.{Knows, missed, understood}
@@ -33,6 +33,11 @@ knows s must name by_long by_id bare joined bare_goes_on joined_goes_on = record
   joined_goes_on = joined_goes_on;
 }
 
+-- what a flag is without its word
+usually : (name : Text) (b : Bool) → option_and_then (λ (a : Rule). slice_get a.defaults 0) (cond b (Some (flag_rule name)) None) ≡ option_map (λ (n : Text). codes "false") (cond b (Some name) None)
+usually name true = refl
+usually name false = refl
+
 -- ---- verify
 
 verify_knows : Knows verify_line (built_in_program verify_line)
@@ -55,7 +60,10 @@ verify_knows = record {
                   knows (built_in_program verify_line) false (codes "record") refl refl refl (λ t. refl) refl (λ t. refl),
                   (
                     knows (built_in_program verify_line) false (codes "claim") refl refl refl (λ t. refl) refl (λ t. refl),
-                    tt,
+                    (
+                      knows (built_in_program verify_line) false (codes "artifact") refl refl refl (λ t. refl) refl (λ t. refl),
+                      tt,
+                    ),
                   ),
                 ),
               ),
@@ -66,8 +74,8 @@ verify_knows = record {
     ),
   );
   words = (record { must = false; by_index = refl; by_id = refl }, tt);
-  flags = tt;
-  usual = λ name. refl;
+  flags = (record { by_long = refl; bare = refl; bare_goes_on = refl }, tt);
+  usual = λ name. usually (codes "no-bits") (bytes_eq (codes "no-bits") name);
   needs = λ there. refl;
 }
 
@@ -195,11 +203,31 @@ get_understood = understood get_line (built_in_program get_line) get_knows get_p
 pub get_missed : MissesNeeded get_line
 get_missed = missed get_line (built_in_program get_line) get_knows get_plain get_calls
 
--- ---- build
+-- ---- digest
 
-usually : (b : Bool) → option_and_then (λ (a : Rule). slice_get a.defaults 0) (cond b (Some (flag_rule (codes "verbose"))) None) ≡ option_map (λ (n : Text). codes "false") (cond b (Some (codes "verbose")) None)
-usually true = refl
-usually false = refl
+digest_knows : Knows digest_line (built_in_program digest_line)
+digest_knows = record {
+  options = tt;
+  words = (record { must = true; by_index = refl; by_id = refl }, tt);
+  flags = (record { by_long = refl; bare = refl; bare_goes_on = refl }, tt);
+  usual = λ name. usually (codes "no-bits") (bytes_eq (codes "no-bits") name);
+  needs = λ there. refl;
+}
+
+digest_calls : CallsBuilt (built program_line) (codes "digest") (built_in_program digest_line)
+unfolding clap_on_literals
+digest_calls = record { next = refl; faultless = refl; found = refl; fine_defaults = refl; checked = refl }
+
+digest_plain : IsPlainLevel (built_in_program digest_line)
+digest_plain = record { no_help_wanted = refl; no_command_wanted = refl; fine_defaults = refl }
+
+pub digest_understood : IsUnderstood digest_line
+digest_understood = understood digest_line (built_in_program digest_line) digest_knows digest_plain digest_calls refl
+
+pub digest_missed : MissesNeeded digest_line
+digest_missed = missed digest_line (built_in_program digest_line) digest_knows digest_plain digest_calls
+
+-- ---- build
 
 build_knows : Knows build_line (built_in_program build_line)
 build_knows = record {
@@ -230,7 +258,7 @@ build_knows = record {
   );
   words = tt;
   flags = (record { by_long = refl; bare = refl; bare_goes_on = refl }, tt);
-  usual = λ name. usually (bytes_eq (codes "verbose") name);
+  usual = λ name. usually (codes "verbose") (bytes_eq (codes "verbose") name);
   needs = λ there. refl;
 }
 
@@ -281,14 +309,14 @@ verify_in_two_understood store sources plan noted claim texts =
       whole = tt;
     } in
     let asks = verify_understood given takes in
-    let text_is : (name : Text) → option_text (options_of (verify_in_two store sources plan noted claim)) name ≡ unwrap_or (given_text name given) [] =
-    λ name. ap (λ o. unwrap_or o []) (asks.texts_are name ∙ or_nothing (given_text name given)) in
+    let text_is : (name : Text) → usual_text verify_line name ≡ None → option_text (options_of (verify_in_two store sources plan noted claim)) name ≡ unwrap_or (given_text name given) [] =
+    λ name no_flag. ap (λ o. unwrap_or o []) (asks.texts_are name ∙ ap (option_or (given_text name given)) no_flag ∙ or_nothing (given_text name given)) in
     record {
       called = asks.called;
       plain = asks.texts_are (codes "evidence");
-      store_is = text_is (codes "store");
-      sources_are = text_is (codes "sources");
-      plan_is = text_is (codes "plan");
-      noted_is = text_is (codes "record");
-      claim_is = text_is (codes "claim");
+      store_is = text_is (codes "store") refl;
+      sources_are = text_is (codes "sources") refl;
+      plan_is = text_is (codes "plan") refl;
+      noted_is = text_is (codes "record") refl;
+      claim_is = text_is (codes "claim") refl;
     }

@@ -61,8 +61,9 @@ placed_line =
 
 abbrev pub verify_line : App
 verify_line =
-    may_take_word (may_have (may_have (may_have (may_have placed_line
-    (codes "sources")) (codes "plan")) (codes "record")) (codes "claim")) (codes "evidence")
+    may_take_word (has_flag (may_have (may_have (may_have (may_have (may_have placed_line
+    (codes "sources")) (codes "plan")) (codes "record")) (codes "claim")) (codes "artifact"))
+    (codes "no-bits")) (codes "evidence")
 
 -- `serve` and its options
 abbrev pub serve_line : App
@@ -79,6 +80,10 @@ put_line = takes_word (client_line (codes "put")) (codes "path")
 abbrev pub get_line : App
 get_line = may_have (takes_word (client_line (codes "get")) (codes "digest")) (codes "into")
 
+-- `digest` with a file or a folder
+abbrev pub digest_line : App
+digest_line = takes_word (has_flag (new_app (codes "digest")) (codes "no-bits")) (codes "path")
+
 -- `build` and its options
 abbrev pub build_line : App
 build_line =
@@ -91,14 +96,14 @@ build_line =
 abbrev pub program_line : App
 program_line =
     with_subcommand (with_subcommand (with_subcommand (with_subcommand (with_subcommand
-    (on_top (λ s.
+    (with_subcommand (on_top (λ s.
     record s {
       has_version = true;
       no_binary_name = true;
       subcommand_required = true;
       disable_help_subcommand = true;
     }) (new_app (codes "buildcache")))
-    serve_line.top) verify_line.top) put_line.top) get_line.top) build_line.top
+    serve_line.top) verify_line.top) put_line.top) get_line.top) digest_line.top) build_line.top
 
 -- ---- what the words ask for
 
@@ -127,7 +132,7 @@ IsAtFault words kind = fault_of program_line words ≡ kind ∷ []
 abbrev pub EachIsAtFault : List Text → ErrorKind → Type 0
 EachIsAtFault words kind =
     AllByRecursion (λ (line : App). IsAtFault (line.top.name ∷ words) kind)
-    (serve_line ∷ verify_line ∷ put_line ∷ get_line ∷ build_line ∷ [])
+    (serve_line ∷ verify_line ∷ put_line ∷ get_line ∷ digest_line ∷ build_line ∷ [])
 
 -- ---- examples
 

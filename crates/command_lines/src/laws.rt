@@ -2,8 +2,8 @@ ghost use Rattle.std.specs.Prelude.{[], ◌∷◌, codes};
 ghost use Rattle.clap.specs.Words.{Text};
 ghost use Rattle.clap.specs.declared.error.kind.ErrorKind.TheVariants as kinds;
 ghost use Rattle.command_lines.specs.CommandLine.{AsksVerify, EachIsAtFault, IsAtFault, build_line};
-ghost use Rattle.command_lines.specs.CommandLine.{get_line, put_line, serve_line, verify_line};
-ghost use Rattle.command_lines.specs.CommandLine.{verify_words};
+ghost use Rattle.command_lines.specs.CommandLine.{digest_line, get_line, put_line, serve_line};
+ghost use Rattle.command_lines.specs.CommandLine.{verify_line, verify_words};
 ghost use Rattle.command_lines.specs.Given.{CanBeTexts, MissesNeeded, IsUnderstood, verify_in_two};
 
 /// What words ask for: each command with whatever it can take, in any order, as people type it;
@@ -28,12 +28,14 @@ pub fn words_are_understood()
     ensures serve { IsUnderstood serve_line }
     ensures put { IsUnderstood put_line }
     ensures get { IsUnderstood get_line }
+    ensures digest { IsUnderstood digest_line }
     ensures build { IsUnderstood build_line }
     // Where one that a command needs isn't given, the words are at fault with just that. `verify`
     // tells by itself what it wants.
     ensures serve_misses { MissesNeeded serve_line }
     ensures put_misses { MissesNeeded put_line }
     ensures get_misses { MissesNeeded get_line }
+    ensures digest_misses { MissesNeeded digest_line }
     ensures build_misses { MissesNeeded build_line }
     // So `verify` with each text in a word of its own, for one.
     ensures two_words { (store sources plan noted claim : Text)

@@ -3,7 +3,7 @@ ghost use Rattle.clap.specs.Words.{FailsBy, app_of, fault_of, rule_of, subcomman
 ghost use Rattle.clap.specs.Words.{subcommand_rows_of};
 ghost use Rattle.command_lines.specs.CommandLine.{flag, optional_option, optional_word};
 ghost use Rattle.command_lines.specs.CommandLine.{required_option, required_word};
-ghost use Rattle.command_lines.specs.CommandLine.{build_line, client_line, get_line};
+ghost use Rattle.command_lines.specs.CommandLine.{build_line, client_line, digest_line, get_line};
 ghost use Rattle.command_lines.specs.CommandLine.{placed_line, program_line, put_line};
 ghost use Rattle.command_lines.specs.CommandLine.{serve_line, verify_line};
 
@@ -82,6 +82,8 @@ fn verify_command<'a>(alloc: Global) -> Result<Command<'a>, AllocError>
         .arg(optional(alloc, "plan", "FILE"))?
         .arg(optional(alloc, "record", "FILE"))?
         .arg(optional(alloc, "claim", "DIGEST"))?
+        .arg(optional(alloc, "artifact", "FOLDER"))?
+        .arg(flag(alloc, "no-bits"))?
         .arg(optional_word(alloc, "evidence", "EVIDENCE"))
 }
 
@@ -112,6 +114,14 @@ fn put_command<'a>(alloc: Global) -> Result<Command<'a>, AllocError>
     ensures { IfOk result (λ c. app_of c ≡ put_line) }
 {
     client(alloc, "put")?.arg(word(alloc, "path", "PATH"))
+}
+
+fn digest_command<'a>(alloc: Global) -> Result<Command<'a>, AllocError>
+    ensures { IfOk result (λ c. app_of c ≡ digest_line) }
+{
+    Command::new(alloc, "digest")
+        .arg(flag(alloc, "no-bits"))?
+        .arg(word(alloc, "path", "PATH"))
 }
 
 fn get_command<'a>(alloc: Global) -> Result<Command<'a>, AllocError>
@@ -148,6 +158,7 @@ fn program<'a>(alloc: Global) -> Result<Command<'a>, AllocError>
         .subcommand(verify_command(alloc)?)?
         .subcommand(put_command(alloc)?)?
         .subcommand(get_command(alloc)?)?
+        .subcommand(digest_command(alloc)?)?
         .subcommand(build_command(alloc)?)
 }
 

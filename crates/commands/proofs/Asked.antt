@@ -12,28 +12,47 @@ use Rattle.archive.specs.Reader.{FailsAt}
 use Rattle.clap.specs.Words.{Row, Text, first_of}
 use Rattle.remote.specs.declared.files.FileError.{FileError}
 use Rattle.remote.specs.declared.files.FileError.TheVariants as errors
-use Rattle.commands.specs.Evidence.FailsBehind.{behind, in_memory}
+use Rattle.commands.specs.Verified.FailsBehind.{behind, in_memory, in_words}
 use Rattle.commands.specs.Evidence.InEvidence.{archive}
 use Rattle.commands.specs.Faults.{OrMemory}
 use Rattle.commands.specs.declared.ended.Ended.{Ended}
-use Rattle.commands.specs.Evidence.{BeginsAnswer, BeginsNamed, FailsAsked, FailsBehind, FailsNamed, HoldsArchive, InEvidence, IsNothingThere, IsSameFault, OnAsked, IsStated, OnNamed, StatesDigests, entries_option, evidence_options, given, in_evidence, options_in, sees_archive, words_of}
-use Rattle.commands.specs.Words.{AllValid, Check}
+use Rattle.commands.specs.Evidence.{HoldsArchive, InEvidence, IsNothingThere, IsSameFault, StatesDigests, artifact_words, entries_option, evidence_options, given, in_evidence, options_in, sees_archive, words_of}
+use Rattle.command_lines.specs.CommandLine.{option_text}
+use Rattle.text_verifier.specs.Texts.{IsDigestText}
+use Rattle.text_verifier.specs.declared.reading.Digests.{Digests}
+use Rattle.commands.specs.Stages.{SpellsDigests, StagesAsked}
+use Rattle.commands.specs.Verified.{BeginsAnswer, BeginsClaim, BeginsNamed, FailsAsked, FailsBehind, FailsClaimed, FailsNamed, OnAsked, OnClaim, OnNamed}
+use Rattle.commands.specs.Words.{AllValid, Check, FailsFirst}
 use Rattle.commands.specs.World.{Sight}
 use Rattle.commands.specs.declared.error.CommandError.{CommandError}
+use Rattle.commands.proofs.Checking.{fails_in}
 use Rattle.commands.specs.declared.evidence_options.EvidenceOptions.{EvidenceOptions}
 
 module _ (sees : Sight) (options : List Row) (named : Option (List ℕ)) (is : first_of (codes "evidence") options ≡ named) where
-  pub asked : (Says : Sight → List Row → Type 0) → AllValid (words_of named options) → OnNamed named sees options Says → OnAsked sees options Says
-  asked Says valid says = record {
-    valid = subst (λ o. AllValid (words_of o options)) (sym is) valid;
-    says = subst (λ o. OnNamed o sees options Says) (sym is) says;
+  pub asked : (Says : Sight → List Row → Type 0) (OfStages : Sight → StagesAsked → Type 0) → AllValid (artifact_words options) → AllValid (words_of named options) → OnNamed named sees options Says OfStages → OnAsked sees options Says OfStages
+  asked Says OfStages artifact valid says = record {
+    valid = (artifact.0, (artifact.1.0, (artifact.1.1.0, subst (λ o. AllValid (words_of o options)) (sym is) valid)));
+    says = subst (λ o. OnNamed o sees options Says OfStages) (sym is) says;
   }
 
   pub begins : (old new : Option (List ℕ)) → BeginsNamed named sees options old new → BeginsAnswer sees options old new
   begins old new h = subst (λ o. BeginsNamed o sees options old new) (sym is) h
 
-  pub fails : (e : CommandError) → FailsBehind (words_of named options) (FailsNamed named sees options) e → FailsAsked sees options e
-  fails e h = subst (λ o. FailsBehind (words_of o options) (FailsNamed o sees options) e) (sym is) h
+  pub fails : (e : CommandError) → AllValid (artifact_words options) → FailsBehind (words_of named options) (FailsNamed named sees options) e → FailsAsked sees options e
+  fails e artifact h = subst (λ o. FailsBehind (artifact_words options ++ words_of o options) (FailsNamed o sees options) e) (sym is) (behind_artifact h)
+    where
+      behind_artifact : FailsBehind (words_of named options) (FailsNamed named sees options) e → FailsBehind (artifact_words options ++ words_of named options) (FailsNamed named sees options) e
+      behind_artifact (in_memory memory) = in_memory memory
+      behind_artifact (in_words first) = in_words (inr (artifact.0, inr (artifact.1.0, inr (artifact.1.1.0, first))))
+      behind_artifact (behind valid h) = behind (artifact.0, (artifact.1.0, (artifact.1.1.0, valid))) h
+
+-- what is said of the folder that stands for a claim is at fault
+pub artifact_fails : (sees : Sight) (options : List Row) (e : CommandError) → OrMemory (FailsFirst (artifact_words options)) e → FailsAsked sees options e
+artifact_fails sees options e h = go (fails_in [] (artifact_words options) (words_of (first_of (codes "evidence") options) options) e tt h)
+  where
+    go : OrMemory (FailsFirst (artifact_words options ++ words_of (first_of (codes "evidence") options) options)) e → FailsAsked sees options e
+    go (inl memory) = in_memory memory
+    go (inr first) = in_words first
 
 -- ---- the options by which evidence is judged
 
@@ -64,14 +83,20 @@ module _ {M : Type 0} (name : Text) (o : EvidenceOptions M) (rows : List Row) wh
       ∙ (other_row name (codes "plan") (string_bytes o.plan) with_record plan
       ∙ other_row name (codes "record") (string_bytes o.noted) last noted))
 
--- the options that were made are those that the evidence states
-pub restated : {M : Type 0} (sees : Sight) (said : List Row) (evidence : List ℕ) (o : EvidenceOptions M) (Says : List Row → Type 0)
-    → IsStated sees said evidence (codes "sources") (string_bytes o.sources) → IsStated sees said evidence (codes "claim") (string_bytes o.claim)
-    → string_bytes o.plan ≡ in_evidence evidence (codes "plan") → string_bytes o.noted ≡ in_evidence evidence (codes "record")
-    → o.place.now ≡ entries_option said → string_bytes o.entries ≡ in_evidence evidence (codes "store") → Says (options_in said o) → StatesDigests sees said evidence Says
-restated sees said evidence o Says sources claim plan noted place entries says =
-    let same : options_in said o ≡ evidence_options said evidence (string_bytes o.sources) (string_bytes o.claim) = rw (plan, noted, place, entries) in
-    record { sources = string_bytes o.sources; sources_are = sources; claim = string_bytes o.claim; claim_is = claim; says = subst Says same says }
+-- the options that were made are those of this folder
+pub made_of : {M : Type 0} (said : List Row) (evidence folder sources claim : List ℕ) (o : EvidenceOptions M) → string_bytes o.sources ≡ sources → string_bytes o.claim ≡ claim
+    → string_bytes o.plan ≡ in_evidence folder (codes "plan") → string_bytes o.noted ≡ in_evidence folder (codes "record")
+    → o.place.now ≡ entries_option said → string_bytes o.entries ≡ in_evidence evidence (codes "store") → options_in said o ≡ evidence_options said evidence folder sources claim
+made_of said evidence folder sources claim o from to plan noted place entries = rw (from, to, plan, noted, place, entries) refl
+
+pub same_options : (options : List Row) (evidence folder sources claim at from to : List ℕ) → folder ≡ at → sources ≡ from → claim ≡ to → evidence_options options evidence folder sources claim ≡ evidence_options options evidence at from to
+same_options options evidence folder sources claim at from to is begins ends = rw (is, begins, ends) refl
+
+-- what is said of the options that state the digests, where it is of those that were made
+pub stated : (outside sees : Sight) (said : List Row) (evidence : List ℕ) (made : List Row) (Says : List Row → Type 0)
+    → StatesDigests outside sees said evidence (λ rows. rows ≡ made) → Says made → StatesDigests outside sees said evidence Says
+stated outside sees said evidence made Says states says =
+    record { sources = states.sources; sources_are = states.sources_are; claim = states.claim; claim_is = states.claim_is; says = subst Says (sym states.says) says }
 
 -- ---- an archive in place of a folder
 
@@ -107,10 +132,20 @@ in_archive sees evidence at contents told files Says place same lead holds says 
 
 -- ---- results
 
-pub ok_asked : {E : Type 0} (sees : Sight) (options : List Row) (evidence : List ℕ) (Says : Ended → Sight → List Row → Type 0) (r : Result Ended E) → first_of (codes "evidence") options ≡ Some evidence
-    → OnOk r (AllValid (words_of (Some evidence) options)) → IfOk r (λ ended. OnNamed (Some evidence) sees options (Says ended)) → IfOk r (λ ended. OnAsked sees options (Says ended))
-ok_asked sees options evidence Says (Ok ended) is valid says = asked sees options (Some evidence) is (Says ended) valid says
-ok_asked sees options evidence Says (Err e) is valid says = tt
+pub ok_stated : {T E : Type 0} (outside sees : Sight) (said : List Row) (evidence : List ℕ) (made : List Row) (Says : T → List Row → Type 0) (r : Result T E)
+    → StatesDigests outside sees said evidence (λ rows. rows ≡ made) → IfOk r (λ x. Says x made) → IfOk r (λ x. StatesDigests outside sees said evidence (Says x))
+ok_stated outside sees said evidence made Says (Ok x) states says = stated outside sees said evidence made (Says x) states says
+ok_stated outside sees said evidence made Says (Err e) states says = tt
+
+pub ok_spelled : {E : Type 0} (rows : List Row) (r : Result Digests E) → IfOk r (λ d. IsDigestText (option_text rows (codes "sources")) d.sources) → IfOk r (λ d. IsDigestText (option_text rows (codes "claim")) d.claim)
+    → IfOk r (λ d. SpellsDigests rows d.sources d.claim)
+ok_spelled rows (Ok d) from to = record { sources_are = from; claim_is = to }
+ok_spelled rows (Err e) from to = tt
+
+pub ok_asked : {E : Type 0} (sees : Sight) (options : List Row) (named : Option (List ℕ)) (Says : Ended → Sight → List Row → Type 0) (OfStages : Ended → Sight → StagesAsked → Type 0) (r : Result Ended E) → first_of (codes "evidence") options ≡ named
+    → AllValid (artifact_words options) → OnOk r (AllValid (words_of named options)) → IfOk r (λ ended. OnNamed named sees options (Says ended) (OfStages ended)) → IfOk r (λ ended. OnAsked sees options (Says ended) (OfStages ended))
+ok_asked sees options named Says OfStages (Ok ended) is artifact valid says = asked sees options named is (Says ended) (OfStages ended) artifact valid says
+ok_asked sees options named Says OfStages (Err e) is artifact valid says = tt
 
 pub where_ok : {P T E : Type 0} (r : Result T E) → P → OnOk r P
 where_ok (Ok x) h = h
@@ -123,3 +158,15 @@ begun_weaker (Err e) f h = f h
 pub behind_words : (checks : List Check) (fails : CommandError → Type 0) (e : CommandError) → AllValid checks → OrMemory fails e → FailsBehind checks fails e
 behind_words checks fails e valid (inl memory) = in_memory memory
 behind_words checks fails e valid (inr h) = behind valid h
+
+-- ---- a folder that stands for a claim
+
+module _ (sees : Sight) (options : List Row) (named : Option (List ℕ)) (is : first_of (codes "artifact") options ≡ named) where
+  pub on_claim : (Says : Sight → List Row → Type 0) (OfStages : Sight → StagesAsked → Type 0) → OnClaim named sees options (Says sees) → OnNamed None sees options Says OfStages
+  on_claim Says OfStages h = subst (λ o. OnClaim o sees options (Says sees)) (sym is) h
+
+  pub begins_claim : (old new : Option (List ℕ)) → BeginsClaim named sees options old new → BeginsNamed None sees options old new
+  begins_claim old new h = subst (λ o. BeginsClaim o sees options old new) (sym is) h
+
+  pub fails_claim : (e : CommandError) → FailsClaimed named sees options e → FailsNamed None sees options e
+  fails_claim e h = subst (λ o. FailsClaimed o sees options e) (sym is) h

@@ -30,8 +30,9 @@ use Rattle.commands.specs.Faults.{IsDigestFault, OrMemory, SpellsNone, error_of_
 use Rattle.commands.specs.Memory.{AnswersRight, AsksFiles, FailsInMemory, Files, IsRightStore, JudgesFiles, sees_world, told_by_store}
 use Rattle.commands.specs.Places.{IsOfFolder, file_of}
 use Rattle.commands.specs.Printed.{IsOfPlace, JudgesAsked, LacksAtPlace, NamesStore, PrintsVerdict}
-use Rattle.commands.specs.Refusal.{FailsAtPlace, FailsText, FailsVerify, IsPrintFault}
-use Rattle.commands.specs.Refusal.FailsVerify.{in_digests, in_memory, in_output, in_place, in_plan, in_record, in_words}
+use Rattle.commands.specs.Refusal.{FailsAtPlace, FailsText, FailsToJudge, FailsVerify, IsPrintFault}
+use Rattle.commands.specs.Refusal.FailsToJudge.{in_digests, in_memory, in_place, in_plan, in_record, in_words}
+use Rattle.commands.specs.Refusal.FailsVerify.{in_judging, in_output}
 use Rattle.commands.specs.Words.{AllValid, Check, FailsFirst, place_words}
 use Rattle.commands.specs.declared.ended.Ended.{Ended}
 use Rattle.commands.specs.declared.error.CommandError.{CommandError}
@@ -208,23 +209,26 @@ module _ (laws : TextLaws) (files replies : Files) (options : List Row) (q : Que
         λ right. subst (Appends old new) (yes_line told q v judged (then_yes right)) h.0.printed,
       )
 
-  pub refused_for : AllValid (place_words options) → (e : CommandError) → FailsVerify (sees_world files replies) options e → OrMemory IsPrintFault e
-  refused_for words e (in_memory memory) = inl memory
-  refused_for words e (in_words fails) = absurd (none_fails (place_words options) e words fails)
-  refused_for words e (in_digests valid (inl fault)) =
+  unjudged_for : AllValid (place_words options) → (e : CommandError) → FailsToJudge (sees_world files replies) options e → OrMemory IsPrintFault e
+  unjudged_for words e (in_memory memory) = inl memory
+  unjudged_for words e (in_words fails) = absurd (none_fails (place_words options) e words fails)
+  unjudged_for words e (in_digests valid (inl fault)) =
       absurd (spells (codes "sources") (option_text options (codes "sources")) e fault q.sources asks.texts.sources_spelled.valid asks.texts.sources_spelled.text_is)
-  refused_for words e (in_digests valid (inr fault)) =
+  unjudged_for words e (in_digests valid (inr fault)) =
       absurd (spells (codes "claim") (option_text options (codes "claim")) e fault.1 q.claim asks.texts.claim_spelled.valid asks.texts.claim_spelled.text_is)
-  refused_for words e (in_plan digests fails) =
+  unjudged_for words e (in_plan digests fails) =
       inl (text_fails files replies options (option_text options (codes "plan")) asks.plan_bytes IsPlanFault e asks.plan
       (λ fault at. laws.no_fault q.plan fault asks.texts.plan_is.valid (subst (λ t. IsPlanFault t fault) asks.texts.plan_is.text_is at)) fails)
-  refused_for words e (in_record plan digests read fails) =
+  unjudged_for words e (in_record plan digests read fails) =
       let bytes = one_bytes (files (option_text options (codes "plan"))) read.bytes asks.plan_bytes read.read asks.plan in
       let same : plan ≡ q.plan = same_plan laws asks.plan_bytes plan q.plan (subst (λ b. HasPlan b plan) bytes read.plan_is) asks.texts.plan_is in
       let noted = asks.texts.noted_is in
       let names : names_of plan ≡ q.noted.names = subst (λ (k : PlanValue). names_of k ≡ q.noted.names) (sym same) (sym noted.fits) in
       inl (text_fails files replies options (option_text options (codes "record")) asks.noted_bytes (IsRecordFault (names_of plan)) e asks.noted
       (λ fault at. laws.no_record_fault q.noted fault noted.valid (subst (λ n. IsRecordFault n (build_record_text q.noted) fault) names (subst (λ t. IsRecordFault (names_of plan) t fault) noted.text_is at))) fails)
-  refused_for words e (in_place question asked fails) =
+  unjudged_for words e (in_place question asked fails) =
       inl (memory_is e (∥∥₁_elim fails (memory_prop e) (λ at. is_memory e (place_fails files replies options asks.names e at))))
+
+  pub refused_for : AllValid (place_words options) → (e : CommandError) → FailsVerify (sees_world files replies) options e → OrMemory IsPrintFault e
+  refused_for words e (in_judging fails) = unjudged_for words e fails
   refused_for words e (in_output verdict judged printing) = inr printing

@@ -29,7 +29,7 @@ within : (h c : ℕ) (xs : List ℕ) → Contains xs c → Contains (h ∷ xs) c
 within h c xs (k, lt, e) = (suc k, omega arith, e)
 
 -- what stands before and behind the first such byte
-once : (c : ℕ) (a b x y : List ℕ) → ¬ Contains a c → ¬ Contains b c → a ++ c ∷ x ≡ b ++ c ∷ y → (a ≡ b) × (x ≡ y)
+pub once : (c : ℕ) (a b x y : List ℕ) → ¬ Contains a c → ¬ Contains b c → a ++ c ∷ x ≡ b ++ c ∷ y → (a ≡ b) × (x ≡ y)
 once c [] [] x y p q e = (refl, cc e)
 once c [] (k ∷ b) x y p q e = let same : c ≡ k = cc e in absurd (q (0, omega arith, sym same))
 once c (h ∷ a) [] x y p q e = let same : h ≡ c = cc e in absurd (p (0, omega arith, same))
@@ -46,7 +46,7 @@ digest_with : List ℕ → ℕ → DigestValue
 digest_with hash size = record { hash = hash; size = size }
 
 -- two digests have two texts
-digest_one : (d e : DigestValue) → IsDigest d → IsDigest e → digest_text d ≡ digest_text e → d ≡ e
+pub digest_one : (d e : DigestValue) → IsDigest d → IsDigest e → digest_text d ≡ digest_text e → d ≡ e
 unfolding digest_with
 digest_one d e is was same =
     let parts = once 47 (encode_lower d.hash) (encode_lower e.hash) (decimal d.size) (decimal e.size) (all_pass-without is_lower_hex (encode_lower d.hash) 47 (lower-encode d.hash is.hash.bytes) refl) (all_pass-without is_lower_hex (encode_lower e.hash) 47 (lower-encode e.hash was.hash.bytes) refl) same in
@@ -57,7 +57,7 @@ digest_one d e is was same =
     let hash : d.hash ≡ e.hash = cc decoded in
     ap (λ (h : List ℕ). digest_with h d.size) hash ∙ ap (λ (n : ℕ). digest_with e.hash n) size
 
-spelled_once : (text : List ℕ) (d e : DigestValue) → IsDigestText text d → IsDigestText text e → d ≡ e
+pub spelled_once : (text : List ℕ) (d e : DigestValue) → IsDigestText text d → IsDigestText text e → d ≡ e
 spelled_once text d e one other = digest_one d e one.valid other.valid (sym one.text_is ∙ other.text_is)
 
 -- ---- questions

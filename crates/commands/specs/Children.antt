@@ -1,8 +1,8 @@
 -- What stands in a folder, so far as it was read: words of private functions.
-use Rattle.std.specs.Prelude.{◌≡◌, ◌⊎◌, ℕ, List, [], ◌∷◌, ◌++◌, Some}
+use Rattle.std.specs.Prelude.{◌≡◌, ◌⊎◌, ℕ, List, [], ◌∷◌, ◌++◌}
 use Rattle.messages.specs.DirectoryRules.{AreNames, DirectoryValue, directory_names, directory_with}
 use Rattle.messages.specs.DirectoryRules.{file_names, symlink_names}
-use Rattle.messages.specs.Node.{IsChild}
+use Rattle.messages.specs.declared.node.Node.TheVariants.{Dir, File, Link}
 use Rattle.tree.specs.Form.{NodeValue}
 use Rattle.commands.specs.declared.children.Children.{Children}
 
@@ -25,9 +25,12 @@ AddsName n old new =
     ⊎ ((new.files ≡ old.files) × (new.directories ≡ old.directories)
     × (symlink_names new.symlinks ≡ symlink_names old.symlinks ++ n ∷ [])))
 
--- one child more, of this name
-pub record HasOneMore (n : List ℕ) (x : NodeValue) (old new : DirectoryValue) : Type 0 where
-  pub added : IsChild n new (Some x)
-  pub kept : (m : List ℕ) (y : NodeValue) → IsChild m old (Some y) → IsChild m new (Some y)
-  pub only : (m : List ℕ) (y : NodeValue) → IsChild m new (Some y)
-      → IsChild m old (Some y) ⊎ ((m ≡ n) × (y ≡ x))
+-- the directory with one more child, behind the others of its kind
+abbrev pub with_last_child : List ℕ → NodeValue → DirectoryValue → DirectoryValue
+with_last_child n (File digest executable) d = record d {
+  files = d.files ++ record { name = n; digest = digest; executable = executable } ∷ [];
+}
+with_last_child n (Link target) d =
+    record d { symlinks = d.symlinks ++ record { name = n; target = target } ∷ [] }
+with_last_child n (Dir digest) d =
+    record d { directories = d.directories ++ record { name = n; digest = digest } ∷ [] }

@@ -13,7 +13,7 @@ use Rattle.commands.specs.declared.error.CommandError.TheVariants.{Connection, D
 use Rattle.commands.specs.declared.error.CommandError.TheVariants.{DigestFile, InvalidValue}
 use Rattle.commands.specs.declared.error.CommandError.TheVariants.{Memory, NotAFile, Number, Output}
 use Rattle.commands.specs.declared.error.CommandError.TheVariants.{Process, Random, Server, Text}
-use Rattle.commands.specs.declared.error.CommandError.TheVariants.{TooLarge, Usage}
+use Rattle.commands.specs.declared.error.CommandError.TheVariants.{Stages, TooLarge, Usage}
 use Rattle.commands.specs.declared.failure.Method.{Method}
 use Rattle.commands.specs.declared.failure.Method.TheVariants.{GetBlob, GetResult, PutBlob}
 use Rattle.commands.specs.declared.failure.Method.TheVariants.{PutResult}
@@ -25,6 +25,8 @@ use Rattle.commands.specs.declared.process_fault.ProcessCause.{ProcessCause}
 use Rattle.commands.specs.declared.process_fault.ProcessCause.TheVariants.{Signal, Unread}
 use Rattle.commands.specs.declared.process_fault.ProcessCause.TheVariants.{Unstarted, Unwaited}
 use Rattle.commands.specs.declared.process_fault.ProcessFault.{ProcessFault}
+use Rattle.commands.specs.declared.stages.StagesFault.{StagesFault}
+use Rattle.commands.specs.declared.stages.StagesFault.TheVariants.{Line, PlanBeside}
 
 -- a text in quotes, as Rust's `{:?}` shows it, which is stated of ASCII alone
 abbrev pub IsQuoted : List ℕ → List ℕ → Type 0
@@ -109,6 +111,12 @@ IsProcessText fault text = (quoted : List ℕ) × (said : List ℕ)
     × IsQuoted (string_bytes fault.program) quoted × IsCauseText quoted fault.cause said
     × (text ≡ said_of (string_bytes fault.place) said)
 
+-- what is wrong with a list of stages
+abbrev pub stages_words : StagesFault → List ℕ
+stages_words (Line line) = said_of (codes "line " ++ decimal line)
+    (codes "expected a stage's number, of 1 to 9 digits without a leading zero, and a newline")
+stages_words PlanBeside = codes "stages, and a plan beside them"
+
 abbrev pub IsErrorText : CommandError → List ℕ → Type 0
 IsErrorText (Usage said) text = text ≡ string_bytes said
 IsErrorText (Digest option given fault) text =
@@ -118,6 +126,7 @@ IsErrorText (Number option greatest given) text =
 IsErrorText (DigestFile path fault) text = IsWordsAt (string_bytes path) text
 IsErrorText (Archive path at refusal) text = (words : List ℕ)
     × IsOfPath (string_bytes path) (said_of (codes "at byte " ++ decimal at) words) text
+IsErrorText (Stages path fault) text = IsOfPath (string_bytes path) (stages_words fault) text
 IsErrorText (Text path fault hint) text = IsWordsInLine (string_bytes path) fault.line hint text
 IsErrorText (File path fault) text = IsWordsAt (string_bytes path) text
 IsErrorText (NotAFile path) text = IsOfPath (string_bytes path) (codes "not a file") text

@@ -1,7 +1,7 @@
 -- Evidence: in a folder or an archive the files of a question, and the entries that judge it.
-use Rattle.std.specs.Prelude.{◌≡◌, ◌≢◌, ◌⊎◌, ◌↔◌, ℕ, true, false, List, [], ◌∷◌, ◌++◌}
+use Rattle.std.specs.Prelude.{◌≡◌, ◌≢◌, ◌⊎◌, ◌↔◌, ◌≤◌, ℕ, true, false, List, [], ◌∷◌, ◌++◌}
 use Rattle.std.specs.Prelude.{Option, None, Some, IfSome, IsSome, codes, is_some, map}
-use Rattle.std.specs.Prelude.{IsTrue, if◌then◌else◌, string_bytes}
+use Rattle.std.specs.Prelude.{if◌then◌else◌, string_bytes}
 use Rattle.std.specs.IoError.{error_kind}
 use Rattle.std.specs.Map.{lookup}
 use Rattle.std.specs.Str.{bytes_eq}
@@ -22,15 +22,16 @@ use Rattle.clap.specs.declared.parser.matches.ValueSource.TheVariants.{CommandLi
 use Rattle.remote.specs.declared.files.FileError.{FileError}
 use Rattle.remote.specs.declared.files.FileError.TheVariants as files
 use Rattle.text_verifier.specs.Texts.{IsDigestText}
-use Rattle.verifier.specs.Verdict.{IsYes}
-use Rattle.commands.specs.Ended.{is_done}
+use Rattle.tree.specs.Form.{form, root}
+use Rattle.tree.specs.Tree.{Leaf, Tree}
+use Rattle.command_lines.specs.CommandLine.{IsSet}
+use Rattle.commands.specs.Digested.{reads_bits}
 use Rattle.commands.specs.Faults.{IsFaultAtPath, SpellsNone, error_of_file}
-use Rattle.commands.specs.Printed.{BeginsVerdict, NotesStore, PrintsVerdict}
-use Rattle.commands.specs.Refusal.{FailsVerify}
-use Rattle.commands.specs.Words.{AllValid, Check, FailsFirst, IsSaid, else_told, is_expected}
-use Rattle.commands.specs.Words.{server_words, where_said}
+use Rattle.commands.specs.Read.{IsTreeReadAt, depth}
+use Rattle.commands.specs.ReadRefused.{FailsReading}
+use Rattle.commands.specs.Words.{Check, IsSaid, else_told, is_expected}
+use Rattle.commands.specs.Words.{may_name_folder, server_words, where_said}
 use Rattle.commands.specs.World.{Sight, a_file}
-use Rattle.commands.specs.declared.ended.Ended.{Ended}
 use Rattle.commands.specs.declared.error.CommandError.{CommandError}
 use Rattle.commands.specs.declared.error.CommandError.TheVariants.{Archive, DigestFile, File}
 use Rattle.commands.specs.declared.error.CommandError.TheVariants.{Memory}
@@ -43,12 +44,16 @@ abbrev pub missing_option : List Row → List ℕ → List ℕ → List ℕ
 missing_option options option value = if is_some (first_of option options) then []
     else codes " --" ++ (option ++ (codes " <" ++ (value ++ codes ">")))
 
+-- the claim, which a folder may stand for
+abbrev pub missing_claim : List Row → List ℕ
+missing_claim options = if is_some (first_of (codes "artifact") options) then []
+    else missing_option options (codes "claim") (codes "DIGEST")
+
 -- the options that are wanted where no evidence is named, as they are missing
 abbrev pub missing : List Row → List ℕ
 missing options = missing_option options (codes "sources") (codes "DIGEST")
     ++ (missing_option options (codes "plan") (codes "FILE")
-    ++ (missing_option options (codes "record") (codes "FILE")
-    ++ missing_option options (codes "claim") (codes "DIGEST")))
+    ++ (missing_option options (codes "record") (codes "FILE") ++ missing_claim options))
 
 abbrev pub has_wanted : List Row → Check
 has_wanted options = else_told (missing options ≡ [])
@@ -68,7 +73,7 @@ abbrev pub names_evidence : List Row → Check
 names_evidence options =
     is_expected options (codes "evidence") (codes "a folder or an archive") (λ text. text ≢ [])
 
--- beside evidence stand a server and what is said of it, and the digests
+-- beside evidence stand a server and what is said of it, the digests, and a folder for the claim
 abbrev pub evidence_words : List Row → List Check
 evidence_words options =
     goes_alone options (codes "plan") ∷ goes_alone options (codes "record")
@@ -76,13 +81,30 @@ evidence_words options =
     ∷ needs_server options (codes "prefix") ∷ needs_server options (codes "timeout")
     ∷ names_evidence options ∷ map (where_said options (codes "server")) (server_words options)
 
+-- a folder that stands for a claim isn't said beside one, and bits are of its files alone
+abbrev pub has_one_claim : List Row → Check
+has_one_claim options =
+    else_told (IsSaid options (codes "artifact") → ¬ IsSaid options (codes "claim"))
+    (codes "--claim cannot be used with --artifact")
+
+abbrev pub has_bits_of_folder : List Row → Check
+has_bits_of_folder options =
+    else_told (IsSet options (codes "no-bits") → IsSaid options (codes "artifact"))
+    (codes "--no-bits cannot be used without --artifact")
+
+abbrev pub artifact_words : List Row → List Check
+artifact_words options =
+    has_one_claim options ∷ has_bits_of_folder options ∷ may_name_folder options (codes "artifact")
+    ∷ []
+
 abbrev pub words_of : Option (List ℕ) → List Row → List Check
 words_of None options = has_wanted options ∷ []
 words_of (Some evidence) options = evidence_words options
 
 -- what the words have to be, without evidence and with it
 abbrev pub asked_words : List Row → List Check
-asked_words options = words_of (first_of (codes "evidence") options) options
+asked_words options =
+    artifact_words options ++ words_of (first_of (codes "evidence") options) options
 
 -- ---- what evidence has
 
@@ -127,12 +149,22 @@ abbrev pub entries_option : List Row → List ℕ
 entries_option options =
     if is_some (first_of (codes "server") options) then codes "results" else codes "store"
 
--- the options that say what evidence does, with the texts of its digests
-abbrev pub evidence_options : List Row → List ℕ → List ℕ → List ℕ → List Row
-evidence_options options evidence sources claim =
+-- The text is that of the digest of the tree that was read at the folder, with executable bits or
+-- without; paths in it have at most 64 names.
+pub record IsFolderClaim (sees : Sight) (options : List Row) (folder claim : List ℕ)
+    : Type 0 where
+  pub tree : Tree Leaf
+  pub read : IsTreeReadAt sees (reads_bits options) folder tree
+  pub within : depth tree ≤ 64
+  pub is : claim ≡ digest_text (root (form tree))
+
+-- the options that say what evidence does: by the plan and the record in this folder, with these
+-- texts of digests
+abbrev pub evidence_options : List Row → List ℕ → List ℕ → List ℕ → List ℕ → List Row
+evidence_options options evidence folder sources claim =
     given (codes "sources") sources ∷ given (codes "claim") claim
-    ∷ given (codes "plan") (in_evidence evidence (codes "plan"))
-    ∷ given (codes "record") (in_evidence evidence (codes "record"))
+    ∷ given (codes "plan") (in_evidence folder (codes "plan"))
+    ∷ given (codes "record") (in_evidence folder (codes "record"))
     ∷ given (entries_option options) (in_evidence evidence (codes "store")) ∷ options
 
 -- the options as the code has them, before those that were said
@@ -152,7 +184,7 @@ sees_archive sees folder contents files = record sees {
       × ReadsAt contents files name bytes;
   opens = λ path contents. ⊥;
   fails = λ path e. (name : List ℕ) → path ≡ folder ++ name → FailsAt files name e;
-  stands = λ path found. (found ≡ a_file)
+  stands = λ path found. (found ≡ a_file false)
       × ((name : List ℕ) × (path ≡ folder ++ name) × IsSome (lookup (bytes_eq name) files));
   leads = λ path is. is ≡ true;
   lists = λ path names. ⊥;
@@ -187,53 +219,22 @@ pub data InEvidence (sees : Sight) (evidence : List ℕ) (Says : Sight → Type 
       → Says (sees_archive sees (in_evidence evidence []) contents files)
       → InEvidence sees evidence Says
 
+-- the text of the claim: of a folder that the options name the digest of the tree that was read
+-- there, outside of the evidence, and else as it is stated
+abbrev pub IsClaim : Option (List ℕ) → Sight → Sight → List Row → List ℕ → List ℕ → Type 0
+IsClaim (Some place) outside sees options evidence claim =
+    IsFolderClaim outside options place claim
+IsClaim None outside sees options evidence claim =
+    IsStated sees options evidence (codes "claim") claim
+
 -- said of the options that say what the evidence does
-pub record StatesDigests (sees : Sight) (options : List Row) (evidence : List ℕ)
+pub record StatesDigests (outside sees : Sight) (options : List Row) (evidence : List ℕ)
     (Says : List Row → Type 0) : Type 0 where
   pub sources : List ℕ
   pub sources_are : IsStated sees options evidence (codes "sources") sources
   pub claim : List ℕ
-  pub claim_is : IsStated sees options evidence (codes "claim") claim
-  pub says : Says (evidence_options options evidence sources claim)
-
--- said of the sight and the options by which is judged: those of the evidence that the options
--- name, and else the world's and these
-abbrev pub OnNamed : Option (List ℕ) → Sight → List Row → (Sight → List Row → Type 0) → Type 0
-OnNamed None sees options Says = Says sees options
-OnNamed (Some evidence) sees options Says =
-    InEvidence sees evidence (λ s. StatesDigests s options evidence (Says s))
-
-pub record OnAsked (sees : Sight) (options : List Row) (Says : Sight → List Row → Type 0)
-    : Type 0 where
-  pub valid : AllValid (asked_words options)
-  pub says : OnNamed (first_of (codes "evidence") options) sees options Says
-
--- ---- what is answered
-
--- the line of a verdict was printed, and it came to done where that is a yes
-pub record AnswersVerdict (sees : Sight) (options : List Row) (old new : Option (List ℕ))
-    (ended : Ended) : Type 0 where
-  pub prints : PrintsVerdict sees options old new
-  pub done : IsTrue (is_done ended) ↔ IsYes prints.verdict
-  pub noted : NotesStore sees options ended
-
--- a verdict is answered, on what the options ask for
-abbrev pub VerifiesAsked : Sight → List Row → Option (List ℕ) → Option (List ℕ) → Ended → Type 0
-VerifiesAsked sees options old new ended =
-    OnAsked sees options (λ s o. AnswersVerdict s o old new ended)
-
--- nothing was printed, or a beginning of the line of such a verdict
-abbrev pub BeginsStated : Sight → List Row → List ℕ → Option (List ℕ) → Option (List ℕ) → Type 0
-BeginsStated sees options evidence old new =
-    (new ≡ old) ⊎ StatesDigests sees options evidence (λ o. BeginsVerdict sees o old new)
-
-abbrev pub BeginsNamed : Option (List ℕ) → Sight → List Row → Option (List ℕ) → Option (List ℕ)
-    → Type 0
-BeginsNamed evidence sees options old new =
-    (new ≡ old) ⊎ OnNamed evidence sees options (λ s o. BeginsVerdict s o old new)
-
-abbrev pub BeginsAnswer : Sight → List Row → Option (List ℕ) → Option (List ℕ) → Type 0
-BeginsAnswer sees options = BeginsNamed (first_of (codes "evidence") options) sees options
+  pub claim_is : IsClaim (first_of (codes "artifact") options) outside sees options evidence claim
+  pub says : Says (evidence_options options evidence evidence sources claim)
 
 -- ---- faults
 
@@ -259,13 +260,19 @@ FailsDigestLine sees path e =
     ⊎ ((text : List ℕ) × (line : List ℕ) × sees.reads path text × HasLine text line
     × TellsNoDigest path line e)
 
--- the digest of the sources isn't stated, or else that of the claim
-abbrev pub FailsStated : Sight → List Row → List ℕ → CommandError → Type 0
-FailsStated sees options evidence e =
+-- the text of the claim isn't there: its folder can't be read, or its digest isn't stated
+abbrev pub FailsClaim : Option (List ℕ) → Sight → Sight → List Row → List ℕ → CommandError → Type 0
+FailsClaim (Some place) outside sees options evidence e =
+    FailsReading outside (reads_bits options) 64 place e
+FailsClaim None outside sees options evidence e = (first_of (codes "claim") options ≡ None)
+    × FailsDigestLine sees (in_evidence evidence (codes "claim")) e
+
+-- the digest of the sources isn't stated, or else the claim isn't there
+abbrev pub FailsStated : Sight → Sight → List Row → List ℕ → CommandError → Type 0
+FailsStated outside sees options evidence e =
     ((first_of (codes "sources") options ≡ None)
     × FailsDigestLine sees (in_evidence evidence (codes "sources")) e)
-    ⊎ ((first_of (codes "claim") options ≡ None)
-    × FailsDigestLine sees (in_evidence evidence (codes "claim")) e)
+    ⊎ FailsClaim (first_of (codes "artifact") options) outside sees options evidence e
 
 -- the error tells at which byte the file at the path is no archive, and how
 abbrev pub IsArchiveFault : List ℕ → List ℕ → CommandError → Type 0
@@ -287,28 +294,3 @@ abbrev pub FailsEvidence : Sight → List ℕ → CommandError → Type 0
 FailsEvidence sees path e =
     ((f : FileError Global) × sees.fails path f × (e ≡ error_of_file f))
     ⊎ ((contents : Option (List ℕ)) × sees.opens path contents × IsNoArchive path contents e)
-
--- the digests of the evidence aren't stated, or else what it asks has a fault
-pub data FailsInside (sees : Sight) (options : List Row) (evidence : List ℕ) (e : CommandError)
-    : Type 0 where
-  in_memory : e ≡ Memory → FailsInside sees options evidence e
-  in_digests : FailsStated sees options evidence e → FailsInside sees options evidence e
-  in_verdict : StatesDigests sees options evidence (λ o. FailsVerify sees o e)
-      → FailsInside sees options evidence e
-
-abbrev pub FailsNamed : Option (List ℕ) → Sight → List Row → CommandError → Type 0
-FailsNamed None sees options e = FailsVerify sees options e
-FailsNamed (Some evidence) sees options e = FailsEvidence sees evidence e
-    ⊎ InEvidence sees evidence (λ s. FailsInside s options evidence e)
-
--- the first fault: of the words, or else this; that memory is wanting may come anywhere
-pub data FailsBehind (checks : List Check) (fails : CommandError → Type 0) (e : CommandError)
-    : Type 0 where
-  in_memory : e ≡ Memory → FailsBehind checks fails e
-  in_words : FailsFirst checks e → FailsBehind checks fails e
-  behind : AllValid checks → fails e → FailsBehind checks fails e
-
--- the first fault: of the words, of the evidence, of its digests, and of what it asks
-abbrev pub FailsAsked : Sight → List Row → CommandError → Type 0
-FailsAsked sees options = FailsBehind (asked_words options)
-    (FailsNamed (first_of (codes "evidence") options) sees options)

@@ -1,6 +1,6 @@
 -- What a command prints, by its options.
 use Rattle.std.specs.Prelude.{◌≡◌, ◌⊎◌, ℕ, false, true, List, [], ◌∷◌, ◌++◌, Option, None, Some}
-use Rattle.std.specs.Prelude.{IsSome, codes, string_bytes, IfSome}
+use Rattle.std.specs.Prelude.{IsSome, codes, string_bytes, IfSome, if◌then◌else◌, is_some}
 use Rattle.std.specs.Option.{option_or}
 use Rattle.std.specs.Io.KnownBytes.{Appends}
 use Rattle.std.specs.Net.Text.{socket_text}
@@ -20,8 +20,9 @@ use Rattle.text_verifier.specs.Answered.{IsJudged}
 use Rattle.text_verifier.specs.Lacking.{lack_of}
 use Rattle.text_verifier.specs.Texts.{HasTexts, Question, IsDigestText}
 use Rattle.text_verifier.specs.declared.lack.Lack.{Lack}
+use Rattle.commands.specs.ByteCounts.{SpellsBytes}
 use Rattle.commands.specs.Got.{BeginsBlob, Writes}
-use Rattle.commands.specs.Options.{IsServerOf, OnNamedServer, decimal_number, greatest_number}
+use Rattle.commands.specs.Options.{IsServerOf, OnNamedServer, greatest_number}
 use Rattle.commands.specs.Options.{number_or}
 use Rattle.commands.specs.Places.{IsAskedOnce, IsConnected, IsOfBoth, IsOfFolder, IsOfServer}
 use Rattle.commands.specs.Places.{LacksAtServer, LacksInFolder, LacksOfBoth, gets_alone}
@@ -213,16 +214,28 @@ BeginsDigest sees options old new = (new ≡ old)
 
 -- ---- serve
 
--- connections at this address, as the options say; without words of that, as many as can be
--- counted, one at a time, and silent for 60 seconds
-abbrev pub serving_of : List Row → SocketAddr → Serving
-serving_of options address = record {
+-- How many connections are served at a time where nothing is said of it: one, where only so many are
+-- served at all, and else 256.
+abbrev pub usual_at_once : List Row → ℕ
+usual_at_once options = if is_some (first_of (codes "connections") options) then 1 else 256
+
+abbrev pub at_once_of : List Row → ℕ
+at_once_of options = number_or (usual_at_once options) options (codes "at-once")
+
+-- the options spell these limits on the bytes of blobs and of results
+pub record SpellsLimits (options : List Row) (limit result_limit : ℕ) : Type 0 where
+  pub blobs : SpellsBytes (option_text options (codes "limit")) limit
+  pub results : SpellsBytes (option_text options (codes "result-limit")) result_limit
+
+-- connections at this address to a cache of these limits, as the options say; without words of
+-- that, as many as can be counted, and silent for 60 seconds
+abbrev pub serving_of : List Row → ℕ → ℕ → SocketAddr → Serving
+serving_of options limit result_limit address = record {
   address = address;
-  cache = unused_cache (decimal_number (option_text options (codes "limit")))
-      (decimal_number (option_text options (codes "result-limit")));
+  cache = unused_cache limit result_limit;
   prefix = option_text options (codes "prefix");
   connections = number_or greatest_number options (codes "connections");
-  at_once = number_or 1 options (codes "at-once");
+  at_once = at_once_of options;
   idle = number_or 60 options (codes "idle");
 }
 
@@ -240,7 +253,10 @@ pub record ServesAsked (sees : Sight) (options : List Row) (old new : Option (Li
   pub address : SocketAddr
   pub starts : StartsServe sees options address
   pub printed : Appends old new (listening_line address)
-  pub served : sees.serves (serving_of options address)
+  pub limit : ℕ
+  pub result_limit : ℕ
+  pub limits : SpellsLimits options limit result_limit
+  pub served : sees.serves (serving_of options limit result_limit address)
 
 -- the line of an address where a socket so listens was printed
 abbrev pub PrintsListening : Sight → List Row → Option (List ℕ) → Option (List ℕ) → Type 0
@@ -255,10 +271,8 @@ BeginsListening sees options old new = (new ≡ old) ⊎ ((address : SocketAddr)
 -- what the words of `serve` ask for is as they say
 pub record IsServeRequest (options : List Row) (request : ServeRequest) : Type 0 where
   pub address : request.address.now ≡ option_text options (codes "listen")
-  pub limit : request.limit ≡ decimal_number (option_text options (codes "limit"))
-  pub result_limit : request.result_limit
-      ≡ decimal_number (option_text options (codes "result-limit"))
+  pub limits : SpellsLimits options request.limit request.result_limit
   pub prefix : request.prefix ≡ option_text options (codes "prefix")
   pub connections : request.connections ≡ number_or greatest_number options (codes "connections")
-  pub at_once : request.at_once ≡ number_or 1 options (codes "at-once")
+  pub at_once : request.at_once ≡ at_once_of options
   pub idle : request.idle ≡ number_or 60 options (codes "idle")

@@ -97,16 +97,21 @@ FailsAtPlace sees options e =
     ⊎ (NamesResults options × OnNamedServer options (λ server.
     FailsOfBoth sees server (option_text options (codes "results")) e)))
 
--- The first fault: what comes before it has none. That memory is wanting may come anywhere, and is
--- told as that.
-pub data FailsVerify (sees : Sight) (options : List Row) (e : CommandError) : Type 0 where
-  in_memory : e ≡ Memory → FailsVerify sees options e
-  in_words : FailsFirst (place_words options) e → FailsVerify sees options e
-  in_digests : AllValid (place_words options) → FailsDigests options e → FailsVerify sees options e
-  in_plan : HasDigests options → FailsPlan sees options e → FailsVerify sees options e
+-- The first fault before there is a verdict: what comes before it has none. That memory is wanting
+-- may come anywhere, and is told as that.
+pub data FailsToJudge (sees : Sight) (options : List Row) (e : CommandError) : Type 0 where
+  in_memory : e ≡ Memory → FailsToJudge sees options e
+  in_words : FailsFirst (place_words options) e → FailsToJudge sees options e
+  in_digests : AllValid (place_words options) → FailsDigests options e
+      → FailsToJudge sees options e
+  in_plan : HasDigests options → FailsPlan sees options e → FailsToJudge sees options e
   in_record : (plan : PlanValue) → HasDigests options → HasPlanRead sees options plan
-      → FailsRecord sees options plan e → FailsVerify sees options e
+      → FailsRecord sees options plan e → FailsToJudge sees options e
   in_place : (question : Question) → AsksQuestion sees options question
-      → ∥ FailsAtPlace sees options e ∥₁ → FailsVerify sees options e
+      → ∥ FailsAtPlace sees options e ∥₁ → FailsToJudge sees options e
+
+-- the first fault: the last is that the output takes no more
+pub data FailsVerify (sees : Sight) (options : List Row) (e : CommandError) : Type 0 where
+  in_judging : FailsToJudge sees options e → FailsVerify sees options e
   in_output : (verdict : Verdict Global) → JudgesAsked sees options verdict → IsPrintFault e
       → FailsVerify sees options e

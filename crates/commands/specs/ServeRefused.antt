@@ -5,7 +5,7 @@ use Rattle.std.specs.declared.net.socket_addr.SocketAddr.{SocketAddr}
 use Rattle.clap.specs.Words.{Row}
 use Rattle.command_lines.specs.CommandLine.{option_text}
 use Rattle.service.specs.declared.error.NotAccepted.{NotAccepted}
-use Rattle.commands.specs.Printed.{StartsServe, serving_of}
+use Rattle.commands.specs.Printed.{SpellsLimits, StartsServe, serving_of}
 use Rattle.commands.specs.Refusal.{IsPrintFault}
 use Rattle.commands.specs.Words.{AllValid, FailsFirst, serve_words}
 use Rattle.commands.specs.World.{Sight}
@@ -40,6 +40,7 @@ pub data FailsServe (sees : Sight) (options : List Row) (e : CommandError) : Typ
       → FailsToListen sees (option_text options (codes "listen")) e → FailsServe sees options e
   in_output : (address : SocketAddr) → StartsServe sees options address → IsPrintFault e
       → FailsServe sees options e
-  in_connections : (address : SocketAddr) (fault : NotAccepted) → StartsServe sees options address
-      → sees.unserved (serving_of options address) fault → e ≡ Accept fault
+  in_connections : (address : SocketAddr) (limit result_limit : ℕ) (fault : NotAccepted)
+      → StartsServe sees options address → SpellsLimits options limit result_limit
+      → sees.unserved (serving_of options limit result_limit address) fault → e ≡ Accept fault
       → FailsServe sees options e

@@ -7,7 +7,7 @@ use Rattle.commands.specs.declared.error.CommandError.TheVariants.{Archive, Dige
 use Rattle.commands.specs.declared.error.CommandError.TheVariants.{InvalidValue}
 use Rattle.commands.specs.declared.error.CommandError.TheVariants.{Entry, Connection, Server}
 use Rattle.commands.specs.declared.error.CommandError.TheVariants.{Accept, Address, Random, Output}
-use Rattle.commands.specs.declared.error.CommandError.TheVariants.{Blob, Memory, Process}
+use Rattle.commands.specs.declared.error.CommandError.TheVariants.{Blob, Memory, Process, Stages}
 
 -- 2 where the words or the texts that they name are at fault, and 3 where a file, a socket, a
 -- server, the output or memory is
@@ -19,6 +19,7 @@ exit_status (Text path fault hint) = 2
 exit_status (InvalidValue option expected text) = 2
 exit_status (DigestFile path fault) = 2
 exit_status (Archive path at refusal) = 2
+exit_status (Stages path fault) = 2
 exit_status (File path fault) = 3
 exit_status (NotAFile path) = 3
 exit_status (TooLarge path) = 3

@@ -5,6 +5,7 @@ use Rattle.clap.specs.Words.{Row, first_of}
 use Rattle.command_lines.specs.CommandLine.{option_text}
 use Rattle.http_core.specs.Host.{is_host}
 use Rattle.http_core.specs.Prefix.{is_prefix}
+use Rattle.commands.specs.ByteCounts.{SpellsBytesUpTo}
 use Rattle.commands.specs.Faults.{IsInvalidValue, OrMemory}
 use Rattle.commands.specs.Options.{IsAddress, IsNumber, decimal_number, greatest_number}
 use Rattle.commands.specs.declared.error.CommandError.{CommandError}
@@ -136,11 +137,16 @@ is_at_once options =
     ∷ where_said options (codes "at-once") (is_expected options (codes "at-once")
     (codes "a number from 1 to 1024") (λ text. decimal_number text ≢ 0)) ∷ []
 
+-- a limit on what a store holds, in bytes
+abbrev pub is_limit : List Row → List ℕ → Check
+is_limit options option = is_expected options option
+    (codes "a number of bytes up to 9223372036854775807, such as 1048576, 512M or 8G")
+    (SpellsBytesUpTo 9223372036854775807)
+
 abbrev pub serve_words : List Row → List Check
 serve_words options =
     listens_at options
     ∷ may_have_number_up_to options (codes "connections") greatest_number
-    ∷ has_number_up_to options (codes "limit") 9223372036854775807
-    ∷ has_number_up_to options (codes "result-limit") 9223372036854775807
+    ∷ is_limit options (codes "limit") ∷ is_limit options (codes "result-limit")
     ∷ may_have_number_up_to options (codes "idle") 9223372036854775807
     ∷ (is_at_once options ++ has_prefix options ∷ [])

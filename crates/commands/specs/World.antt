@@ -1,9 +1,13 @@
 -- What may be said of what a command reaches outside, by what was told of it.
-use Rattle.std.specs.Prelude.{ℕ, Bool, List, Option, Some, string_bytes, true}
+use Rattle.std.specs.Prelude.{◌≡◌, ◌==◌, ℕ, Bool, not, true, bit_and, List, Option, Some}
+use Rattle.std.specs.Prelude.{string_bytes}
+use Rattle.std.specs.Fs.{metadata_mode}
 use Rattle.std.specs.declared.alloc.Global.{Global}
+use Rattle.std.specs.declared.fs.Metadata.{Metadata}
 use Rattle.std.specs.declared.io.Error.{Error}
 use Rattle.std.specs.declared.net.socket_addr.SocketAddr.{SocketAddr}
 use Rattle.std.specs.declared.time.Duration.{Duration}
+use Rattle.blob_digest.specs.Digest.{DigestValue, digest_of}
 use Rattle.cache_server.specs.Cache.{CacheValue}
 use Rattle.checkout.specs.Folder.{FolderValue}
 use Rattle.remote.specs.Flow.{Flow, unknown_flow}
@@ -24,11 +28,12 @@ pub record Serving : Type 0 where
   pub at_once : ℕ
   pub idle : ℕ
 
--- what stands at a path: a folder, a symbolic link to a text, or a file or what is none of these
+-- what stands at a path: a folder, a symbolic link to a text, or a file or what is none of these,
+-- with its owner's executable bit
 pub data FoundValue : Type 0 where
   a_folder : FoundValue
   a_link : List ℕ → FoundValue
-  a_file : FoundValue
+  a_file : Bool → FoundValue
 
 -- What was told and done. Only the calls that were told it and did it say so.
 pub record Sight : Type 1 where
@@ -106,7 +111,16 @@ renewable_flow = record unknown_flow { is_renewable = Some true }
 abbrev pub what_stands : Found → FoundValue
 what_stands Folder = a_folder
 what_stands (Link target) = a_link (string_bytes target)
-what_stands File = a_file
+what_stands (File executable) = a_file executable
+
+-- the owner's executable bit of a file's mode
+abbrev pub owner_bit : Metadata → Bool
+owner_bit m = not (bit_and (metadata_mode m) 64 == 0)
+
+-- the file at the path was read, and its bytes have this digest
+abbrev pub ReadsDigest : Sight → List ℕ → DigestValue → Type 0
+ReadsDigest sees path digest =
+    (content : List ℕ) × sees.reads path content × (digest ≡ digest_of content)
 
 -- the connections of this socket, as they are to be served
 abbrev pub serving : Listening → Service → Serving

@@ -81,7 +81,7 @@ impl<W: Inputs, B: Blocks> Inputs for Archived<'_, W, B> {
             return Err(nothing_there(alloc, path));
         };
         match self.archive.find(name) {
-            Some(_) => Ok(Found::File),
+            Some(_) => Ok(Found::File { executable: false }),
             None => Err(nothing_there(alloc, path)),
         }
     }

@@ -1,5 +1,6 @@
 ghost use Rattle.std.specs.Prelude.{◌≡◌, IfErr, IfOk, OnOk, codes};
-ghost use Rattle.commands.specs.Children.{AddsName, AreNamed, HasOneMore, folder_read};
+ghost use Rattle.commands.specs.Children.{AddsName, AreNamed, folder_read};
+ghost use Rattle.commands.specs.Children.{with_last_child};
 ghost use Rattle.commands.specs.Faults.{TellsOfEntry, OrMemory};
 ghost use Rattle.messages.specs.DirectoryRules.{IsDirectory};
 ghost use Rattle.tree.specs.Form.{no_children, node_value};
@@ -30,8 +31,8 @@ impl Children {
 
     /// One more child, after the others of its kind.
     pub(crate) fn push(&mut self, name: Name<Global>, node: Node<Global>) -> Result<(), AllocError>
-        ensures child { OnOk result (HasOneMore name (node_value node) (folder_read self.old)
-            (folder_read self.new)) }
+        ensures child { OnOk result (folder_read self.new
+            ≡ with_last_child name (node_value node) (folder_read self.old)) }
         ensures named { OnOk result (AddsName name (folder_read self.old) (folder_read self.new)) }
     {
         match node {

@@ -6,6 +6,7 @@ use crate::connecting::ServerOptions;
 use crate::failure::Failure;
 use crate::hint::Hint;
 use crate::process_fault::ProcessFault;
+use crate::stages::StagesFault;
 use archive::Refusal;
 use blob_digest::{Digest, DigestError};
 use plan::PlanError;
@@ -40,6 +41,11 @@ pub enum CommandError {
         path: String,
         at: u64,
         refusal: Refusal,
+    },
+    /// A list of stages is at fault.
+    Stages {
+        path: String,
+        fault: StagesFault,
     },
     /// A line of a plan or of a record is at fault.
     Text {
@@ -116,6 +122,7 @@ impl CommandError {
             | CommandError::InvalidValue { .. }
             | CommandError::DigestFile { .. }
             | CommandError::Archive { .. }
+            | CommandError::Stages { .. }
             | CommandError::Text { .. } => 2,
             CommandError::File { .. }
             | CommandError::NotAFile { .. }

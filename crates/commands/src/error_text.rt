@@ -2,13 +2,14 @@ ghost use Rattle.std.specs.Prelude.{◌≡◌, ◌++◌, ℕ, List, IfOk, codes,
 ghost use Rattle.commands.specs.ErrorText.{IsCauseText, IsErrorText, IsProcessText, IsWordsAt};
 ghost use Rattle.commands.specs.ErrorText.{IsWordsInLine, IsWordsOf, IsOfOption};
 ghost use Rattle.commands.specs.ErrorText.{IsOfPath, number_at_most, request_words, said_of};
-ghost use Rattle.commands.specs.ErrorText.{said_of_request, written_option};
+ghost use Rattle.commands.specs.ErrorText.{said_of_request, stages_words, written_option};
 ghost use Rattle.remote.specs.Fault.{fault_text};
 
 use crate::error::CommandError;
 use crate::failure::{Failure, Method};
 use crate::hint::{Hint, hint_text};
 use crate::process_fault::{ProcessCause, ProcessFault};
+use crate::stages::StagesFault;
 use archive::Refusal;
 use blob_digest::{Digest, DigestError};
 use plan::PlanError;
@@ -18,6 +19,10 @@ use std::io;
 
 /// What is said of a file that isn't read.
 const TOO_LARGE: &str = "a file of more than 16777216 bytes";
+
+/// What is said of a line of a list of stages.
+const NO_STAGE: &str =
+    "expected a stage's number, of 1 to 9 digits without a leading zero, and a newline";
 
 /// What is said, behind what it is said of.
 fn said_of(alloc: Global, head: &str, said: &str) -> Result<String, AllocError>
@@ -135,6 +140,28 @@ fn no_archive(alloc: Global, path: &str, at: u64, refusal: Refusal) -> Result<St
     let head = format!(in alloc; "at byte {at}")?;
     let words = refusal.to_string(alloc)?;
     let said = said_of(alloc, head.as_str(), words.as_str())?;
+    of_path(alloc, path, said.as_str())
+}
+
+/// What is wrong with a list of stages.
+fn stages_words(alloc: Global, fault: &StagesFault) -> Result<String, AllocError>
+    ensures { IfOk result (λ text. string_bytes text ≡ stages_words fault.now) }
+{
+    match fault {
+        StagesFault::Line(line) => {
+            let head = format!(in alloc; "line {line}")?;
+            said_of(alloc, head.as_str(), NO_STAGE)
+        }
+        StagesFault::PlanBeside => String::from_str(alloc, "stages, and a plan beside them"),
+    }
+}
+
+/// That a list of stages is at fault.
+fn faulty_stages(alloc: Global, path: &str, fault: &StagesFault) -> Result<String, AllocError>
+    ensures { IfOk result
+        (λ text. IsOfPath path.now (stages_words fault.now) (string_bytes text)) }
+{
+    let said = stages_words(alloc, fault)?;
     of_path(alloc, path, said.as_str())
 }
 
@@ -273,6 +300,7 @@ pub(crate) fn error_text(alloc: Global, error: &CommandError) -> Result<String, 
             expected,
             text,
         } => not_expected(alloc, option, expected, text.as_str()),
+        CommandError::Stages { path, fault } => faulty_stages(alloc, path.as_str(), fault),
         CommandError::Text { path, fault, hint } => faulty_line(alloc, path.as_str(), fault, hint),
         CommandError::File { path, fault } => fault_at(alloc, path.as_str(), fault),
         CommandError::NotAFile { path } => of_path(alloc, path.as_str(), "not a file"),

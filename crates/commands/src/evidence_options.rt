@@ -1,11 +1,13 @@
 ghost use Rattle.std.specs.Prelude.{◌≡◌, ◌↔◌, IfErr, IfOk, None, codes, string_bytes};
 ghost use Rattle.clap.specs.Words.{first_of};
 ghost use Rattle.commands.specs.Evidence.{FailsDigestLine, FailsStated, HasDigestLine};
-ghost use Rattle.commands.specs.Evidence.{TellsNoDigest};
-ghost use Rattle.commands.specs.Evidence.{HasLine, IsStated, entries_option, in_evidence};
+ghost use Rattle.commands.specs.Evidence.{FailsClaim, IsClaim, TellsNoDigest};
+ghost use Rattle.commands.specs.Evidence.{HasLine, IsStated, StatesDigests, entries_option};
+ghost use Rattle.commands.specs.Evidence.{evidence_options, in_evidence, options_in};
 ghost use Rattle.blob_digest.specs.Text.{BeginsWithHash};
 ghost use Rattle.commands.specs.Faults.{OrMemory, SpellsNone};
 
+use crate::artifact::claim_of_folder;
 use crate::error::CommandError;
 use crate::options::Options;
 use crate::world::Inputs;
@@ -69,7 +71,11 @@ fn line_error(
 }
 
 /// The digest that a file has as its line.
-fn digest_in_file<W: Inputs>(alloc: Global, world: &W, path: &str) -> Result<Digest, CommandError>
+pub(crate) fn digest_in_file<W: Inputs>(
+    alloc: Global,
+    world: &W,
+    path: &str,
+) -> Result<Digest, CommandError>
     ensures found { IfOk result (HasDigestLine (W.sees world.now) path.now) }
     ensures fault { IfErr result (OrMemory (FailsDigestLine (W.sees world.now) path.now)) }
 {
@@ -82,7 +88,7 @@ fn digest_in_file<W: Inputs>(alloc: Global, world: &W, path: &str) -> Result<Dig
 }
 
 /// The path of what evidence has under a name.
-fn path_in(alloc: Global, evidence: &str, name: &str) -> Result<String, AllocError>
+pub(crate) fn path_in(alloc: Global, evidence: &str, name: &str) -> Result<String, AllocError>
     ensures { IfOk result (λ path. string_bytes path ≡ in_evidence evidence.now name.now) }
 {
     format!(in alloc; "{evidence}/{name}")
@@ -121,37 +127,67 @@ fn entries_option<M: Options>(said: &M) -> &'static str
     }
 }
 
-/// The options that say what evidence does, with its digests and the place of its entries.
-pub(crate) fn read_options<'m, W: Inputs, M: Options>(
+/// The options that say what evidence does, by the plan and the record in a folder, with these
+/// texts of digests.
+pub(crate) fn options_of<'m, M: Options>(
     alloc: Global,
-    world: &W,
     said: &'m M,
     evidence: &str,
-) -> Result<EvidenceOptions<'m, M>, CommandError>
-    ensures sources { IfOk result (λ o. IsStated (W.sees world.now) (M.rows said.now) evidence.now
-        (codes "sources") (string_bytes o.sources)) }
-    ensures claim { IfOk result (λ o. IsStated (W.sees world.now) (M.rows said.now) evidence.now
-        (codes "claim") (string_bytes o.claim)) }
-    ensures plan { IfOk result (λ o.
-        string_bytes o.plan ≡ in_evidence evidence.now (codes "plan")) }
-    ensures noted { IfOk result (λ o.
-        string_bytes o.noted ≡ in_evidence evidence.now (codes "record")) }
-    ensures place { IfOk result (λ o. o.place.now ≡ entries_option (M.rows said.now)) }
-    ensures entries { IfOk result (λ o.
-        string_bytes o.entries ≡ in_evidence evidence.now (codes "store")) }
-    ensures said { IfOk result (λ o. o.said.now ≡ said.now) }
-    ensures fault { IfErr result
-        (OrMemory (FailsStated (W.sees world.now) (M.rows said.now) evidence.now)) }
+    folder: &str,
+    sources: String,
+    claim: String,
+) -> Result<EvidenceOptions<'m, M>, AllocError>
+    ensures { IfOk result (λ o. options_in (M.rows o.said.now) o ≡ evidence_options
+        (M.rows said.now) evidence.now folder.now (string_bytes sources) (string_bytes claim)) }
 {
-    let sources = stated_digest(alloc, world, said, evidence, "sources")?;
-    let claim = stated_digest(alloc, world, said, evidence, "claim")?;
     Ok(EvidenceOptions {
         sources,
         claim,
-        plan: path_in(alloc, evidence, "plan")?,
-        noted: path_in(alloc, evidence, "record")?,
+        plan: path_in(alloc, folder, "plan")?,
+        noted: path_in(alloc, folder, "record")?,
         place: entries_option(said),
         entries: path_in(alloc, evidence, "store")?,
         said,
     })
+}
+
+/// The text of the claim: that of a folder outside of the evidence, where one is said, and else as
+/// it was said, or that of the evidence's file.
+fn stated_claim<V: Inputs, W: Inputs, M: Options>(
+    alloc: Global,
+    outside: &V,
+    world: &W,
+    options: &M,
+    evidence: &str,
+) -> Result<String, CommandError>
+    ensures claim { IfOk result (λ text. IsClaim (first_of (codes "artifact") (M.rows options.now))
+        (V.sees outside.now) (W.sees world.now) (M.rows options.now) evidence.now
+        (string_bytes text)) }
+    ensures fault { IfErr result
+        (OrMemory (FailsClaim (first_of (codes "artifact") (M.rows options.now))
+        (V.sees outside.now) (W.sees world.now) (M.rows options.now) evidence.now)) }
+{
+    match options.text("artifact") {
+        Some(folder) => claim_of_folder(alloc, outside, options, folder),
+        None => stated_digest(alloc, world, options, evidence, "claim"),
+    }
+}
+
+/// The options that say what the one plan of evidence does, or with which digests its stages do.
+pub(crate) fn read_options<'m, V: Inputs, W: Inputs, M: Options>(
+    alloc: Global,
+    outside: &V,
+    world: &W,
+    said: &'m M,
+    evidence: &str,
+) -> Result<EvidenceOptions<'m, M>, CommandError>
+    ensures stated { IfOk result (λ o. StatesDigests (V.sees outside.now) (W.sees world.now)
+        (M.rows said.now) evidence.now (λ rows. rows ≡ options_in (M.rows o.said.now) o)) }
+    ensures fault { IfErr result
+        (OrMemory (FailsStated (V.sees outside.now) (W.sees world.now) (M.rows said.now)
+        evidence.now)) }
+{
+    let sources = stated_digest(alloc, world, said, evidence, "sources")?;
+    let claim = stated_claim(alloc, outside, world, said, evidence)?;
+    Ok(options_of(alloc, said, evidence, evidence, sources, claim)?)
 }

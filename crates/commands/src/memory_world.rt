@@ -104,7 +104,7 @@ impl Inputs for MemoryWorld {
 
     fn look(&self, alloc: Global, path: &str) -> Result<Found, FileError<Global>> {
         match self.files.get(path) {
-            Some(_) => Ok(Found::File),
+            Some(_) => Ok(Found::File { executable: false }),
             None => Err(unread(alloc, path, io::Error::from(ErrorKind::NotFound))),
         }
     }

@@ -1,207 +1,135 @@
-ghost use Rattle.std.specs.Prelude.{◌≡◌, ◌⊎◌, ◌+◌, ◌∷◌, ◌++◌, ℕ, suc, [], false, IfErr, IfOk};
-ghost use Rattle.std.specs.Prelude.{OnErr, OnOk, min, string_bytes};
+ghost use Rattle.std.specs.Prelude.{◌≡◌, ◌⊎◌, ◌+◌, ◌∷◌, ◌++◌, [], IfErr, IfOk, OnErr, OnOk};
+ghost use Rattle.std.specs.Prelude.{min, string_bytes};
 ghost use Rattle.std.specs.Io.KnownBytes.{Appends};
+ghost use Rattle.blob_digest.specs.Digest.{digest_of};
 ghost use Rattle.blob_digest.specs.Text.{digest_text};
 ghost use Rattle.clap.specs.Words.{found_of, rows_of};
 ghost use Rattle.commands.specs.Client.{connection};
 ghost use Rattle.commands.specs.Places.{IsFresh};
 ghost use Rattle.commands.specs.Printed.{BeginsDigest, PrintsDigest};
-ghost use Rattle.commands.specs.Put.{IsPutAt, PutsPath, StandsAs};
-ghost use Rattle.commands.specs.PutRefused.{FailsBelow, FailsHere, FailsPut, HasNoName};
-ghost use Rattle.commands.specs.PutRefused.{LinksToNoText};
+ghost use Rattle.commands.specs.Put.{PutsNext, PutsPath};
+ghost use Rattle.commands.specs.PutRefused.{FailsBelow, FailsPut, RefusesPut};
+ghost use Rattle.commands.specs.ReadRefused.{FailsFile};
 ghost use Rattle.commands.specs.Faults.{OrMemory};
 ghost use Rattle.commands.specs.Refusal.{IsPrintFault};
 ghost use Rattle.commands.specs.Told.{AppendsBeginning};
-ghost use Rattle.messages.specs.Name.{IsName};
-ghost use Rattle.messages.specs.declared.node.Node.TheVariants as nodes;
+ghost use Rattle.commands.specs.Walked.{TakesFile};
 ghost use Rattle.remote.specs.Remote.{connection_of};
-ghost use Rattle.tree.specs.Form.{node_value};
 
-use crate::children::Children;
 use crate::client::{Client, Opened, PutsBlobs, open};
 use crate::connecting::{ServerOptions, read_server};
-use crate::error::{CommandError, entry_error};
+use crate::error::CommandError;
 use crate::printing::print_all;
 use crate::progress::{Counter, PutProgress};
-use crate::world::{Found, Inputs};
+use crate::walking::{Taker, Walker};
+use crate::world::Inputs;
 use blob_digest::Digest;
 use clap::ArgMatches;
 use command_lines::text_of;
-use messages::{Encode, MessageError, Name, Node, Target};
-use remote::Remote;
+use remote::{Remote, Stream};
 use std::alloc::Global;
 use std::io::Write;
 use std::marker::Brand;
 use std::time::Clock;
 
-/// How many names a path has at most.
-const GREATEST_DEPTH: u32 = 64;
-
-/// The name of what stands at a place.
-fn name_at(alloc: Global, place: &str, name: &str) -> Result<Name<Global>, CommandError>
-    ensures name { IfOk result (λ n. n ≡ name.now) }
-    ensures valid { OnOk result (IsName name.now) }
-    ensures refused { IfErr result (OrMemory (HasNoName place.now name.now)) }
-{
-    match Name::new(alloc, name.as_bytes()) {
-        Ok(name) => Ok(name),
-        Err(MessageError::Memory) => Err(CommandError::Memory),
-        Err(_e) => Err(entry_error(alloc, place, "not a name of at most 255 bytes")),
-    }
-}
-
-/// The target of a link that stands at a place.
-fn target_at(alloc: Global, place: &str, target: &str) -> Result<Target<Global>, CommandError>
-    ensures target { IfOk result (λ t. t ≡ target.now) }
-    ensures refused { IfErr result (OrMemory (LinksToNoText place.now target.now)) }
-{
-    match Target::new(alloc, target.as_bytes()) {
-        Ok(target) => Ok(target),
-        Err(MessageError::Memory) => Err(CommandError::Memory),
-        Err(_e) => Err(entry_error(
-            alloc,
-            place,
-            "a link whose target is not text of at most 4096 bytes",
-        )),
-    }
-}
-
-/// Uploads what stands at the places of a world to a server.
-#[derive(Drop)]
-struct Uploader<'a, W: Inputs> {
+/// Puts the bytes of a file over a client, and counts the file; gives their digest.
+fn put_file<S: Stream + Drop, K: Opened, P: Counter>(
     alloc: Global,
-    world: &'a W,
-    server: &'a ServerOptions,
+    server: &ServerOptions,
+    client: &mut Client<S, K, PutsBlobs>,
+    progress: &mut P,
+    bytes: &[u8],
+) -> Result<Digest, CommandError>
+    ensures named { IfOk result (λ digest. digest ≡ digest_of bytes.now) }
+    ensures taken { OnOk result
+        (PutsNext (connection client.old) (connection client.new) bytes.now) }
+    ensures refused { IfErr result (OrMemory (λ e. RefusesPut (connection client.old)
+        (string_bytes server.now.address) bytes.now e)) }
+    ensures counted { OnOk result
+        (P.files progress.new ≡ min (P.files progress.old + 1) 18446744073709551615) }
+    ensures sized { IfOk result (λ digest. P.size progress.new
+        ≡ min (P.size progress.old + digest.size) 18446744073709551615) }
+    ensures uncounted { OnErr result (progress.new ≡ progress.old) }
+{
+    let digest = client.put(alloc, server, bytes)?;
+    progress.count(digest.size());
+    Ok(digest)
 }
 
-impl<W: Inputs> Uploader<'_, W> {
-    /// Uploads the file at a place; gives its digest.
-    fn upload_file<K: Opened, P: Counter>(
-        &self,
-        client: &mut Client<W::Link, K, PutsBlobs>,
-        progress: &mut P,
-        place: &str,
-    ) -> Result<Digest, CommandError>
-        ensures put { IfOk result (λ digest. (left : ℕ)
-            → IsPutAt (W.sees self.now.world.now) (suc left) place.now (nodes.File digest false)
-            (connection client.old) (connection client.new)) }
-        ensures refused { IfErr result (OrMemory (λ e. (left : ℕ)
-            → FailsHere (W.sees self.now.world.now) (string_bytes self.now.server.now.address) left
-            place.now
-            (connection client.old) e)) }
-        ensures counted { OnOk result
-            (P.files progress.new ≡ min (P.files progress.old + 1) 18446744073709551615) }
-        ensures sized { IfOk result (λ digest. P.size progress.new
-            ≡ min (P.size progress.old + digest.size) 18446744073709551615) }
-        ensures uncounted { OnErr result (progress.new ≡ progress.old) }
-    {
-        let bytes = self.world.read(self.alloc, place)?;
-        let digest = client.put(self.alloc, self.server, &bytes)?;
-        progress.count(digest.size());
-        Ok(digest)
+/// Puts each blob over a client, and counts the files. It is no `Drop`, as what counts isn't.
+struct Putter<S: Stream + Drop, K: Opened, P: Counter> {
+    server: ServerOptions,
+    client: Client<S, K, PutsBlobs>,
+    progress: P,
+}
+
+impl<S: Stream + Drop, K: Opened, P: Counter> Taker for Putter<S, K, P> {
+    ghost use Rattle.commands.specs.Putting.{address_of_putter, connection_of_putter};
+
+    ghost takes = { λ old new blob.
+        PutsNext (connection_of_putter old) (connection_of_putter new) blob
+        × (address_of_putter new ≡ address_of_putter old) };
+
+    ghost refuses = { λ old blob e.
+        RefusesPut (connection_of_putter old) (address_of_putter old) blob e };
+
+    fn take(&mut self, alloc: Global, blob: &[u8]) -> Result<Digest, CommandError> {
+        self.client.put(alloc, &self.server, blob)
     }
 
-    /// Uploads what stands at a place; gives its node.
-    #[cycle(upload_folder)]
-    fn upload_node<K: Opened, P: Counter>(
-        &self,
-        client: &mut Client<W::Link, K, PutsBlobs>,
-        progress: &mut P,
+    fn take_file<W: Inputs>(
+        &mut self,
+        alloc: Global,
+        world: &W,
         place: &str,
-        levels_left: u32,
-    ) -> Result<Node<Global>, CommandError>
-        ensures stands { IfOk result (λ node. StandsAs (W.sees self.now.world.now) place.now
-            (node_value node)) }
-        ensures put { IfOk result
-            (λ node. IsPutAt (W.sees self.now.world.now) (suc levels_left) place.now
-            (node_value node)
-            (connection client.old) (connection client.new)) }
-        ensures refused { IfErr result (OrMemory (λ e. FailsBelow (W.sees self.now.world.now)
-            (string_bytes self.now.server.now.address) e levels_left place.now
-            (connection client.old))) }
-    {
-        let found = self.world.look(self.alloc, place)?;
-        let node = match found {
-            Found::Folder => Node::Dir(self.upload_folder(client, progress, place, levels_left)?),
-            Found::Link(target) => Node::Link {
-                target: target_at(self.alloc, place, target.as_str())?,
-            },
-            Found::File => Node::File {
-                digest: self.upload_file(client, progress, place)?,
-                executable: false,
-            },
-        };
-        Ok(node)
-    }
-
-    /// Uploads what stands in the folder at a place, so many levels of names deep at most, and then
-    /// its Directory; gives that one's digest.
-    #[cycle(upload_folder)]
-    fn upload_folder<K: Opened, P: Counter>(
-        &self,
-        client: &mut Client<W::Link, K, PutsBlobs>,
-        progress: &mut P,
-        place: &str,
-        levels_left: u32,
-    ) -> Result<Digest, CommandError>
-        ensures put { IfOk result
-            (λ digest. IsPutAt (W.sees self.now.world.now) (suc levels_left) place.now
-            (nodes.Dir digest)
-            (connection client.old) (connection client.new)) }
-        ensures refused { IfErr result (OrMemory (λ e. FailsBelow (W.sees self.now.world.now)
-            (string_bytes self.now.server.now.address) e levels_left place.now
-            (connection client.old))) }
-    {
-        let alloc = self.alloc;
-        let names = self.world.list(alloc, place)?;
-        let mut children = Children::new(alloc);
-        for name in names.iter() {
-            let below = format!(in alloc; "{place}/{name}")?;
-            let path = below.as_str();
-            let name = name_at(alloc, path, name.as_str())?;
-            if levels_left == 0 {
-                return Err(entry_error(alloc, path, "more than 64 names deep"));
-            }
-            let node = self.upload_node(client, progress, path, levels_left - 1)?;
-            children.push(name, node)?;
-        }
-        let directory = children.into_directory(alloc, place)?;
-        let bytes = directory.write(alloc)?;
-        client.put(alloc, self.server, &bytes)
+    ) -> Result<Digest, CommandError> {
+        let bytes = world.read(alloc, place)?;
+        let progress = &mut self.progress;
+        put_file(alloc, &self.server, &mut self.client, progress, &bytes)
     }
 }
 
-/// Puts what stands at the path, over the marked connection; gives its digest.
+/// Puts what stands at the path, over the marked connection; gives its digest, and what counted.
 fn put_over<W: Inputs, K: Opened, P: Counter>(
     alloc: Global,
     world: &W,
-    server: &ServerOptions,
+    server: ServerOptions,
     remote: Remote<W::Link, Global>,
-    progress: &mut P,
+    progress: P,
     place: String,
-) -> Result<Digest, CommandError>
+) -> (Result<Digest, CommandError>, P)
     requires start { K.start ≡ connection_of W.Link.flow remote }
     requires fresh { IsFresh remote }
-    ensures put { IfOk result (PutsPath (W.sees world.now) K.start (string_bytes place)) }
-    ensures refused { IfErr result (OrMemory (λ e. FailsBelow (W.sees world.now)
-        (string_bytes server.now.address) e 64 (string_bytes place) K.start)) }
+    ensures put { IfOk result.0 (PutsPath (W.sees world.now) K.start (string_bytes place)) }
+    ensures refused { IfErr result.0 (OrMemory (λ e. FailsBelow (W.sees world.now)
+        (string_bytes server.address) e 64 (string_bytes place) K.start)) }
 {
-    let mut client: Client<W::Link, K, PutsBlobs> = Client::new(remote);
-    let uploader = Uploader {
+    let client: Client<W::Link, K, PutsBlobs> = Client::new(remote);
+    let mut putter = Putter {
+        server,
+        client,
+        progress,
+    };
+    let walker = Walker {
         alloc,
         world,
-        server,
+        bits: false,
     };
-    let place = place.as_str();
-    if world.is_folder(alloc, place)? {
-        uploader.upload_folder(&mut client, progress, place, GREATEST_DEPTH)
-    } else {
-        uploader.upload_file(&mut client, progress, place)
-    }
+    let put = walker.read_path(&mut putter, place.as_str());
+    let Putter {
+        server: _server,
+        client: _client,
+        progress,
+    } = putter;
+    (put, progress)
 }
 
 /// Prints the line of a digest.
-fn print_digest<O: Write>(alloc: Global, digest: &Digest, out: &mut O) -> Result<(), CommandError>
+pub(crate) fn print_digest<O: Write>(
+    alloc: Global,
+    digest: &Digest,
+    out: &mut O,
+) -> Result<(), CommandError>
     ensures printed { OnOk result
         (Appends (O.contents out.old) (O.contents out.new) (digest_text digest.now ++ 10 ∷ [])) }
     ensures begun { OnErr result ((O.contents out.new ≡ O.contents out.old)
@@ -243,14 +171,9 @@ where
     let server = read_server(alloc, matches)?;
     let place = String::from_str(alloc, text_of(matches, "path"))?;
     let remote = open(alloc, world, &server)?;
-    let mut progress = PutProgress::new(rt, terminal)?;
-    let put = put_over::<W, Brand, PutProgress<R, T>>(
-        alloc,
-        world,
-        &server,
-        remote,
-        &mut progress,
-        place,
+    let progress = PutProgress::new(rt, terminal)?;
+    let (put, mut progress) = put_over::<W, Brand, PutProgress<R, T>>(
+        alloc, world, server, remote, progress, place,
     );
     progress.clear();
     progress.end();

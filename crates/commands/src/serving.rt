@@ -3,17 +3,19 @@ ghost use Rattle.std.specs.Prelude.{codes};
 ghost use Rattle.std.specs.Io.KnownBytes.{Appends};
 ghost use Rattle.clap.specs.Words.{found_of, rows_of};
 ghost use Rattle.command_lines.specs.CommandLine.{option_text};
+ghost use Rattle.commands.specs.ByteCounts.{SpellsBytes};
 ghost use Rattle.commands.specs.Options.{IsNumber, decimal_number, number_or};
 ghost use Rattle.commands.specs.Printed.{BeginsListening, IsServeRequest, PrintsListening};
-ghost use Rattle.commands.specs.Printed.{ServesAsked, listening_line};
+ghost use Rattle.commands.specs.Printed.{ServesAsked, at_once_of, listening_line, usual_at_once};
 ghost use Rattle.commands.specs.Faults.{OrMemory};
 ghost use Rattle.commands.specs.Refusal.{IsPrintFault};
 ghost use Rattle.commands.specs.ServeRefused.{FailsForRandom, FailsServe, FailsToListen};
 ghost use Rattle.commands.specs.ServeRefused.{IsAcceptFault};
 ghost use Rattle.commands.specs.Told.{AppendsBeginning};
-ghost use Rattle.commands.specs.Words.{IsCheckedBy, has_number_up_to, is_at_once, listens_at};
-ghost use Rattle.commands.specs.Words.{may_have_number_up_to, serve_words};
+ghost use Rattle.commands.specs.Words.{IsCheckedBy, has_number_up_to, is_at_once, is_limit};
+ghost use Rattle.commands.specs.Words.{listens_at, may_have_number_up_to, serve_words};
 
+use crate::byte_counts::bytes_up_to;
 use crate::connecting::read_prefix;
 use crate::error::CommandError;
 use crate::options::{invalid_value, is_address, number_in};
@@ -31,11 +33,19 @@ use std::net::SocketAddr;
 /// The most bytes to which a store is limited.
 const GREATEST_LIMIT: u64 = 9_223_372_036_854_775_807;
 
+/// What is expected of an option that limits a store.
+const LIMIT_EXPECTED: &str =
+    "a number of bytes up to 9223372036854775807, such as 1048576, 512M or 8G";
+
 /// For how many seconds a connection may be silent, where nothing else is said.
 const IDLE_SECONDS: u64 = 60;
 
 /// The most connections that are served at a time.
 const GREATEST_AT_ONCE: u64 = 1024;
+
+/// How many a server that serves without end has at a time, where nothing else is said: more than
+/// the hundred that one Bazel opens.
+const USUAL_AT_ONCE: usize = 256;
 
 /// What the words of `serve` ask for.
 #[derive(Drop)]
@@ -74,6 +84,25 @@ fn read_number(
     }
 }
 
+/// The bytes to which an option limits a store.
+fn read_limit(
+    alloc: Global,
+    matches: &ArgMatches<'_>,
+    option: &'static str,
+) -> Result<u64, CommandError>
+    ensures few { IfOk result (λ limit. limit < 2 ^ 63) }
+    ensures limit { IfOk result
+        (SpellsBytes (option_text (rows_of (found_of matches.now)) option.now)) }
+    ensures checked { IsCheckedBy
+        (is_limit (rows_of (found_of matches.now)) option.now ∷ []) result }
+{
+    let text = text_of(matches, option);
+    match bytes_up_to(text, GREATEST_LIMIT) {
+        Some(limit) => Ok(limit),
+        None => Err(invalid_value(alloc, option, LIMIT_EXPECTED, text)?),
+    }
+}
+
 /// Where the words say to listen.
 fn read_address<'a>(alloc: Global, matches: &ArgMatches<'a>) -> Result<&'a str, CommandError>
     ensures address { IfOk result (λ address.
@@ -107,14 +136,24 @@ fn read_number_or(
     }
 }
 
+/// How many connections are served at a time, where nothing is said of it.
+fn usual_at_once(matches: &ArgMatches<'_>) -> usize
+    ensures { result ≡ usual_at_once (rows_of (found_of matches.now)) }
+{
+    match option_of(matches, "connections") {
+        Some(_) => 1,
+        None => USUAL_AT_ONCE,
+    }
+}
+
 /// The number of `--at-once`, at least 1.
 fn read_at_once(alloc: Global, matches: &ArgMatches<'_>) -> Result<usize, CommandError>
     ensures at_once { IfOk result (λ at_once.
-        at_once ≡ number_or 1 (rows_of (found_of matches.now)) (codes "at-once")) }
+        at_once ≡ at_once_of (rows_of (found_of matches.now))) }
     ensures checked { IsCheckedBy (is_at_once (rows_of (found_of matches.now))) result }
 {
     if option_of(matches, "at-once").is_none() {
-        return Ok(1);
+        return Ok(usual_at_once(matches));
     }
     match read_number(alloc, matches, "at-once", GREATEST_AT_ONCE)? {
         0 => Err(invalid_value(
@@ -139,8 +178,8 @@ fn read_request<'a>(
 {
     let address = read_address(alloc, matches)?;
     let connections = read_number_or(alloc, matches, "connections", u64::MAX, u64::MAX)?;
-    let limit = read_number(alloc, matches, "limit", GREATEST_LIMIT)?;
-    let result_limit = read_number(alloc, matches, "result-limit", GREATEST_LIMIT)?;
+    let limit = read_limit(alloc, matches, "limit")?;
+    let result_limit = read_limit(alloc, matches, "result-limit")?;
     let idle = read_number_or(alloc, matches, "idle", GREATEST_LIMIT, IDLE_SECONDS)?;
     let at_once = read_at_once(alloc, matches)?;
     let prefix = read_prefix(alloc, matches)?;

@@ -1,12 +1,14 @@
 ghost use Rattle.std.specs.Prelude.{◌≡◌, ◌∷◌, [], IfOk, codes, map, string_bytes};
 ghost use Rattle.commands.specs.Evidence.{evidence_words, goes_alone, has_wanted, missing};
-ghost use Rattle.commands.specs.Evidence.{missing_option};
+ghost use Rattle.commands.specs.Evidence.{artifact_words, has_bits_of_folder, has_one_claim};
+ghost use Rattle.commands.specs.Evidence.{missing_claim, missing_option};
 ghost use Rattle.commands.specs.Evidence.{names_evidence, needs_server};
 ghost use Rattle.commands.specs.Words.{IsCheckedBy, server_words, where_said};
 
 use crate::connecting::read_server;
 use crate::error::CommandError;
 use crate::options::{Options, invalid_value, text_for};
+use crate::verifying::check_folder;
 use std::alloc::{AllocError, Global};
 
 /// An option that is wanted where no evidence is named, as help writes it, if it isn't said.
@@ -25,6 +27,16 @@ fn missing_option<M: Options>(
     format!(in alloc; " --{option} <{value}>")
 }
 
+/// The claim, if neither it nor a folder that stands for it is said.
+fn missing_claim<M: Options>(alloc: Global, options: &M) -> Result<String, AllocError>
+    ensures { IfOk result (λ text. string_bytes text ≡ missing_claim (M.rows options.now)) }
+{
+    if options.text("artifact").is_some() {
+        return Ok(String::new(alloc));
+    }
+    missing_option(alloc, options, "claim", "DIGEST")
+}
+
 /// All that is wanted where no evidence is named, and isn't said.
 fn missing_options<M: Options>(alloc: Global, options: &M) -> Result<String, AllocError>
     ensures { IfOk result (λ text. string_bytes text ≡ missing (M.rows options.now)) }
@@ -32,7 +44,7 @@ fn missing_options<M: Options>(alloc: Global, options: &M) -> Result<String, All
     let sources = missing_option(alloc, options, "sources", "DIGEST")?;
     let plan = missing_option(alloc, options, "plan", "FILE")?;
     let record = missing_option(alloc, options, "record", "FILE")?;
-    let claim = missing_option(alloc, options, "claim", "DIGEST")?;
+    let claim = missing_claim(alloc, options)?;
     format!(in alloc; "{sources}{plan}{record}{claim}")
 }
 
@@ -46,6 +58,37 @@ pub(crate) fn check_wanted<M: Options>(alloc: Global, options: &M) -> Result<(),
     }
     let head = "the following required arguments were not provided:";
     Err(CommandError::Usage(format!(in alloc; "{head}{missing}, or <EVIDENCE>")?))
+}
+
+/// A folder that stands for a claim isn't said beside one.
+fn check_one_claim<M: Options>(alloc: Global, options: &M) -> Result<(), CommandError>
+    ensures { IsCheckedBy (has_one_claim (M.rows options.now) ∷ []) result }
+{
+    if options.text("artifact").is_none() || options.text("claim").is_none() {
+        return Ok(());
+    }
+    let text = String::from_str(alloc, "--claim cannot be used with --artifact")?;
+    Err(CommandError::Usage(text))
+}
+
+/// The flag for bits isn't given without such a folder.
+fn check_bits<M: Options>(alloc: Global, options: &M) -> Result<(), CommandError>
+    ensures { IsCheckedBy (has_bits_of_folder (M.rows options.now) ∷ []) result }
+{
+    if options.text("no-bits") != Some("true") || options.text("artifact").is_some() {
+        return Ok(());
+    }
+    let text = String::from_str(alloc, "--no-bits cannot be used without --artifact")?;
+    Err(CommandError::Usage(text))
+}
+
+/// What is said of a folder that stands for a claim goes together.
+pub(crate) fn check_artifact<M: Options>(alloc: Global, options: &M) -> Result<(), CommandError>
+    ensures { IsCheckedBy (artifact_words (M.rows options.now)) result }
+{
+    check_one_claim(alloc, options)?;
+    check_bits(alloc, options)?;
+    check_folder(alloc, options, "artifact")
 }
 
 /// An option that can't stand beside evidence isn't said.

@@ -4,7 +4,6 @@ ghost use Rattle.std.specs.Io.KnownBytes.{Appends};
 ghost use Rattle.clap.specs.Words.{first_of};
 ghost use Rattle.command_lines.specs.CommandLine.{option_text};
 ghost use Rattle.commands.specs.Ended.{is_done};
-ghost use Rattle.commands.specs.Evidence.{AnswersVerdict};
 ghost use Rattle.commands.specs.Faults.{OrMemory};
 ghost use Rattle.commands.specs.Places.{FailsInFolder, FailsOver, IsFresh, IsOfFolder};
 ghost use Rattle.commands.specs.Places.{FailsOfParts, IsOfBoth, IsToldByParts, LacksOfBoth};
@@ -12,13 +11,15 @@ ghost use Rattle.commands.specs.Places.{IsOfServer, IsAnsweredBy, IsToldOver, La
 ghost use Rattle.commands.specs.Places.{LacksInFolder, LacksIt, LacksOfParts, SeesFiles};
 ghost use Rattle.commands.specs.Places.{gets_alone};
 ghost use Rattle.commands.specs.Printed.{AsksQuestion, BeginsVerdict, IsNamedPlace, IsOfPlace};
-ghost use Rattle.commands.specs.Printed.{LacksAtPlace, LacksFolder, MayHaveFolder, NotesFolder};
-ghost use Rattle.commands.specs.Printed.{named_folder};
+ghost use Rattle.commands.specs.Printed.{JudgesAsked, LacksAtPlace, LacksFolder, MayHaveFolder};
+ghost use Rattle.commands.specs.Printed.{NotesFolder, named_folder};
 ghost use Rattle.commands.specs.Refusal.{FailsDigests, FailsAtPlace, FailsPlan, FailsRecord};
-ghost use Rattle.commands.specs.Refusal.{FailsOfBoth, FailsServer, FailsVerify, HasPlanRead};
+ghost use Rattle.commands.specs.Refusal.{FailsOfBoth, FailsServer, FailsToJudge, FailsVerify};
+ghost use Rattle.commands.specs.Refusal.{HasPlanRead};
 ghost use Rattle.commands.specs.Refusal.{IsPrintFault};
 ghost use Rattle.commands.specs.Refusal.{IsTextFault};
 ghost use Rattle.commands.specs.Told.{AppendsBeginning, PrintsNoLine};
+ghost use Rattle.commands.specs.Verified.{AnswersVerdict};
 ghost use Rattle.commands.specs.Words.{IsCheckedBy, IsSaid, IsUsageError, goes_with_server};
 ghost use Rattle.commands.specs.Words.{may_name_folder, place_words, server_words};
 ghost use Rattle.remote.specs.Remote.{connection_of};
@@ -37,15 +38,17 @@ use crate::telling::write_bytes;
 use crate::world::{FilesOf, Inputs};
 use plan::{Plan, PlanError};
 use remote::{FileError, Remote, Stream};
+use report::{is_yes, report};
 use std::alloc::{AllocError, Global};
 use std::io::{ErrorKind, Write};
 use std::marker::Brand;
 use text_verifier::{Answer, Case, Digests, Lack, TextError, answer_question, read_plan};
 use tree::FetchError;
+use verifier::Verdict;
 
 /// Where the recorded build is.
 #[derive(Drop)]
-enum RecordedBuild {
+pub(crate) enum RecordedBuild {
     Folder(String),
     Server(ServerOptions),
     /// Its blobs are on the server, and its results in the folder.
@@ -53,7 +56,7 @@ enum RecordedBuild {
 }
 
 /// The digests that the words spell. That of the sources is read first.
-fn typed_digests<M: Options>(alloc: Global, options: &M) -> Result<Digests, CommandError>
+pub(crate) fn typed_digests<M: Options>(alloc: Global, options: &M) -> Result<Digests, CommandError>
     ensures sources { IfOk result (λ digests.
         IsDigestText (option_text (M.rows options.now) (codes "sources"))
         digests.sources) }
@@ -151,7 +154,7 @@ fn check_beside_store<M: Options>(
 }
 
 /// A folder for entries has a name, where the option for it is said.
-fn check_folder<M: Options>(
+pub(crate) fn check_folder<M: Options>(
     alloc: Global,
     options: &M,
     option: &'static str,
@@ -180,7 +183,10 @@ fn read_server_place<M: Options>(alloc: Global, options: &M) -> Result<RecordedB
 }
 
 /// Where the words say that the recorded build is: a store folder or a server, and not both.
-fn read_place<M: Options>(alloc: Global, options: &M) -> Result<RecordedBuild, CommandError>
+pub(crate) fn read_place<M: Options>(
+    alloc: Global,
+    options: &M,
+) -> Result<RecordedBuild, CommandError>
     ensures place { IfOk result (IsNamedPlace (M.rows options.now)) }
     ensures checked { IsCheckedBy (place_words (M.rows options.now)) result }
 {
@@ -362,18 +368,17 @@ fn judge<W: Inputs, M: Options>(
     }
 }
 
-/// Prints the line of the answer, its newline last and alone, so that what an error leaves printed
-/// is no line.
-fn print_line<O: Write>(answer: &Answer<Global>, out: &mut O) -> Result<(), CommandError>
-    requires { IsOneLine (string_bytes answer.now.line) }
-    ensures printed { OnOk result (Appends (O.contents out.old) (O.contents out.new)
-        (string_bytes answer.now.line)) }
-    ensures begun { OnErr result (AppendsBeginning (O.contents out.old) (O.contents out.new)
-        (string_bytes answer.now.line)) }
+/// Prints a line, its newline last and alone, so that what an error leaves printed is no line.
+pub(crate) fn print_line<O: Write>(line: &str, out: &mut O) -> Result<(), CommandError>
+    requires { IsOneLine line.now }
+    ensures printed { OnOk result
+        (Appends (O.contents out.old) (O.contents out.new) line.now) }
+    ensures begun { OnErr result
+        (AppendsBeginning (O.contents out.old) (O.contents out.new) line.now) }
     ensures unended { OnErr result (PrintsNoLine (O.contents out.old) (O.contents out.new)) }
     ensures fault { IfErr result IsPrintFault }
 {
-    let line = answer.line.as_bytes();
+    let line = line.as_bytes();
     let (text, newline) = line.split_at(line.len() - 1);
     write_bytes(out, text)?;
     out.flush().map_err(CommandError::Output)?;
@@ -405,7 +410,12 @@ fn lacks_folder<W: Inputs>(alloc: Global, world: &W, path: &str) -> bool
 
 /// What a verdict comes to. After a no the folder is looked for, and a note says that it isn't
 /// there.
-fn ended_of<W: Inputs>(alloc: Global, world: &W, folder: Option<String>, is_yes: bool) -> Ended
+pub(crate) fn ended_of<W: Inputs>(
+    alloc: Global,
+    world: &W,
+    folder: Option<String>,
+    is_yes: bool,
+) -> Ended
     ensures done { is_done result ≡ is_yes }
     ensures noted { NotesFolder (W.sees world.now) (option_map string_bytes folder) result }
 {
@@ -420,8 +430,25 @@ fn ended_of<W: Inputs>(alloc: Global, world: &W, folder: Option<String>, is_yes:
     }
 }
 
-/// Prints the line of the verdict that these options ask for. The words are read first, then the
-/// plan's file and its text, then the record's; then the store, the server or both are asked.
+/// The verdict that these options ask for. The words are read first, then the plan's file and its
+/// text, then the record's; then the store, the server or both are asked.
+pub(crate) fn judge_asked<W: Inputs, M: Options>(
+    alloc: Global,
+    world: &W,
+    options: &M,
+) -> Result<Verdict<Global>, CommandError>
+    ensures judged { IfOk result (JudgesAsked (W.sees world.now) (M.rows options.now)) }
+    ensures refused { IfErr result (FailsToJudge (W.sees world.now) (M.rows options.now)) }
+{
+    let build = read_place(alloc, options)?;
+    let digests = typed_digests(alloc, options)?;
+    let plan = plan_in_file(alloc, world, options)?;
+    let case = read_case(alloc, world, options, digests, plan)?;
+    let answer = judge(alloc, world, options, build, &case)?;
+    Ok(answer.verdict)
+}
+
+/// Prints the line of the verdict that these options ask for.
 pub(crate) fn verify_asked<W: Inputs, M: Options, O: Write>(
     alloc: Global,
     world: &W,
@@ -437,12 +464,9 @@ pub(crate) fn verify_asked<W: Inputs, M: Options, O: Write>(
     ensures unended { OnErr result (PrintsNoLine (O.contents out.old) (O.contents out.new)) }
     ensures refused { IfErr result (FailsVerify (W.sees world.now) (M.rows options.now)) }
 {
-    let build = read_place(alloc, options)?;
     let folder = named_folder(alloc, options)?;
-    let digests = typed_digests(alloc, options)?;
-    let plan = plan_in_file(alloc, world, options)?;
-    let case = read_case(alloc, world, options, digests, plan)?;
-    let answer = judge(alloc, world, options, build, &case)?;
-    print_line(&answer, out)?;
-    Ok(ended_of(alloc, world, folder, answer.is_yes))
+    let verdict = judge_asked(alloc, world, options)?;
+    let line = report(alloc, &verdict)?;
+    print_line(line.as_str(), out)?;
+    Ok(ended_of(alloc, world, folder, is_yes(&verdict)))
 }

@@ -3,6 +3,7 @@ ghost use Rattle.std.specs.Prelude.{string_bytes};
 ghost use Rattle.std.specs.Fs.{IsDir, IsSymlink, file_type};
 ghost use Rattle.blob_source.specs.Called.{Called};
 ghost use Rattle.checkout.specs.Refused.{FailsCheckout};
+ghost use Rattle.commands.specs.World.{owner_bit};
 ghost use Rattle.checkout.specs.Written.{AsksEachOnce, AsksUpTo, CheckoutLooksAt, HoldsTree};
 ghost use Rattle.checkout.specs.Written.{TriesTree};
 ghost use Rattle.messages.specs.Order.{bytes_cmp};
@@ -11,6 +12,7 @@ ghost use Rattle.tree.specs.Memo.{AsksNoOther};
 
 use crate::connecting::{Connection, ServerOptions};
 use crate::files::{of_entry, unread};
+use crate::hashing::digest_to_end;
 use crate::options::limit_of;
 use crate::replacing::{check_replaceable, replace_file};
 use archive::Blocks;
@@ -25,6 +27,7 @@ use service::{ErrorTerminal, NotAccepted, SystemListener, SystemSockets, serve, 
 use std::alloc::Global;
 use std::hash::RandomState;
 use std::net::{Net, SocketAddr, TcpListener, TcpStream};
+use std::os::unix::fs::MetadataExt;
 use std::random::RandomSource;
 use std::rt::Files;
 use std::time::Clock;
@@ -36,16 +39,19 @@ pub enum Found {
     Folder,
     /// A symbolic link, and where it leads to.
     Link(String),
-    /// A file, or what is none of these.
-    File,
+    /// A file, or what is none of these, with its owner's executable bit.
+    File { executable: bool },
 }
+
+/// The bit of a mode by which the owner may run a file.
+const OWNER_RUNS: u32 = 0o100;
 
 /// What stands at a path, by its metadata. Of a link that doesn't say where it leads to.
 fn found_by(metadata: &fs::Metadata) -> Option<Found>
     ensures folder { IsDir (file_type metadata.now) → result ≡ Some Found.Folder }
     ensures link { IsSymlink (file_type metadata.now) → result ≡ None }
     ensures file { ¬ IsDir (file_type metadata.now) → ¬ IsSymlink (file_type metadata.now)
-        → result ≡ Some Found.File }
+        → result ≡ Some (Found.File (owner_bit metadata.now)) }
 {
     if metadata.is_dir() {
         return Some(Found::Folder);
@@ -53,7 +59,9 @@ fn found_by(metadata: &fs::Metadata) -> Option<Found>
     if metadata.is_symlink() {
         return None;
     }
-    Some(Found::File)
+    Some(Found::File {
+        executable: metadata.mode() & OWNER_RUNS != 0,
+    })
 }
 
 /// A socket that listens, and its address.
@@ -90,13 +98,23 @@ pub trait Inputs: World {
     /// A connection to a server.
     type Link: Stream + Drop;
 
-    ghost use Rattle.commands.specs.World.{what_stands};
+    ghost use Rattle.commands.specs.World.{ReadsDigest, what_stands};
 
     /// The bytes of a file.
     fn read(&self, alloc: Global, path: &str) -> Result<Vec<u8>, FileError<Global>>
         ensures read { IfOk result (λ bytes. (Self.sees self.now).reads path.now bytes.items) }
         ensures error { IfErr result (IsErrorOf path.now) }
         ensures fault { IfErr result ((Self.sees self.now).fails path.now) };
+
+    /// The digest of a file, which may have more bytes than are read at once.
+    fn digest(&self, alloc: Global, path: &str) -> Result<Digest, FileError<Global>>
+        ensures read { IfOk result (ReadsDigest (Self.sees self.now) path.now) }
+        ensures error { IfErr result (IsErrorOf path.now) }
+        ensures fault { IfErr result ((Self.sees self.now).fails path.now) }
+    {
+        let bytes = self.read(alloc, path)?;
+        Ok(Digest::of(&bytes))
+    }
 
     /// The names in a folder, in the order of their bytes.
     fn list(&self, alloc: Global, path: &str) -> Result<Vec<String>, FileError<Global>>
@@ -204,6 +222,24 @@ pub trait Hosting: World {
         ensures fault { IfErr result ((Self.sees self.now).unserved (serving listening service)) };
 }
 
+/// The file at a path, open. What is no file isn't opened.
+fn open_file<R: Files>(rt: &R, alloc: Global, path: &str) -> Result<R::File, FileError<Global>>
+    ensures error { IfErr result (IsErrorOf path.now) }
+{
+    match fs::metadata(rt, path) {
+        Ok(metadata) if metadata.is_file() => {}
+        Ok(_) => {
+            let path = String::from_str(alloc, path)?;
+            return Err(FileError::NotAFile { path });
+        }
+        Err(fault) => return Err(unread(alloc, path, fault)),
+    }
+    match fs::open(rt, path) {
+        Ok(file) => Ok(file),
+        Err(fault) => Err(unread(alloc, path, fault)),
+    }
+}
+
 /// The files and sockets of the system, as the program's handle reaches them.
 #[derive(Drop)]
 pub struct System<'r, R>(pub &'r R);
@@ -219,6 +255,14 @@ impl<'r, R: AllocGlobal + Files + Net<Stream = TcpStream>> Inputs for System<'r,
 
     fn read(&self, alloc: Global, path: &str) -> Result<Vec<u8>, FileError<Global>> {
         read_file(alloc, &SystemFiles(self.0), path)
+    }
+
+    fn digest(&self, alloc: Global, path: &str) -> Result<Digest, FileError<Global>> {
+        let mut file = open_file(self.0, alloc, path)?;
+        match digest_to_end(&mut file) {
+            Ok(digest) => Ok(digest),
+            Err(fault) => Err(unread(alloc, path, fault)),
+        }
     }
 
     fn list(&self, alloc: Global, path: &str) -> Result<Vec<String>, FileError<Global>> {
@@ -270,18 +314,7 @@ impl<R: AllocGlobal + Files<File = fs::File>> Archives for System<'_, R> {
     type File = fs::File;
 
     fn open(&self, alloc: Global, path: &str) -> Result<fs::File, FileError<Global>> {
-        match fs::metadata(self.0, path) {
-            Ok(metadata) if metadata.is_file() => {}
-            Ok(_) => {
-                let path = String::from_str(alloc, path)?;
-                return Err(FileError::NotAFile { path });
-            }
-            Err(fault) => return Err(unread(alloc, path, fault)),
-        }
-        match fs::open(self.0, path) {
-            Ok(file) => Ok(file),
-            Err(fault) => Err(unread(alloc, path, fault)),
-        }
+        open_file(self.0, alloc, path)
     }
 }
 

@@ -4,6 +4,7 @@ use Rattle.std.specs.Prelude.{decimal, ◌==◌, ◌/◌, ◌%◌, ◌+◌, not,
 use Rattle.std.specs.Fmt.{signed_decimal}
 use Rattle.std.specs.Char.{is_ascii_digit}
 use Rattle.std.specs.List.{list_all}
+use Rattle.std.proofs.lemmas.Fmt.{decimal_by_steps_wide}
 use Rattle.std.proofs.lemmas.List.Elements.{Contains-append_cases}
 use Rattle.std.proofs.lemmas.List.Sums.{AllPass-from_list_all}
 use Rattle.blob_digest.proofs.Decimals.{decimal-IsDecimal}
@@ -18,7 +19,7 @@ use Rattle.std.specs.Int.Signed.{mag}
 use Rattle.std.specs.Prelude.{ℤ, pos, negsuc, suc, ◌<◌, ◌^◌}
 use Rattle.verifier.specs.declared.verdict.Place.{Place}
 use Rattle.verifier.specs.declared.verdict.Cause.{Cause}
-use Rattle.report.specs.Line.{HasNoNewline, IsOneLine, cause_text, named, no_text, place_text, yes_text}
+use Rattle.report.specs.Line.{HasNoNewline, IsOneLine, cause_text, named, no_text, place_text, stage_no_text, stages_yes_text, yes_text}
 
 -- what holds holds where a result is good
 pub where_ok : {P T E : Type 0} (result : Result T E) → P → OnOk result P
@@ -28,6 +29,14 @@ where_ok (Err e) holds = tt
 -- a text that is put together from the right
 pub written : {T E : Type 0} (result : Result T E) (bytes : T → List ℕ) (a b c d e : List ℕ) → IfOk result (λ text. bytes text ≡ a ++ (b ++ (c ++ (d ++ e)))) → IfOk result (λ text. bytes text ≡ a ++ b ++ c ++ d ++ e)
 written result bytes a b c d e = subst (λ (line : List ℕ). IfOk result (λ text. bytes text ≡ line)) (simp append_assoc)
+
+pub stages_written : {T E : Type 0} (result : Result T E) (bytes : T → List ℕ) (a b c d e f g : List ℕ) → IfOk result (λ text. bytes text ≡ a ++ (b ++ (c ++ (d ++ (e ++ (f ++ g))))))
+    → IfOk result (λ text. bytes text ≡ a ++ b ++ (c ++ d) ++ (e ++ f) ++ g)
+stages_written result bytes a b c d e f g = subst (λ (line : List ℕ). IfOk result (λ text. bytes text ≡ line)) (simp append_assoc)
+
+pub stage_written : {T E : Type 0} (result : Result T E) (bytes : T → List ℕ) (a b c d e f : List ℕ) → IfOk result (λ text. bytes text ≡ a ++ (b ++ 32 ∷ (c ++ (d ++ (e ++ f)))))
+    → IfOk result (λ text. bytes text ≡ a ++ named b c ++ d ++ e ++ f)
+stage_written result bytes a b c d e f = subst (λ (line : List ℕ). IfOk result (λ text. bytes text ≡ line)) (simp append_assoc)
 
 pub none_in_nil : HasNoNewline []
 none_in_nil (k, lt, e) = omega arith
@@ -53,6 +62,13 @@ none_named word text w t = none_joined word (32 ∷ text) w (none_after 32 text 
 
 pub none_in_number : (n : ℕ) → n < 2 ^ 64 → HasNoNewline (decimal n)
 none_in_number n small = all_pass-without is_ascii_digit (decimal n) 10 (decimal-IsDecimal n small).digits refl
+
+-- of a number of 128 bits
+pub none_in_wide : (n : ℕ) → n < 2 ^ 128 → HasNoNewline (decimal n)
+none_in_wide n small = decimal_by_steps_wide (λ m ds. HasNoNewline ds)
+    (λ m less. none_after (48 + m) [] (λ e. omega (arith, e)) none_in_nil)
+    (λ m ds more none. none_joined ds ((48 + m % 10) ∷ []) none (none_after (48 + m % 10) [] (λ e. omega (arith, e)) none_in_nil))
+    n (omega (arith, small))
 
 pub none_in_name : (name : List ℕ) → IsStepName name → HasNoNewline name
 none_in_name name valid = all_pass-without is_step_name_byte name 10 valid.bytes refl
@@ -101,3 +117,12 @@ yes_line root steps valid small = one_line (codes "yes ") (digest_text root) (co
 pub no_line : {A : Type 0} (place : Place A) (cause : Cause A) → HasNoNewline (place_text place) → HasNoNewline (cause_text cause)
     → IsOneLine (no_text place cause)
 no_line place cause p c = one_line (codes "no ") (place_text place) (codes " cause ") (cause_text cause) (none_seen (codes "no ") refl) p (none_seen (codes " cause ") refl) c
+
+pub stages_yes_line : (root : DigestValue) (count steps : ℕ) → IsDigest root → count < 2 ^ 64 → steps < 2 ^ 128 → IsOneLine (stages_yes_text root count steps)
+stages_yes_line root count steps valid small wide = one_line (codes "yes ") (digest_text root) (codes " stages " ++ decimal count) (codes " steps " ++ decimal steps) (none_seen (codes "yes ") refl) (none_in_digest root valid)
+    (none_joined (codes " stages ") (decimal count) (none_seen (codes " stages ") refl) (none_in_number count small)) (none_joined (codes " steps ") (decimal steps) (none_seen (codes " steps ") refl) (none_in_wide steps wide))
+
+pub stage_no_line : {A : Type 0} (stage : ℕ) (place : Place A) (cause : Cause A) → stage < 2 ^ 64 → HasNoNewline (place_text place) → HasNoNewline (cause_text cause)
+    → IsOneLine (stage_no_text stage place cause)
+stage_no_line stage place cause small p c = one_line (codes "no stage ") (named (decimal stage) (place_text place)) (codes " cause ") (cause_text cause) (none_seen (codes "no stage ") refl)
+    (none_named (decimal stage) (place_text place) (none_in_number stage small) p) (none_seen (codes " cause ") refl) c

@@ -5,6 +5,8 @@ use Rattle.std.specs.Fmt.{signed_decimal}
 use Rattle.blob_digest.specs.Digest.{DigestValue}
 use Rattle.blob_digest.specs.Text.{digest_text}
 use Rattle.plan.specs.Escape.{escaped_path}
+use Rattle.report.specs.declared.stages.StagesVerdict.{StagesVerdict}
+use Rattle.report.specs.declared.stages.StagesVerdict.TheVariants as stages
 use Rattle.verifier.specs.declared.verdict.Verdict.{Verdict}
 use Rattle.verifier.specs.declared.verdict.Verdict.TheVariants.{Yes, No}
 use Rattle.verifier.specs.declared.verdict.Place.{Place}
@@ -52,6 +54,24 @@ no_text place cause =
 abbrev pub report_line : {A : Type 0} → Verdict A → List ℕ
 report_line (Yes root steps) = yes_text root steps
 report_line (No place cause) = no_text place cause
+
+-- `yes HASH/SIZE stages N steps M`
+abbrev pub stages_yes_text : DigestValue → ℕ → ℕ → List ℕ
+stages_yes_text root count steps = codes "yes " ++ digest_text root
+    ++ (codes " stages " ++ decimal count) ++ (codes " steps " ++ decimal steps) ++ 10 ∷ []
+
+-- `no stage K`, the place, `cause` and the cause
+abbrev pub stage_no_text : {A : Type 0} → ℕ → Place A → Cause A → List ℕ
+stage_no_text stage place cause = codes "no stage "
+    ++ named (decimal stage) (place_text place) ++ codes " cause " ++ cause_text cause ++ 10 ∷ []
+
+abbrev pub stages_line : {A : Type 0} → StagesVerdict A → List ℕ
+stages_line (stages.Yes root count steps) = stages_yes_text root count steps
+stages_line (stages.No stage place cause) = stage_no_text stage place cause
+
+abbrev pub IsYesOfStages : {A : Type 0} → StagesVerdict A → Type 0
+IsYesOfStages (stages.Yes root count steps) = Unit {0}
+IsYesOfStages (stages.No stage place cause) = ⊥
 
 -- no newline stands in the text
 abbrev pub HasNoNewline : List ℕ → Type 0

@@ -1,8 +1,10 @@
-//! A verdict as one line of text.
+//! A verdict, of one plan or of a build in stages, as one line of text.
 #![tactic(auto)]
 
 mod cause;
 mod reporting;
+mod stages;
 
 pub use cause::cause_text;
-pub use reporting::{is_yes, report};
+pub use reporting::{is_yes, is_yes_of_stages, report, report_stages};
+pub use stages::StagesVerdict;

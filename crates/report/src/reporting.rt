@@ -1,9 +1,11 @@
 ghost use Rattle.std.specs.Prelude.{◌≡◌, ◌↔◌, IfOk, IsTrue, OnOk, string_bytes};
-ghost use Rattle.report.specs.Line.{HasNoNewline, IsOneLine, no_text, place_text};
-ghost use Rattle.report.specs.Line.{report_line, yes_text};
+ghost use Rattle.report.specs.Line.{HasNoNewline, IsOneLine, IsYesOfStages, no_text, place_text};
+ghost use Rattle.report.specs.Line.{report_line, stage_no_text, stages_line, stages_yes_text};
+ghost use Rattle.report.specs.Line.{yes_text};
 ghost use Rattle.verifier.specs.Verdict.{IsYes};
 
 use crate::cause::cause_text;
+use crate::stages::StagesVerdict;
 use blob_digest::Digest;
 use std::alloc::{AllocError, Allocator};
 use verifier::{Cause, Place, Verdict};
@@ -76,4 +78,68 @@ pub fn is_yes<B: Allocator>(verdict: &Verdict<B>) -> bool
     ensures { IsTrue result ↔ IsYes verdict.now }
 {
     matches!(verdict, Verdict::Yes { .. })
+}
+
+/// `yes`, the root, and the numbers of stages and of steps.
+fn stages_yes_line<A: Allocator + Copy>(
+    alloc: A,
+    root: &Digest,
+    stages: u64,
+    steps: u128,
+) -> Result<String<A>, AllocError>
+    ensures value { IfOk result
+        (λ text. string_bytes text ≡ stages_yes_text root.now stages steps) }
+    ensures one { OnOk result (IsOneLine (stages_yes_text root.now stages steps)) }
+{
+    // A read for the prover: a digest's hash has 32 bytes.
+    let _ = root.hash();
+    let root = root.write_text(alloc)?;
+    format!(in alloc; "yes {root} stages {stages} steps {steps}\n")
+}
+
+/// `no`, the stage, the place and the cause.
+fn stage_no_line<A: Allocator + Copy, B: Allocator>(
+    alloc: A,
+    stage: u32,
+    place: &Place<B>,
+    cause: &Cause<B>,
+) -> Result<String<A>, AllocError>
+    ensures value { IfOk result
+        (λ text. string_bytes text ≡ stage_no_text stage place.now cause.now) }
+    ensures one { OnOk result (IsOneLine (stage_no_text stage place.now cause.now)) }
+{
+    let place = place_text(alloc, place)?;
+    let cause = cause_text(alloc, cause)?;
+    format!(in alloc; "no stage {stage} {place} cause {cause}\n")
+}
+
+/// The one line of what is said of a build in stages, with its newline: `yes`, the root and how
+/// many stages and steps there are, or `no`, the stage, the place in it and the cause.
+pub fn report_stages<A: Allocator + Copy, B: Allocator>(
+    alloc: A,
+    verdict: &StagesVerdict<B>,
+) -> Result<String<A>, AllocError>
+    ensures value { IfOk result (λ text. string_bytes text ≡ stages_line verdict.now) }
+    // No newline stands before the one at its end.
+    ensures one { OnOk result (IsOneLine (stages_line verdict.now)) }
+{
+    match verdict {
+        StagesVerdict::Yes {
+            root,
+            stages,
+            steps,
+        } => stages_yes_line(alloc, root, *stages, *steps),
+        StagesVerdict::No {
+            stage,
+            place,
+            cause,
+        } => stage_no_line(alloc, *stage, place, cause),
+    }
+}
+
+/// Whether each stage has a yes.
+pub fn is_yes_of_stages<B: Allocator>(verdict: &StagesVerdict<B>) -> bool
+    ensures { IsTrue result ↔ IsYesOfStages verdict.now }
+{
+    matches!(verdict, StagesVerdict::Yes { .. })
 }

@@ -1,6 +1,5 @@
--- Answers of the verifier as lines.
-use Rattle.std.specs.Prelude.{◌≡◌, ◌↔◌, IsTrue, string_bytes}
-use Rattle.report.specs.Line.{IsOneLine, report_line}
+-- Answers of the verifier.
+use Rattle.std.specs.Prelude.{◌≡◌}
 use Rattle.blob_source.specs.Source.{Telling}
 use Rattle.tree.specs.Memo.{Asked}
 use Rattle.verifier.specs.declared.verdict.Verdict.{Verdict}
@@ -19,18 +18,10 @@ pub record IsJudged {A : Type 0} (told : Telling) (q : Question) (v : Verdict A)
       → EveryRunEndsIn told.blobs told.results q.sources q.plan q.noted.digests q.claim
   pub unstuck : IsYes v → NoRunIsStuck told.blobs told.results q.sources q.plan q.noted.digests
 
--- the verdict's line, which is one line, and whether it is yes
-pub record TellsVerdict {A : Type 0} (answer : Answer A) (v : Verdict A) : Type 0 where
-  pub line : string_bytes answer.line ≡ report_line v
-  pub one : IsOneLine (report_line v)
-  pub positive : IsTrue answer.is_yes ↔ IsYes v
-
--- an answer tells the verdict on the question, and what the source lacks by it
+-- an answer has the verdict on the question, and what the source lacks by it
 pub record IsAnswer {A : Type 0} (told : Telling) (q : Question) (answer : Answer A) : Type 0 where
-  pub verdict : Verdict A
-  pub judged : IsJudged told q verdict
-  pub tells : TellsVerdict answer verdict
-  pub lack : answer.lack ≡ lack_of q verdict
+  pub judged : IsJudged told q answer.verdict
+  pub lack : answer.lack ≡ lack_of q answer.verdict
 
 -- what the verifier looks at for a question, up to the first fault
 abbrev pub AnswerLooksAt : (A : Type 0) → Telling → Question → Asked → Type 0

@@ -8,20 +8,16 @@ use crate::case::Case;
 use crate::error::TextError;
 use crate::lack::{Lack, lack_of};
 use crate::reading::Digests;
-use report::{is_yes, report};
 use std::alloc::Allocator;
 use tree::BlobSource;
-use verifier::verify;
+use verifier::{Verdict, verify};
 
 /// What the verifier answered.
 #[derive(Drop)]
 #[derive_where(Debug)]
 pub struct Answer<A: Allocator> {
-    /// The verdict's line, with its newline.
-    pub line: String<A>,
-    /// Whether the verdict is yes.
-    pub is_yes: bool,
-    /// What it says that the source lacks.
+    pub verdict: Verdict<A>,
+    /// What the verdict says that the source lacks.
     pub lack: Option<Lack>,
 }
 
@@ -31,7 +27,7 @@ pub fn answer_question<A: Allocator + Copy, S: BlobSource<A>>(
     case: &Case<A>,
     source: &mut S,
 ) -> Result<Answer<A>, TextError>
-    // The line is that of the one verdict, and what a yes says holds.
+    // The verdict is the one on the question, and what a yes says holds.
     ensures answered { IfOk result (IsAnswer (S.tells source.new) case.now) }
     // It is refused where the source fails or memory runs out.
     ensures refused { IfErr result IsNoFault }
@@ -46,9 +42,6 @@ pub fn answer_question<A: Allocator + Copy, S: BlobSource<A>>(
 {
     let Digests { sources, claim } = case.digests;
     let verdict = verify(alloc, &sources, &case.plan, &case.noted, &claim, source)?;
-    Ok(Answer {
-        line: report(alloc, &verdict)?,
-        is_yes: is_yes(&verdict),
-        lack: lack_of(case, &verdict),
-    })
+    let lack = lack_of(case, &verdict);
+    Ok(Answer { verdict, lack })
 }

@@ -1,5 +1,5 @@
-//! The verifier over texts: the bytes of a plan and of a record. Its answer is the verdict's line,
-//! or the first fault. The texts are read one after another, each into what the next one needs, so
+//! The verifier over texts: the bytes of a plan and of a record. Its answer is the verdict, or the
+//! first fault. The texts are read one after another, each into what the next one needs, so
 //! that whoever reads files between them keeps that order: a case is made of digests and a plan,
 //! and a source is asked about a case.
 #![tactic(auto)]

@@ -6,7 +6,7 @@ use Rattle.command_lines.specs.CommandLine.{options_of, program_line}
 use Rattle.command_lines.proofs.Called.{calls_one}
 use Rattle.commands.proofs.Exits.{exit_by}
 use Rattle.commands.proofs.Writing.{where_err}
-use Rattle.cli.proofs.CommandLines.{build_begins, build_ends, build_fails, called_by, get_begins, get_ends, get_fails, none_called, put_begins, put_fails, serve_begins, serve_fails, verify_begins, verify_ends, verify_fails}
+use Rattle.cli.proofs.CommandLines.{build_begins, build_ends, build_fails, called_by, digest_begins, digest_fails, get_begins, get_ends, get_fails, none_called, put_begins, put_fails, serve_begins, serve_fails, verify_begins, verify_ends, verify_fails}
 use Rattle.cli.specs.Built.{errors_asked}
 use Rattle.cli.specs.Ended.{Fails}
 use Rattle.cli.specs.Ended.BeginsAsked.{shown as show_begun}
@@ -23,6 +23,11 @@ returns-in_err-show-in-Err-clause-refused g c =
 
 pub returns-in_err-show-in-Err-clause-begun : goal.returns-in_err-show-in-Err-clause-begun
 returns-in_err-show-in-Err-clause-begun g c = where_err c.from_residual.result (show_begun c.in_err-show-in-Err.ensures.begun)
+
+pub returns-in_err-show-in-Err-clause-unprinted : goal.returns-in_err-show-in-Err-clause-unprinted
+returns-in_err-show-in-Err-clause-unprinted g c =
+    exit_by (λ fault. ¬ IsPrintFault fault → ¬ IsAcceptFault fault → g.O.Write.contents c.show.new.out ≡ g.O.Write.contents c.args.out.now) _ c.from_residual.ensures.1
+    (λ print accept. c.in_err-show-in-Err.ensures.unprinted print)
 
 pub unreachable-requires : goal.unreachable-requires
 unreachable-requires g c =
@@ -69,6 +74,13 @@ returns-in_err-run_put-in-put-clause-refused g c =
     exit_by (Fails (g.W.World.sees c.args.world.now) (g.P.Workplace.below c.args.workplace (errors_asked (options_of (map string_bytes c.args.words.now)))) words) _ c.from_residual-in_err-run_put-in-put.ensures.1
     (put_fails words call.1 _ call.0 c.in_err-run_put-in-put.ensures.refused)
 
+pub returns-in_err-run_digest-in-digest-clause-refused : goal.returns-in_err-run_digest-in-digest-clause-refused
+returns-in_err-run_digest-in-digest-clause-refused g c =
+    let words = map string_bytes c.args.words.now in
+    let call = called_by words (codes "digest") (subcommand_rows_of c.in-Ok.matches) _ c.in-Ok.ensures.fails c.in-Ok.ensures.called (search rules) c.in-Some.ensures.rows in
+    exit_by (Fails (g.W.World.sees c.args.world.now) (g.P.Workplace.below c.args.workplace (errors_asked (options_of (map string_bytes c.args.words.now)))) words) _ c.from_residual-in_err-run_digest-in-digest.ensures.1
+    (digest_fails words call.1 _ call.0 c.in_err-run_digest-in-digest.ensures.refused)
+
 pub returns-in_err-run_get-in-get-clause-refused : goal.returns-in_err-run_get-in-get-clause-refused
 returns-in_err-run_get-in-get-clause-refused g c =
     let words = map string_bytes c.args.words.now in
@@ -92,6 +104,11 @@ pub returns-in_err-run_put-in-put-clause-unprinted : goal.returns-in_err-run_put
 returns-in_err-run_put-in-put-clause-unprinted g c =
     exit_by (λ fault. ¬ IsPrintFault fault → ¬ IsAcceptFault fault → g.O.Write.contents c.run_put.new.out ≡ g.O.Write.contents c.args.out.now) _ c.from_residual-in_err-run_put-in-put.ensures.1
     (λ print accept. c.in_err-run_put-in-put.ensures.unprinted print)
+
+pub returns-in_err-run_digest-in-digest-clause-unprinted : goal.returns-in_err-run_digest-in-digest-clause-unprinted
+returns-in_err-run_digest-in-digest-clause-unprinted g c =
+    exit_by (λ fault. ¬ IsPrintFault fault → ¬ IsAcceptFault fault → g.O.Write.contents c.run_digest.new.out ≡ g.O.Write.contents c.args.out.now) _ c.from_residual-in_err-run_digest-in-digest.ensures.1
+    (λ print accept. c.in_err-run_digest-in-digest.ensures.unprinted print)
 
 pub returns-in_err-run_serve-in-serve-clause-unprinted : goal.returns-in_err-run_serve-in-serve-clause-unprinted
 returns-in_err-run_serve-in-serve-clause-unprinted g c =
@@ -125,6 +142,12 @@ returns-in_err-run_put-in-put-clause-begun g c =
     let words = map string_bytes c.args.words.now in
     let call = called_by words (codes "put") (subcommand_rows_of c.in-Ok.matches) _ c.in-Ok.ensures.fails c.in-Ok.ensures.called (search rules) c.in-Some.ensures.rows in
     where_err c.from_residual-in_err-run_put-in-put.result (put_begins words call.1 call.0 c.in_err-run_put-in-put.ensures.begun)
+
+pub returns-in_err-run_digest-in-digest-clause-begun : goal.returns-in_err-run_digest-in-digest-clause-begun
+returns-in_err-run_digest-in-digest-clause-begun g c =
+    let words = map string_bytes c.args.words.now in
+    let call = called_by words (codes "digest") (subcommand_rows_of c.in-Ok.matches) _ c.in-Ok.ensures.fails c.in-Ok.ensures.called (search rules) c.in-Some.ensures.rows in
+    where_err c.from_residual-in_err-run_digest-in-digest.result (digest_begins words call.1 call.0 c.in_err-run_digest-in-digest.ensures.begun)
 
 pub returns-in_err-run_serve-in-serve-clause-begun : goal.returns-in_err-run_serve-in-serve-clause-begun
 returns-in_err-run_serve-in-serve-clause-begun g c =

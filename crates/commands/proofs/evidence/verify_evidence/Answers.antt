@@ -1,11 +1,13 @@
-use Rattle.std.proofs.Common.{inl, inr, refl, subst, true, Some}
+use Rattle.std.proofs.Common.{inl, inr, refl, subst, Some}
 use Rattle.clap.specs.Words.{found_of, rows_of}
-use Rattle.commands.specs.Evidence.{FailsBehind, FailsNamed, evidence_words}
-use Rattle.commands.specs.Evidence.FailsBehind.{behind, in_memory, in_words}
+use Rattle.commands.specs.Evidence.{evidence_words}
 use Rattle.commands.specs.Evidence.InEvidence.{folder}
+use Rattle.commands.specs.Verified.{FailsBehind, FailsNamed}
+use Rattle.commands.specs.Verified.FailsBehind.{behind, in_memory, in_words}
 use Rattle.commands.specs.Words.{FailsFirst}
-use Rattle.commands.proofs.Asked.{behind_words, where_ok}
-use Rattle.commands.proofs.Exits.{err_weaker, exit_by}
+use Rattle.std.proofs.lemmas.Result.{IfOk-weaker}
+use Rattle.commands.proofs.Asked.{begun_weaker, behind_words, where_ok}
+use Rattle.commands.proofs.Exits.{err_weaker, exit_by, or_else}
 use Rattle.commands.proofs.Refused.{or_memory}
 use Rattle.commands.proofs.Writing.{no_line_of_same, where_err}
 use Rattle.commands.proofs.evidence.verify_evidence.Goals as goal
@@ -29,6 +31,18 @@ returns-in_err-is_folder-clause-refused g c =
 
 pub returns-then-branch-clause-valid : goal.returns-then-branch-clause-valid
 returns-then-branch-clause-valid g c = where_ok c.verify_stated.result c.in_ok-check_words.ensures
+
+pub returns-then-branch-clause-answered : goal.returns-then-branch-clause-answered
+returns-then-branch-clause-answered g c =
+    let sees = g.W.World.sees c.args.world.now in
+    let lead = subst (sees.leads c.args.evidence.now) c.if-branch.true c.in_ok-is_folder.ensures.leads in
+    IfOk-weaker c.verify_stated.result _ _ (λ ended h. folder lead h) c.verify_stated.ensures.answered
+
+pub returns-then-branch-clause-begun : goal.returns-then-branch-clause-begun
+returns-then-branch-clause-begun g c =
+    let sees = g.W.World.sees c.args.world.now in
+    let lead = subst (sees.leads c.args.evidence.now) c.if-branch.true c.in_ok-is_folder.ensures.leads in
+    begun_weaker c.verify_stated.result (λ h. or_else h (λ said. folder lead said)) c.verify_stated.ensures.begun
 
 pub returns-then-branch-clause-refused : goal.returns-then-branch-clause-refused
 returns-then-branch-clause-refused g c =

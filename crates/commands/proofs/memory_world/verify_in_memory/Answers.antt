@@ -6,7 +6,7 @@ use Rattle.text_verifier.specs.Texts.{Question}
 use Rattle.verifier.specs.Verdict.{IsYes}
 use Rattle.commands.specs.Ended.{is_done}
 use Rattle.commands.specs.Memory.{AnswersRight, AsksFiles, Files, PrintsFiles, files_of, replies_of, sees_world}
-use Rattle.commands.specs.Evidence.{AnswersVerdict}
+use Rattle.commands.specs.Verified.{AnswersVerdict}
 use Rattle.commands.specs.Printed.{PrintsVerdict}
 use Rattle.commands.specs.World.{Sight}
 use Rattle.commands.specs.Refusal.{FailsVerify}

@@ -11,6 +11,7 @@ use Rattle.commands.specs.Refusal.{IsPrintFault}
 use Rattle.commands.specs.Words.{FailsFirst, server_words}
 use Rattle.commands.proofs.Exits.{exit_by, or_else}
 use Rattle.commands.proofs.Placed.{starts_put}
+use Rattle.commands.proofs.Puts.{err_of, ok_of}
 use Rattle.commands.proofs.Refused.{or_memory}
 use Rattle.commands.proofs.Writing.{where_err}
 use Rattle.commands.proofs.putting.run_put.Goals as goal
@@ -47,7 +48,7 @@ returns-in_err-digest-clause-refused g c =
     (or_memory (λ x. FailsBelow sees (option_text options (codes "server")) x 64 (option_text options (codes "path")) start) (FailsPut sees options) _ in_memory
     (in_path start (starts_put sees options c.in_ok-server.server start c.in_ok-server.ensures.server c.in_ok-remote.ensures.opened c.in_ok-server.ensures.checked))
     (subst (λ a. OrMemory (λ x. FailsBelow sees a x 64 (option_text options (codes "path")) start) c.in_err-digest.field-0.0) c.in_ok-server.ensures.server.address
-    (subst (λ p. OrMemory (λ x. FailsBelow sees (string_bytes c.in_ok-server.server.address) x 64 p start) c.in_err-digest.field-0.0) (c.in_ok-place.ensures.ok ∙ c.text_of.ensures) c.in_err-digest.ensures.refused)))
+    (subst (λ p. OrMemory (λ x. FailsBelow sees (string_bytes c.in_ok-server.server.address) x 64 p start) c.in_err-digest.field-0.0) (c.in_ok-place.ensures.ok ∙ c.text_of.ensures) (err_of c.put_over-put.result.0 c.in_err-digest.field-0.0 (OrMemory (λ x. FailsBelow sees (string_bytes c.in_ok-server.server.address) x 64 (string_bytes c.in_ok-place.place) start)) c.in_err-digest.was c.put_over-put.ensures.refused))))
 
 pub returns-in_err-print_digest-clause-refused : goal.returns-in_err-print_digest-clause-refused
 returns-in_err-print_digest-clause-refused g c =
@@ -57,7 +58,7 @@ returns-in_err-print_digest-clause-refused g c =
     exit_by (FailsPut sees options) _ c.from_residual-in_err-print_digest.ensures.1
     (or_memory IsPrintFault (FailsPut sees options) _ in_memory
     (in_output start c.in_ok-digest.digest (starts_put sees options c.in_ok-server.server start c.in_ok-server.ensures.server c.in_ok-remote.ensures.opened c.in_ok-server.ensures.checked)
-    (subst (λ p. PutsPath sees start p c.in_ok-digest.digest) (c.in_ok-place.ensures.ok ∙ c.text_of.ensures) c.in_ok-digest.ensures.put))
+    (subst (λ p. PutsPath sees start p c.in_ok-digest.digest) (c.in_ok-place.ensures.ok ∙ c.text_of.ensures) (ok_of c.put_over-put.result.0 c.in_ok-digest.digest (PutsPath sees start (string_bytes c.in_ok-place.place)) c.in_ok-digest.was c.put_over-put.ensures.put)))
     c.in_err-print_digest.ensures.fault)
 
 pub returns-in_err-print_digest-clause-begun : goal.returns-in_err-print_digest-clause-begun
@@ -69,7 +70,7 @@ returns-in_err-print_digest-clause-begun g c =
       start,
       c.in_ok-digest.digest,
       starts_put sees options c.in_ok-server.server start c.in_ok-server.ensures.server c.in_ok-remote.ensures.opened c.in_ok-server.ensures.checked,
-      subst (λ p. PutsPath sees start p c.in_ok-digest.digest) (c.in_ok-place.ensures.ok ∙ c.text_of.ensures) c.in_ok-digest.ensures.put,
+      subst (λ p. PutsPath sees start p c.in_ok-digest.digest) (c.in_ok-place.ensures.ok ∙ c.text_of.ensures) (ok_of c.put_over-put.result.0 c.in_ok-digest.digest (PutsPath sees start (string_bytes c.in_ok-place.place)) c.in_ok-digest.was c.put_over-put.ensures.put),
       begun,
     )))
 
@@ -86,6 +87,6 @@ returns-clause-printed g c =
       start = start;
       starts = starts_put sees (rows_of (found_of c.args.matches.now)) c.in_ok-server.server start c.in_ok-server.ensures.server c.in_ok-remote.ensures.opened c.in_ok-server.ensures.checked;
       digest = c.in_ok-digest.digest;
-      put = subst (λ p. PutsPath sees start p c.in_ok-digest.digest) (c.in_ok-place.ensures.ok ∙ c.text_of.ensures) c.in_ok-digest.ensures.put;
+      put = subst (λ p. PutsPath sees start p c.in_ok-digest.digest) (c.in_ok-place.ensures.ok ∙ c.text_of.ensures) (ok_of c.put_over-put.result.0 c.in_ok-digest.digest (PutsPath sees start (string_bytes c.in_ok-place.place)) c.in_ok-digest.was c.put_over-put.ensures.put);
       printed = search rules;
     }

@@ -1,4 +1,4 @@
-use Rattle.std.proofs.Common.{drop, take}
+use Rattle.std.proofs.Common.{drop, rules, take}
 use Rattle.clap.specs.Words.{found_of, rows_of}
 use Rattle.commands.specs.Words.{serve_words}
 use Rattle.commands.proofs.Checking.{checks_exit}
@@ -49,3 +49,13 @@ returns-in_err-prefix-clause-checked c =
 pub returns-clause-checked : goal.returns-clause-checked
 returns-clause-checked c =
     (c.in_ok-address.ensures.checked.0, (c.in_ok-connections.ensures.checked.0, (c.in_ok-limit.ensures.checked.0, (c.in_ok-result_limit.ensures.checked.0, (c.in_ok-idle.ensures.checked.0, (c.in_ok-at_once.ensures.checked.0, (c.in_ok-at_once.ensures.checked.1.0, (c.in_ok-prefix.ensures.checked.0, tt))))))))
+
+pub returns-clause-request : goal.returns-clause-request
+returns-clause-request c = record {
+  address = c.in_ok-address.ensures.address;
+  limits = record { blobs = c.in_ok-limit.ensures.limit; results = c.in_ok-result_limit.ensures.limit };
+  prefix = search rules;
+  connections = c.in_ok-connections.ensures.number;
+  at_once = c.in_ok-at_once.ensures.at_once;
+  idle = c.in_ok-idle.ensures.number;
+}

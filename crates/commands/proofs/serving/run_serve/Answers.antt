@@ -61,9 +61,9 @@ returns-in-Err-clause-unprinted g c = λ print accept. absurd (accept tt)
 pub returns-in-Err-clause-refused : goal.returns-in-Err-clause-refused
 returns-in-Err-clause-refused g c =
     let address = c.in_ok-listening.listening.address in
-    in_connections address c.in-Err.fault
+    in_connections address c.in_ok-request.request.limit c.in_ok-request.request.result_limit c.in-Err.fault
     (starts_serve (g.W.World.sees c.args.world.now) (rows_of (found_of c.args.matches.now)) c.in_ok-request.request address c.in_ok-request.ensures.request c.in_ok-request.ensures.checked c.in_ok-listening.ensures.listens)
-    (search rules) refl
+    c.in_ok-request.ensures.request.limits (search rules) refl
 
 pub returns-in_err-print_address-clause-begun : goal.returns-in_err-print_address-clause-begun
 returns-in_err-print_address-clause-begun g c =
@@ -81,6 +81,9 @@ returns-in-Ok-clause-served g c =
       address = address;
       starts = starts_serve (g.W.World.sees c.args.world.now) (rows_of (found_of c.args.matches.now)) c.in_ok-request.request address c.in_ok-request.ensures.request c.in_ok-request.ensures.checked c.in_ok-listening.ensures.listens;
       printed = c.in_ok-print_address.ensures.printed;
+      limit = c.in_ok-request.request.limit;
+      result_limit = c.in_ok-request.request.result_limit;
+      limits = c.in_ok-request.ensures.request.limits;
       served = search rules;
     }
 

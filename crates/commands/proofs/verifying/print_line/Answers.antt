@@ -1,4 +1,4 @@
-use Rattle.std.proofs.Common.{[], ◌∷◌, ◌∙◌, OnErr, OnOk, refl, string_bytes, subst, sym}
+use Rattle.std.proofs.Common.{[], ◌∷◌, ◌∙◌, OnErr, OnOk, refl, subst, sym}
 use Rattle.std.specs.Io.KnownBytes.{Appends}
 use Rattle.std.proofs.KnownBytes.{Appends-kept}
 use Rattle.commands.specs.Told.{AppendsBeginning, AppendsPart}
@@ -59,7 +59,7 @@ returns-in_err-write_bytes-clause-begun g c =
     let whole = c.as_bytes-line.ensures.value ∙ c.requires.ended in
     let front = c.split_at.ensures.front ∙ front_of_line c.requires.text c.as_bytes-line.result.now _ whole refl in
     where_err c.from_residual.result
-    (beginning_of_front old new c.requires.text (10 ∷ []) (string_bytes c.args.answer.now.line) c.requires.ended
+    (beginning_of_front old new c.requires.text (10 ∷ []) c.args.line.now c.requires.ended
     (subst (AppendsBeginning old new) front (beginning_of_part old new c.split_at.result.0.now c.in_err-write_bytes.ensures.part)))
 
 pub returns-in_err-map_err-clause-begun : goal.returns-in_err-map_err-clause-begun
@@ -70,7 +70,7 @@ returns-in_err-map_err-clause-begun g c =
     let whole = c.as_bytes-line.ensures.value ∙ c.requires.ended in
     let front = c.split_at.ensures.front ∙ front_of_line c.requires.text c.as_bytes-line.result.now _ whole refl in
     where_err c.from_residual-in_err-map_err.result
-    (beginning_of_front old new c.requires.text (10 ∷ []) (string_bytes c.args.answer.now.line) c.requires.ended
+    (beginning_of_front old new c.requires.text (10 ∷ []) c.args.line.now c.requires.ended
     (subst (AppendsBeginning old new) front (beginning_of_all old new c.split_at.result.0.now
     (Appends-kept old mid new c.split_at.result.0.now c.in_ok-write_bytes.ensures.written c.flush.ensures.bytes))))
 
@@ -83,6 +83,6 @@ returns-clause-begun g c =
     let front = c.split_at.ensures.front ∙ front_of_line c.requires.text c.as_bytes-line.result.now _ whole refl in
     let back = c.split_at.ensures.back ∙ back_of_line c.requires.text c.as_bytes-line.result.now _ whole refl in
     on_err c.write_bytes-2.result (subst (λ bytes. OnErr c.write_bytes-2.result (AppendsPart mid new bytes)) back c.write_bytes-2.ensures.part)
-    (beginning_of_back old mid new c.requires.text (10 ∷ []) (string_bytes c.args.answer.now.line) c.requires.ended
+    (beginning_of_back old mid new c.requires.text (10 ∷ []) c.args.line.now c.requires.ended
     (subst (Appends old mid) front
     (Appends-kept old (g.O.Write.contents c.write_bytes.new.out) mid c.split_at.result.0.now c.in_ok-write_bytes.ensures.written c.flush.ensures.bytes)))

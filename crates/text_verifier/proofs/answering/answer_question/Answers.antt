@@ -8,22 +8,12 @@ pub returns-in_err-verdict-clause-few : goal.returns-in_err-verdict-clause-few
 returns-in_err-verdict-clause-few g c list covers =
     c.verify.ensures.few list (subst (λ q. Covers (AnswerLooksAt g.row.A.Denot (g.S.BlobSource.tells c.verify.new.source) q) list) (sym c.case.view_is) covers)
 
-pub returns-in_err-report-clause-few : goal.returns-in_err-report-clause-few
-returns-in_err-report-clause-few g c list covers =
-    c.verify.ensures.few list (subst (λ q. Covers (AnswerLooksAt g.row.A.Denot (g.S.BlobSource.tells c.verify.new.source) q) list) (sym c.case.view_is) covers)
-
 pub returns-clause-few : goal.returns-clause-few
 returns-clause-few g c list covers =
     c.verify.ensures.few list (subst (λ q. Covers (AnswerLooksAt g.row.A.Denot (g.S.BlobSource.tells c.verify.new.source) q) list) (sym c.case.view_is) covers)
 
 pub returns-in_err-verdict-clause-only : goal.returns-in_err-verdict-clause-only
 returns-in_err-verdict-clause-only g c =
-    let before = g.S.BlobSource.tells c.args.source.now in
-    let tells = g.S.BlobSource.tells c.verify.new.source in
-    subst (λ q. AsksNoOther (AnswerLooksAt g.row.A.Denot tells q) before tells) c.case.view_is c.verify.ensures.only
-
-pub returns-in_err-report-clause-only : goal.returns-in_err-report-clause-only
-returns-in_err-report-clause-only g c =
     let before = g.S.BlobSource.tells c.args.source.now in
     let tells = g.S.BlobSource.tells c.verify.new.source in
     subst (λ q. AsksNoOther (AnswerLooksAt g.row.A.Denot tells q) before tells) c.case.view_is c.verify.ensures.only

@@ -1,0 +1,59 @@
+use Rattle.commands.specs.Refusal.{FailsAtPlace, FailsToJudge}
+use Rattle.commands.specs.Refusal.FailsToJudge.{in_digests, in_memory, in_place, in_plan, in_record, in_words}
+use Rattle.commands.specs.Words.{FailsFirst, place_words}
+use Rattle.commands.proofs.Exits.{exit_by}
+use Rattle.commands.proofs.Placed.{lacked_by}
+use Rattle.commands.proofs.Refused.{or_memory}
+use Rattle.commands.proofs.verifying.judge_asked.Goals as goal
+
+pub returns-in_err-build-clause-refused : goal.returns-in_err-build-clause-refused
+returns-in_err-build-clause-refused g c =
+    let options = g.M.Options.rows c.args.options.now in
+    let sees = g.W.World.sees c.args.world.now in
+    exit_by (FailsToJudge sees options) _ c.from_residual.ensures.1
+    (or_memory (FailsFirst (place_words options)) (FailsToJudge sees options) _ in_memory in_words c.in_err-build.ensures.checked)
+
+pub returns-in_err-digests-clause-refused : goal.returns-in_err-digests-clause-refused
+returns-in_err-digests-clause-refused g c =
+    exit_by (FailsToJudge (g.W.World.sees c.args.world.now) (g.M.Options.rows c.args.options.now)) _ c.from_residual-in_err-digests.ensures.1
+    (in_digests c.in_ok-build.ensures.checked c.in_err-digests.ensures.fault)
+
+pub returns-in_err-plan-clause-refused : goal.returns-in_err-plan-clause-refused
+returns-in_err-plan-clause-refused g c =
+    exit_by (FailsToJudge (g.W.World.sees c.args.world.now) (g.M.Options.rows c.args.options.now)) _ c.from_residual-in_err-plan.ensures.1
+    (in_plan (record {
+      place = c.in_ok-build.ensures.checked;
+      sources = (c.in_ok-digests.digests.sources, c.in_ok-digests.ensures.sources);
+      claim = (c.in_ok-digests.digests.claim, c.in_ok-digests.ensures.claim);
+    }) c.in_err-plan.ensures.fault)
+
+pub returns-in_err-case-clause-refused : goal.returns-in_err-case-clause-refused
+returns-in_err-case-clause-refused g c =
+    exit_by (FailsToJudge (g.W.World.sees c.args.world.now) (g.M.Options.rows c.args.options.now)) _ c.from_residual-in_err-case.ensures.1
+    (in_record c.in_ok-plan.plan (record {
+      place = c.in_ok-build.ensures.checked;
+      sources = (c.in_ok-digests.digests.sources, c.in_ok-digests.ensures.sources);
+      claim = (c.in_ok-digests.digests.claim, c.in_ok-digests.ensures.claim);
+    }) c.in_ok-plan.ensures.found c.in_err-case.ensures.fault)
+
+pub returns-in_err-answer-clause-refused : goal.returns-in_err-answer-clause-refused
+returns-in_err-answer-clause-refused g c =
+    let sees = g.W.World.sees c.args.world.now in
+    let options = g.M.Options.rows c.args.options.now in
+    exit_by (FailsToJudge sees options) _ c.from_residual-in_err-answer.ensures.1
+    (or_memory (λ x. ∥ FailsAtPlace sees options x ∥₁) (FailsToJudge sees options) _ in_memory (in_place c.in_ok-case.case c.in_ok-case.ensures.asks) c.in_err-answer.ensures.fault)
+
+pub returns-clause-judged : goal.returns-clause-judged
+returns-clause-judged g c =
+    let is = c.in_ok-answer.ensures.answered in
+    let sees = g.W.World.sees c.args.world.now in
+    let rows = g.M.Options.rows c.args.options.now in
+    record {
+      question = c.in_ok-case.case;
+      asks = c.in_ok-case.ensures.asks;
+      told = is.0;
+      source = is.1;
+      judged = is.2.judged;
+      few = λ over. is.4;
+      lacks = lacked_by sees rows c.in_ok-case.case c.in_ok-answer.answer.verdict c.in_ok-answer.answer.lack is.2.lack is.3;
+    }
