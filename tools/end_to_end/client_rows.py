@@ -3,12 +3,14 @@
 
 `put`, `get` and `verify --server` over the program's own server, by its address and its name, below a prefix, and over nginx
 (where it is installed) with WebDAV as a store that checks nothing; folders that are put and got again, and what can't be put;
+digests of random trees and of large files, without a server;
 outputs that can't be written; servers that refuse, cut, fall silent, answer nonsense or lie; and the program's own server
 behind one that cuts each reply in turn, or changes a byte of it. It prints a line for each row, and ends with status 1 where
 one failed. Nothing outside this machine is asked.
 """
 
 import os
+import random
 import shutil
 import subprocess
 import tempfile
@@ -23,6 +25,8 @@ from shared.rows import try_rows
 
 SOURCES = Digest.of(directory("a")).text()
 CLAIM = Digest.of(directory("b")).text()
+# Names that are odd, and one that is as long as a name may be.
+ODD_NAMES = ("a", "B", " ", "é", "a.b", "-", "\n", "~", "n" * 255)
 
 
 def commands(folder, address, more=()):
@@ -323,6 +327,59 @@ def try_bad_folders(rows, program, folder, server):
     rows.tell("a name that is no UTF-8 isn't put: status 3, and its folder and why are told", right, told)
 
 
+def lay_random(chance, place, levels):
+    """Writes a folder of random entries: what it has, and what it has without executable bits."""
+    os.mkdir(place)
+    whole, plain = {}, {}
+    for name in chance.sample(ODD_NAMES, chance.randrange(len(ODD_NAMES))):
+        path, kind = f"{place}/{name}", chance.randrange(4 if levels else 3)
+        if kind == 0:
+            os.symlink(target := chance.choice(("x", "../y", "/", "none there")), path)
+            whole[name] = plain[name] = Link(target)
+        elif kind < 3:
+            stores.write_file(path, content := chance.randbytes(chance.choice((0, 1, 65536, 70000))))
+            os.chmod(path, mode := chance.choice((0o644, 0o655, 0o744, 0o755)))
+            whole[name], plain[name] = (File(Digest.of(content), it) for it in (bool(mode & 0o100), False))
+        else:
+            whole[name], plain[name] = lay_random(chance, path, levels - 1)
+    return whole, plain
+
+
+def expect_digest(rows, program, name, digest, *words):
+    told = harness.run(program, "digest", *words)
+    right = (told.returncode, told.stdout, told.stderr) == (0, f"{digest.text()}\n".encode(), b"")
+    rows.tell(f"the digest of {name}", right, told)
+
+
+def try_digests(rows, program, folder):
+    """`digest`: of files and of random trees as this file makes their messages, with executable bits and without."""
+    chance = random.Random(1)
+    for number in range(12):
+        whole, plain = lay_random(chance, place := f"{folder}/random-{number}", 3)
+        expect_digest(rows, program, f"random tree {number}", Digest.of(directory_message(whole)), place)
+        expect_digest(rows, program, f"random tree {number} without bits", Digest.of(directory_message(plain)), "--no-bits", place)
+        os.symlink(place, link := f"{place}-link")
+        expect_digest(rows, program, f"what a link to random tree {number} leads to", Digest.of(directory_message(whole)), link)
+    stores.write_file(large := f"{folder}/large", content := bytes((16 << 20) + 1))
+    expect_digest(rows, program, "a file of more than 16 MiB", Digest.of(content), large)
+    expect_digest(rows, program, "a file, whose bit doesn't count", Digest.of(NINE), f"{folder}/tree/a")
+
+
+def try_bad_digests(rows, program, folder):
+    """What has no digest is named, as by `put`."""
+    deep = "/".join("n" * 65)
+    for name, bad, make in [
+        ("a fifo", "a", os.mkfifo),
+        ("a path of 65 names", deep, lambda path: os.makedirs(os.path.dirname(path)) or stores.write_file(path, b"")),
+        ("nothing there", "a", lambda path: None),
+    ]:
+        with tempfile.TemporaryDirectory(dir=folder) as it:
+            make(f"{it}/{bad}")
+            told = harness.run(program, "digest", f"{it}/a" if name == "nothing there" else it)
+        right = (told.returncode, told.stdout) == (3, b"") and is_error(told.stderr) and f'"{it}/{bad}"'.encode() in told.stderr
+        rows.tell(f"{name} has no digest: status 3, and it is named", right, told)
+
+
 def try_outputs(rows, program, folder):
     """An output that can't be written: status 3 and one line, and no yes."""
     with Server(program) as it:
@@ -351,6 +408,8 @@ def try_all(rows, program):
         finally:
             builds.server.end()
         try_folders(rows, program, folder)
+        try_digests(rows, program, folder)
+        try_bad_digests(rows, program, folder)
         try_outputs(rows, program, folder)
         try_faults(rows, program)
         try_requests(rows, program, folder)

@@ -129,6 +129,67 @@ OF_FILES = {
 }
 
 
+# A build in stages: README's example, then from its root a step and a line, then a line alone.
+PLAIN = File(Digest.of(LINE), False)
+MORE = {"again": PLAIN, "more": File(Digest.of(NINE), False)}
+ENDS = [directory_message(it) for it in ({"result": PLAIN}, MORE, {"end": PLAIN})]
+STAGES = {
+    "stages": b"7\n12\n999999999\n", "sources": RIGHT["sources"], "claim": digest(ENDS[2]).encode(),
+    **{f"7/{name}": RIGHT[name] for name in ("plan", "record", "claim")},
+    "12/plan": f"buildplan 1\nstep gen {GEN_FRAME}\nroot\nin again src result\nin more out gen out/a\n".encode(),
+    "12/record": f"buildrecord 1\nstep gen {digest(GEN)}\n".encode(), "12/claim": digest(ENDS[1]).encode(),
+    "999999999/plan": b"buildplan 1\nroot\nin end src again\n", "999999999/record": b"buildrecord 1\n",
+    **{name: content for name, content in RIGHT.items() if "/" in name}, **{blob_at(it): it for it in ENDS},
+}
+STAGES_YES = f"yes {digest(ENDS[2])} stages 3 steps 3\n"
+NO_STAGE = "expected a stage's number, of 1 to 9 digits without a leading zero, and a newline\n"
+# Texts of stages, and the line at fault.
+FAULTY_STAGES = {
+    b"": 1, b"\n": 1, b"7": 1, b"7\n12": 2, b"7\r\n": 1, b"7\n\n12\n": 2, b"7\n12\n\n": 3, b"07\n": 1, b"0\n": 1,
+    b"+7\n": 1, b" 7\n": 1, b"7 \n": 1, b"7\n1000000000\n": 2, b"7\n12\n../7\n": 3, b"7\n\xff\n": 2, b"7\0\n": 1, b"18446744073709551623\n": 1,
+}
+# What is asked of stages, in the same way.
+OF_STAGES = {
+    "three stages": ({}, STAGES_YES, 0, ""),
+    "one stage": ({"stages": b"7\n", "claim": RIGHT["claim"]}, f"yes {CLAIM} stages 1 steps 2\n", 0, ""),
+    "a stage twice": (
+        {"stages": b"7\n1\n1\n", "1/plan": b"buildplan 1\nroot\nin result src result\n", "1/record": b"buildrecord 1\n",
+         "1/claim": RIGHT["claim"], "claim": RIGHT["claim"]}, f"yes {CLAIM} stages 3 steps 2\n", 0, "",
+    ),
+    "sources and a last claim that aren't read": (
+        {"7/sources": b"x", "12/sources": b"x", "999999999/claim": b"x"}, STAGES_YES, 0, "",
+    ),
+    "a no of the first": ({blob_at(USE): None}, f"no stage 7 step use cause blob-missing {digest(USE)}\n", 1, ""),
+    "a no of the second": ({"12/record": in_record(GEN, UNCACHED)["record"].replace(f"step use {digest(USE)}\n".encode(), b""),
+                            blob_at(UNCACHED): UNCACHED}, "no stage 12 step gen cause do-not-cache\n", 1, ""),
+    "a no of the last": (
+        {"claim": CLAIM.encode()}, f"no stage 999999999 root cause root-differs {digest(ENDS[2])}\n", 1, "",
+    ),
+    "a claim between that is another": (
+        {"7/claim": digest(ENDS[1]).encode()}, f"no stage 7 root cause root-differs {CLAIM}\n", 1, "",
+    ),
+    "a no, and a fault behind it": (
+        {blob_at(USE): None, "12/plan": None}, f"no stage 7 step use cause blob-missing {digest(USE)}\n", 1, "",
+    ),
+    "a fault, and a no behind it": ({blob_at(ENDS[0]): None, "7/plan": None}, "", 3, '7/plan": '),
+    "other sources": ({"sources": digest(DATA).encode()}, STAGES_YES, 0, ""),
+    "a plan beside them": ({"plan": PLAN}, "", 2, 'stages": stages, and a plan beside them\n'),
+    "a plan beside a text at fault": ({"plan": b"", "stages": b""}, "", 2, 'stages": stages, and a plan beside them\n'),
+    "a text at fault, and digests": ({"stages": b"x", "sources": None}, "", 2, f'stages": line 1: {NO_STAGE}'),
+    "no sources": ({"sources": None, "7/plan": b""}, "", 3, 'sources": '),
+    "a claim that is none": ({"claim": b"x", "7/plan": b""}, "", 2, 'claim": '),
+    "a stage's claim that is none": ({"7/claim": b"x", "7/plan": b""}, "", 2, '7/claim": '),
+    "no claim of a stage": ({"12/claim": None}, "", 3, '12/claim": '),
+    "a stage's plan at fault": ({"12/plan": b"", "12/record": b""}, "", 2, '12/plan": line 1: '),
+    "no record of a stage": ({"999999999/record": None}, "", 3, '999999999/record": '),
+    "no folder of a stage": ({"stages": b"7\n12\n8\n"}, "", 3, '8/plan": '),
+    **{
+        f"the stages {text!r}": ({"stages": text}, "", 2, f'stages": line {line}: {NO_STAGE}')
+        for text, line in FAULTY_STAGES.items()
+    },
+}
+
+
 def options_of(folder, files):
     """The words that ask what a folder does."""
     digests = [word for it in ("sources", "claim") for word in (f"--{it}", files[it].decode().removesuffix("\n"))]

@@ -1,19 +1,21 @@
 #!/usr/bin/env python3
 """Tries `verify` over evidence: evidence_rows.py PROGRAM [--many]
 
-Questions of all kinds, each by options, as a folder and as an archive: the same verdict and status, and of the files the same one
-is named. Digests that are said in place of the files; a server beside evidence; archives as GNU tar (where it is installed) and
-Python's tarfile write them, and in other orders. Archives of which each field of a header is turned, or a member that isn't read
-is among them, are refused in the words of docs/FORMATS.md; so are archives that end too early, wherever. Archives that are turned
-at random, for ten seconds, come to what a model of that page says: a refusal, or the verdict on a folder of their files. An
-archive of 100,000 files (with --many of 1,000,000) is judged in bounded memory. It prints a line for each row, and ends with
-status 1 where one failed. Nothing outside this machine is asked.
+Questions of all kinds, each by options, as a folder and as an archive: the same verdict and status, and of the files the same
+one is named. Builds in stages, with each no and fault. Digests that are said in place of the files, and folders in place of a
+claim; a server beside evidence; archives as GNU tar (where it is installed) and Python's tarfile write them, and in other orders.
+Archives of which each field of a header is turned, or a member that isn't read is among them, are refused in the words of
+docs/FORMATS.md; so are archives that end too early, wherever. Archives that are turned at random, for ten seconds, come to what a
+model of that page says: a refusal, or the verdict on a folder of their files. An archive of 100,000 files (with --many of
+1,000,000) is judged in bounded memory. It prints a line for each row, and ends with status 1 where one failed. Nothing outside
+this machine is asked.
 """
 
 import collections
 import os
 import random
 import re
+import shutil
 import sys
 import tarfile
 import tempfile
@@ -22,8 +24,8 @@ import time
 from archive_model import FIELDS, TWICE, NoArchive, files_of, members_of, turned, with_field
 from archive_vectors import CUT, END, NAME, TURNED, header
 from evidence_forms import (
-    ANSWERS, CLAIM, EMPTY, GEN, OF_FILES, QUESTIONS, RIGHT, TREE, YES, archive_of, blob_at, by_tar, by_tarfile, changed, digest,
-    has_gnu_tar, member, options_of, result_at, write_folder, wrong_of,
+    ANSWERS, CLAIM, EMPTY, ENDS, GEN, LINE, OF_FILES, OF_STAGES, QUESTIONS, RIGHT, STAGES, STAGES_YES, TREE, YES, archive_of,
+    blob_at, by_tar, by_tarfile, changed, digest, has_gnu_tar, member, options_of, result_at, write_folder, wrong_of,
 )
 from shared import harness, stores
 from shared.command_line import fail, program_at, words_of
@@ -92,6 +94,40 @@ def try_questions(tried):
         tried.rows.tell("that is README's line", f"\n{YES}" in page.read(), YES)
 
 
+def try_stages(tried):
+    """A build in stages, with what is said beside it. A plan that can't be read is no plan, be it a link to nothing."""
+    for name, (changes, out, status, named) in OF_STAGES.items():
+        tried.expect_both(f"of stages: {name}", changed(changes, STAGES), out, status, named)
+    claim, without = STAGES["claim"].decode(), changed({"claim": None, "sources": None}, STAGES)
+    said = ["--claim", claim, "--sources", EMPTY.text()]
+    tried.expect_both("of stages: both digests are said", without, STAGES_YES, 0, more=said)
+    differs = f"no stage 999999999 root cause root-differs {claim}\n"
+    tried.expect_both("of stages: another claim is said", STAGES, differs, 1, more=["--claim", CLAIM])
+    for option in ("--claim", "--sources"):
+        for evidence in (tried.folder(STAGES), tried.archive(archive_of(STAGES))):
+            told = tried.verify(evidence, option, "x")
+            tried.expect_words(f"{option} x beside stages, in {os.path.basename(evidence)}", told, 2, option)
+    folder = tried.folder(STAGES)
+    os.symlink("nowhere", f"{folder}/plan")
+    tried.expect("of stages: a link to nothing for a plan", folder, "", 2, 'stages": stages, and a plan beside them\n')
+    tried.expect("a folder for stages", tried.folder({**RIGHT, "stages/1": b""}), "", 3, 'stages": not a file\n')
+    lacks = f"no stage 7 step gen cause blob-missing {digest(GEN)}\n"
+    folder = tried.folder({name: it for name, it in STAGES.items() if "store" not in name}, "without store")
+    told = tried.verify(folder)
+    tried.rows.tell("of stages: no blobs", (told.stdout, told.returncode) == (lacks.encode(), 1), told)
+    shutil.rmtree(f"{folder}/store")
+    told = tried.verify(folder)
+    is_noted = told.stderr.startswith(b'note: "' + os.fsencode(folder) + b'/store": ')
+    tried.rows.tell("of stages: no store, and a note", (told.stdout, told.returncode) == (lacks.encode(), 1) and is_noted, told)
+    with harness.Keeper() as keeper:
+        keeper.held = {name[5:]: content for name, content in STAGES.items() if name.startswith("store/cas/")}
+        results = {name: content for name, content in STAGES.items() if not name.startswith("store/cas/")}
+        tried.expect_both("of stages: a server has the blobs", results, STAGES_YES, 0, more=["--server", keeper.address])
+        keeper.held.pop(blob_at(ENDS[1])[5:])
+        missing = f"no stage 999999999 root cause blob-missing {digest(ENDS[1])}\n"
+        tried.expect_both("of stages: and not all", results, missing, 1, more=["--server", keeper.address])
+
+
 def try_said(tried):
     """`--claim` and `--sources` in place of the files."""
     empty, data = EMPTY.text(), QUESTIONS["an input of the sources"][0]
@@ -109,6 +145,49 @@ def try_said(tried):
     for option in ("--claim", "--sources"):
         for evidence in (tried.folder(RIGHT), tried.archive(archive_of(RIGHT))):
             tried.expect_words(f"{option} x beside {os.path.basename(evidence)}", tried.verify(evidence, option, "x"), 2, option)
+
+
+def try_artifacts(tried):
+    """A folder in place of the claim: as it is read, with its files' executable bits, or without."""
+    files, no = changed({"claim": None}), f"no root cause root-differs {CLAIM}\n"
+    place = f"{tried.place}/shipped"
+    os.mkdir(place)
+    stores.write_file(f"{place}/result", LINE)
+    said = ["--artifact", place]
+
+    def expect(name, out, status, more=(), named=""):
+        tried.expect_both(name, files, out, status, named, more=[*said, *more])
+        words = options_of(folder := tried.folder(files), RIGHT)
+        at = words.index("--claim")
+        del words[at:at + 2]
+        told = tried.verify(*words, *said, *more)
+        tried.rows.tell(f"{name}, by options: status {status}", not wrong_of(told, folder, out, status, named), told)
+
+    os.chmod(f"{place}/result", 0o655)
+    expect("the folder that the root is", YES, 0)
+    expect("it without bits", YES, 0, ["--no-bits"])
+    os.chmod(f"{place}/result", 0o744)
+    expect("it with an executable bit", no, 1)
+    expect("and without bits", YES, 0, ["--no-bits"])
+    tried.expect_both("it beside a claim that is at fault", changed({"claim": b"x"}), YES, 0, more=[*said, "--no-bits"])
+    os.mkdir(f"{place}/empty")
+    expect("it with an empty folder", no, 1, ["--no-bits"])
+    os.rmdir(f"{place}/empty")
+    os.symlink("result", f"{place}/z")
+    expect("it with a link", no, 1, ["--no-bits"])
+    os.remove(f"{place}/z")
+    stores.write_file(f"{place}/result", b"")
+    expect("it with another content", no, 1, ["--no-bits"])
+    shutil.rmtree(place)
+    for name, make in (("isn't there", lambda: None), ("is a file", lambda: stores.write_file(place, LINE))):
+        make()
+        for evidence in (tried.folder(files), tried.archive(archive_of(files))):
+            told = tried.verify(evidence, *said)
+            tried.expect_words(f"a folder that {name} beside {os.path.basename(evidence)}", told, 3, f'"{place}"')
+        told = tried.verify(*options_of(tried.folder(RIGHT), RIGHT), *said)
+        right = (told.returncode, told.stdout, told.stderr) == (2, b"", b"error: --claim cannot be used with --artifact\n")
+        tried.rows.tell(f"a folder that {name}, beside a claim: status 2", right, told)
+    os.remove(place)
 
 
 def try_servers(tried):
@@ -280,7 +359,7 @@ def try_many(tried, count):
 def try_all(rows, program, count=None):
     with tempfile.TemporaryDirectory() as place:
         tried = Evidence(program, place, rows)
-        for part in (try_questions, try_said, try_servers, try_archives, try_hostile, try_cuts, try_turned):
+        for part in (try_questions, try_stages, try_said, try_artifacts, try_servers, try_archives, try_hostile, try_cuts, try_turned):
             part(tried)
         try_many(tried, count or FILES // harness.SLOWNESS)
 

@@ -129,9 +129,13 @@ class Commands:
         evidence = {**texts, **{blob_at(it): it for it in (*blobs, action)}, result_at(action): result}
         write_folder(f"{self.folder}/evidence", evidence)
         stores.write_file(f"{self.folder}/archive", archive_of(evidence))
+        staged = {f"1/{name}" if name in ("plan", "record") else name: it for name, it in evidence.items()}
+        stores.write_file(f"{self.folder}/stages", archive_of({"stages": b"1\n", **staged}))
         stores.write_file(f"{self.folder}/plan", self.plan)
         stores.write_file(f"{self.folder}/record", self.record)
         os.makedirs(f"{self.folder}/tree/b")
+        os.makedirs(f"{self.folder}/shipped/made")
+        stores.write_file(f"{self.folder}/shipped/made/a", NINE)
         for name in ("a", "b/a"):
             stores.write_file(f"{self.folder}/tree/{name}", NINE)
 
@@ -202,6 +206,7 @@ class Commands:
         return {
             "put of a file": self.asked(f"{nine}\n".encode(), 0, "put", *server, f"{self.folder}/tree/a"),
             "put of a folder": self.asked(f"{self.sources.text()}\n".encode(), 0, "put", *server, f"{self.folder}/tree"),
+            "digest of a folder": self.asked(f"{self.sources.text()}\n".encode(), 0, "digest", f"{self.folder}/tree"),
             "get": self.asked(NINE, 0, "get", *server, nine),
             "get of many bytes": self.asked(LARGE, 0, "get", *server, large),
             "get of a blob that isn't there": self.asked(b"", 1, "get", *server, f"{FEED}/1"),
@@ -213,6 +218,8 @@ class Commands:
             "verify over a folder of evidence": self.asked(yes, 0, "verify", evidence),
             "verify over an archive: yes": self.asked(yes, 0, "verify", archive),
             "verify over an archive: no": self.asked(no, 1, "verify", archive, "--claim", EMPTY.text()),
+            "verify of a folder, over an archive": self.asked(yes, 0, "verify", archive, "--artifact", f"{self.folder}/shipped"),
+            "verify over stages": self.asked(yes.replace(b"steps", b"stages 1 steps"), 0, "verify", f"{self.folder}/stages"),
             "verify over no archive": self.asked(b"", 2, "verify", f"{self.folder}/plan"),
             "verify over an archive and a server": self.asked(yes, 0, "verify", archive, *server),
             "verify by results of a folder": self.verify([*server, "--results", f"{self.folder}/store"], self.claim, yes, 0),

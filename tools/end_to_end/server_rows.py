@@ -22,7 +22,7 @@ import tempfile
 import threading
 import time
 
-from server_streams import ABSENT, ASKS, DIGITS, DONE, FEED, LARGEST, LEFT_OPEN
+from server_streams import ABSENT, ASKS, DIGITS, DONE, FEED, FULL, LARGEST, LEFT_OPEN
 from server_streams import NINE, NO_BYTES, REFUSED, SHORT, STREAMS, found, head, refused
 from shared import harness
 from shared.harness import Server, get, is_error, is_slow, path_of, put, within
@@ -74,7 +74,7 @@ def try_streams(rows, program):
 def try_heads(rows, program):
     """Each with a request after it, which is answered only where the connection stays open."""
     again = get(f"/cas/{NO_BYTES}")
-    for more in ((), ("--at-once", "4")):
+    for more in (("--at-once", "1"), ("--at-once", "4")):
         with server(program, None, *more) as it:
             for name, (request, answer) in REFUSED.items():
                 seen = talk(it.port, request + again, 1 << 20)
@@ -378,8 +378,8 @@ def try_many(rows, program):
 
 
 def try_no_end(rows, program):
-    """Without `--connections` one connection after another is served, until the server is ended."""
-    for name, more in (("one after another", ()), ("with --at-once", ("--at-once", "2"))):
+    """Without `--connections` a server goes on until it is ended: 256 connections at a time, or as many as are said."""
+    for name, more in (("by default", ()), ("one after another", ("--at-once", "1")), ("with --at-once", ("--at-once", "2"))):
         with Server(program, more=more) as it:
             served = 0
             for _ in range(5):
@@ -389,6 +389,36 @@ def try_no_end(rows, program):
             rows.tell("and the server goes on", it.process.poll() is None, it.process.returncode)
             it.process.terminate()
             rows.tell("until it is ended", it.process.wait(within(20)) == -signal.SIGTERM, it.process.returncode)
+
+
+def try_units(rows, program):
+    """A limit of 1K takes blobs of 1,024 bytes together, and no larger one."""
+    blob = bytes(1024)
+    with Server(program, 1, limit="1K", result_limit="1K") as it, connect(it.port) as stream:
+        right = ask(stream, put(f"/cas/{Digest.of(blob).hash}", blob), DONE)
+        larger = ask(stream, put(f"/cas/{Digest.of(blob + b'x').hash}", blob + b"x"), FULL)
+        rows.tell("a limit of 1K is one of 1,024 bytes", right and larger, (right, larger))
+
+
+def try_usual(rows, program):
+    """Where nothing is said of it, 256 connections are held at a time, and one where the server ends after so many."""
+    request, answer = get(f"/cas/{NO_BYTES}"), found(b"")
+    with Server(program) as it:
+        streams = [connect(it.port) for _ in range(257)]
+        answered = sum(ask(stream, request, answer) for stream in streams[:256])
+        rows.tell("by default 256 connections are answered side by side", answered == 256, answered)
+        streams[256].sendall(request)
+        waits = not select.select([streams[256]], [], [], 0.5)[0]
+        streams[0].close()
+        rows.tell("and one more once another has ended", waits and read_until(streams[256].fileno(), answer) == answer)
+        for stream in streams[1:]:
+            stream.close()
+    with Server(program, 2) as it, connect(it.port) as first, connect(it.port) as second:
+        right = ask(first, request, answer)
+        second.sendall(request)
+        waits = not select.select([second], [], [], 0.5)[0]
+        first.close()
+        rows.tell("with --connections one after another", right and waits and read_until(second.fileno(), answer) == answer)
 
 
 def try_address(rows, program):
@@ -447,6 +477,8 @@ def try_all(rows, program):
     try_heads(rows, program)
     try_many(rows, program)
     try_no_end(rows, program)
+    try_usual(rows, program)
+    try_units(rows, program)
     try_address(rows, program)
     try_few_files(rows, program)
     try_room_for_one(rows, program)

@@ -47,7 +47,7 @@ class Checked:
     """A server beside its model: each answer has to be the model's."""
 
     def __init__(self, program, limit, result_limit):
-        self.server = server_of(program, 60, limit, result_limit)
+        self.server = server_of(program, 60, limit, result_limit, ("--at-once", "1"))
         self.client = Client(self.server.port)
         self.model = Model(limit, result_limit)
         self.seen = collections.Counter()

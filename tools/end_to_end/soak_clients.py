@@ -79,7 +79,7 @@ def is_alive(port):
 
 
 def misbehave(program, rows):
-    with server_of(program) as server:
+    with server_of(program, more=("--at-once", "1")) as server:
         try_clients(server, rows)
         killed = Client(server.port)
         killed.connect().sendall(put(path_of(BODY), BODY)[:1000])

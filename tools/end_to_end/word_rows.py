@@ -27,6 +27,7 @@ COMMANDS = {
                {"store": "store", "server": ADDRESS, "results": "store", "prefix": "/p", "timeout": "1"}, []),
     "put": ({"server": ADDRESS}, {"prefix": "/p", "timeout": "1"}, ["plan"]),
     "get": ({"server": ADDRESS}, {"prefix": "/p", "timeout": "1", "into": "tree"}, [EMPTY.text()]),
+    "digest": ({}, {}, ["plan"]),
     "build": ({"server": ADDRESS, "sources": EMPTY.text(), "plan": "plan", "record": "made", "work": "work"},
               {"prefix": "/p", "timeout": "1", "jobs": "1"}, []),
 }
@@ -95,7 +96,8 @@ def try_missing(words):
             words.refuse(f"{command} without --{option}", 2, words_of(command, without=option), f"--{option}")
             words.refuse(f"{command} with --{option} twice", 2, [*words_of(command), f"--{option}", "1"], f"--{option}")
         words.refuse(f"{command} with an unknown option", 2, [*words_of(command), "--nonsense"], "--nonsense")
-        words.refuse(f"{command} with an option that lacks its text", 2, [*words_of(command), f"--{[*others][0]}"], f"--{[*others][0]}")
+        for option in [*others][:1]:
+            words.refuse(f"{command} with an option that lacks its text", 2, [*words_of(command), f"--{option}"], f"--{option}")
         surplus = "more" if command != "verify" else "--plan cannot be used with <EVIDENCE>"
         words.refuse(f"{command} with a word too many", 2, [*words_of(command), "more"], surplus)
         words.refuse(f"{command} with a word after --", 2, [*words_of(command), "--", "more"])
@@ -128,6 +130,23 @@ def try_wanted(words):
     line = "error: the following required arguments were not provided: --claim <DIGEST>, or <EVIDENCE>\n"
     for more in (["--store", ""], ["--server", "x", "--prefix", "p"], ["--store", "a", "--server", "b"]):
         words.refuse(f"verify without --claim, and {' '.join(more)}", 2, [*words_of("verify", without="claim"), *more], line)
+
+
+def try_artifact(words):
+    """A folder in place of the claim: what goes with it."""
+    asked = words_of("verify", without="claim", store="store")
+    sources = words_of("verify", without="claim", store="store", sources="x")
+    words.accept("a folder in place of the claim", f"yes {EMPTY.text()} steps 0\n", [*asked, "--artifact", "work"])
+    words.accept("and without bits", f"yes {EMPTY.text()} steps 0\n", [*asked, "--artifact=work", "--no-bits"])
+    words.refuse("--artifact and --claim", 2, [*words_of("verify", store="store"), "--artifact", "none"],
+                 "error: --claim cannot be used with --artifact\n")
+    words.refuse("--no-bits without --artifact", 2, [*words_of("verify", store="store"), "--no-bits"],
+                 "error: --no-bits cannot be used without --artifact\n")
+    words.refuse("--artifact without a name", 2, [*asked, "--artifact", ""], "error: --artifact: expected a folder")
+    words.refuse("--artifact twice", 2, [*asked, "--artifact", "work", "--artifact", "work"], "--artifact")
+    words.refuse("--artifact that isn't there, and sources at fault", 2, [*sources, "--artifact", "none"], "error: --sources: ")
+    no_plan = words_of("verify", without="claim", store="store", plan="no plan")
+    words.refuse("--artifact that isn't there, and no plan", 3, [*no_plan, "--artifact", "none"], 'error: "none": ')
 
 
 def try_evidence(words):
@@ -197,6 +216,11 @@ def try_numbers(words):
         told = words.run(*words_of("serve", connections="0", **{option: f"000{MOST}"}))
         right = re.fullmatch(rb"listening 127\.0\.0\.1:\d+\n", told.stdout) and (told.returncode, told.stderr) == (0, b"")
         words.rows.tell(f"--{option} 000{MOST}: status 0 after no connection", right, told)
+        for text in ("8k", "8GiB", "8 G", "G", "8KK", "+8G", "8B", "8E", f"{2**23}T", f"{2**54}K", f"{2**64}K"):
+            words.refuse(f"--{option}={text!r}", 2, [*words_of("serve", without=option), f"--{option}={text}"], f'got "{text}"')
+        for text in ("0K", "512M", "8G", "008T", f"{2**23 - 1}T", f"{2**53 - 1}K"):
+            told = words.run(*words_of("serve", connections="0", **{option: text}))
+            words.rows.tell(f"--{option} {text}: status 0 after no connection", (told.returncode, told.stderr) == (0, b""), told)
     for jobs in ("0", "65", "00065"):
         words.refuse(f"--jobs {jobs}", 2, words_of("build", jobs=jobs), "--jobs")
     words.refuse("--jobs 0064, and no server", 3, words_of("build", jobs="0064"), ADDRESS)
@@ -310,7 +334,8 @@ def try_addresses(words):
 def try_all(rows, program):
     with tempfile.TemporaryDirectory() as folder:
         words = Words(program, folder, rows)
-        for part in (try_help, try_missing, try_wanted, try_evidence, try_numbers, try_order, try_texts, try_names, try_addresses):
+        first = (try_help, try_missing, try_wanted, try_artifact, try_evidence)
+        for part in (*first, try_numbers, try_order, try_texts, try_names, try_addresses):
             part(words)
 
 

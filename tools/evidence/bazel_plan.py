@@ -11,6 +11,7 @@ that Bazel ran). FOLDER gets these files:
     plan, record      the build as docs/FORMATS.md has it
     sources, claim    the digest of the source tree, and that of the tree that is claimed
     taken             the sources below bazel-out, which no spawn of the log made; one escaped path a line
+    from-cache        the steps that came from a cache by the log; one name a line
     sources.sums      the sources in the form of sha256sum, for tools/evidence/sources_digest.py; artifact.sums: what is claimed
     store/            cas/HASH and ac/HASH: commands, actions, directories, trees and results, not the contents of files;
                       with --store in another folder; with --server the blobs are in a cache over HTTP
@@ -70,7 +71,7 @@ def check_ran(steps):
 
 
 # What is written into FOLDER, and all but the first four not into that of a stage.
-WRITTEN = ("claim", "plan", "record", "sources", "stages", "taken", "sources.sums", "artifact.sums")
+WRITTEN = ("claim", "plan", "record", "sources", "stages", "taken", "from-cache", "sources.sums", "artifact.sums")
 
 
 def forget_run(options):
@@ -215,7 +216,9 @@ class Made:
         steps = self.steps
         claimed = dict(it for name, entry in steps.claimed().items() for it in files_at(name, entry))
         sources = sums_of(steps.given.sources, is_of_checkout)
-        return {"artifact.sums": sums_of(claimed), "sources.sums": sources, "taken": map(escaped, steps.taken)}
+        from_cache = [it.name for it in steps.spawns if it.is_from_cache]
+        taken = map(escaped, steps.taken)
+        return {"artifact.sums": sums_of(claimed), "from-cache": from_cache, "sources.sums": sources, "taken": taken}
 
 
 def lies_in_artifact(options, place):

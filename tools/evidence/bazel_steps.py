@@ -58,19 +58,12 @@ def frame_spawns(spawns, directories, drop_timeouts):
 
 def settle_repeats(spawns):
     """The spawns without those that ran again: each action once, and of a test that ran again its last run."""
-    first, failed_tests = {}, set()
+    runs, failed_tests = {}, set()
     for spawn in spawns:
-        other = first.get(spawn.action)
-        if other is None or (other.exit_code != 0 and spawn.exit_code == 0):
-            if other and spawn.mnemonic == "TestRunner":
-                failed_tests.add(spawn.title)
-            first[spawn.action] = spawn
-        elif spawn.exit_code == 0 and spawn.made != other.made:
-            spawn.refuse_in_plan(f"the same command with the same inputs made other outputs than at line {other.line}", other)
-        elif other.exit_code == 0 and spawn.exit_code != 0:
-            spawn.refuse_in_plan(f"the same command with the same inputs failed, and at line {other.line} it didn't", other)
-    kept, makers = {it.number: it for it in first.values()}, {}
-    for spawn in sorted(first.values(), key=lambda it: it.number):
+        runs.setdefault(spawn.action, []).append(spawn)
+    counting = sorted((counted_run(it, failed_tests) for it in runs.values()), key=lambda it: it.number)
+    kept, makers = {it.number: it for it in counting}, {}
+    for spawn in counting:
         for path in spawn.made:
             other = makers.get(path)
             if other and is_rerun(other, spawn, failed_tests):
@@ -79,6 +72,29 @@ def settle_repeats(spawns):
                 spawn.refuse_in_plan(f'it made the output "{path}", and so did {other.place()}', other)
             makers[path] = spawn
     return sorted(kept.values(), key=lambda it: it.number)
+
+
+def counted_run(runs, failed_tests):
+    """The run of an action that counts, whatever ran first: one that succeeded; of runs with one outcome one that ran here."""
+    first = min(runs, key=run_rank) if len(runs) > 1 else runs[0]
+    for earlier, later in zip(runs, runs[1:]):
+        if earlier.exit_code != 0 and later.exit_code == 0 and later.mnemonic == "TestRunner":
+            failed_tests.add(later.title)
+        if earlier.exit_code == 0 and later.exit_code != 0:
+            why = f"the same command with the same inputs failed, and at line {earlier.line} it didn't"
+            later.refuse_in_plan(why, earlier, first)
+    done = [it for it in runs if it.exit_code == 0]
+    for earlier, later in zip(done, done[1:]):
+        if earlier.made != later.made:
+            why = f"the same command with the same inputs made other outputs than at line {earlier.line}"
+            later.refuse_in_plan(why, earlier, first)
+    return first
+
+
+def run_rank(spawn):
+    """What orders the runs of one action."""
+    made = sorted((path, it.fields_behind_name()) for path, it in spawn.made.items())
+    return spawn.exit_code != 0, spawn.exit_code, made, not spawn.is_run_here(), spawn.is_from_cache, spawn.mnemonic, spawn.title
 
 
 def is_rerun(spawn, later, failed_tests):

@@ -1,18 +1,19 @@
 #!/usr/bin/env python3
-"""Verifies what bazel_plan.py wrote, one plan or a build in stages: each of its plans by `buildcache verify`.
+"""Verifies what bazel_plan.py wrote, one plan or a build in stages, by `buildcache verify`.
 
-    verify_stages.py evidence --jobs 4
+    verify_stages.py evidence
     verify_stages.py evidence --artifact shipped
+    verify_stages.py evidence --jobs 4
 
-FOLDER has a plan, a record, sources and a claim; or the file `stages` with the name of a folder a line, each with these four.
-The sources of the first stage have to be those in FOLDER, the sources of each later stage the claim of the stage before, and the
-last claim the one in FOLDER. Then the verdicts compose: if each is yes, whoever builds the stages one after another, the first
-from these sources and each later one from what the stage before ended in, ends in exactly the claim in FOLDER. Results are
-read from FOLDER/store (--store), also with --server, which is asked for blobs alone. In place of FOLDER there may be a tar archive
-of it (docs/FORMATS.md, Archives), which is unpacked into a temporary folder.
+FOLDER is evidence as docs/FORMATS.md has it, or a tar archive of it, which the program is handed as it is: `buildcache verify
+FOLDER` judges one plan and a build in stages, and its line and status are this tool's. --artifact claims the tree of a folder.
 
-The last line is `yes CLAIM stages N steps M` (of one plan `yes CLAIM steps M`), or the no of the first stage that has one, as
-`no stage K step NAME cause ..`. The status is that of `verify`: 0 yes, 1 no, 2 a file is at fault, 3 no verdict.
+With --jobs stages are judged side by side, each by a process of the program, with the sources and the claim that its folder has:
+the sources of the first have to be those in FOLDER, those of each later one the claim of the stage before, and the last claim the
+one in FOLDER. So the verdicts compose. The line is the one that the program would print: `yes CLAIM stages N steps M` (of one
+plan `yes CLAIM steps M`), or the no of the first stage that has one, as `no stage K step NAME cause ..`. For that an archive is
+unpacked into a temporary folder. So it is with --store, which names another store than FOLDER/store. The status is that of
+`verify`: 0 yes, 1 no, 2 a file is at fault, 3 no verdict.
 
 Many machines share the stages. Who wrote FOLDER says which it is, each job verifies its share of exactly that, and the last step
 has the line of each job in a file:
@@ -143,12 +144,37 @@ def asked(folder, store):
 # Verdicts.
 
 
-def verify(stage, program, place):
-    """What `verify` prints on a stage, what it prints as an error, and its status."""
-    words = [program, "verify", *place, "--sources", stage.sources, "--claim", stage.claim]
-    words += ["--plan", os.path.join(stage.folder, "plan"), "--record", os.path.join(stage.folder, "record")]
+def run_verify(program, *words):
+    """What `verify` prints, what it prints as an error, and its status."""
+    words = [program, "verify", *words]
     ran = subprocess.run(words, stdin=subprocess.DEVNULL, capture_output=True, text=True, errors="replace", check=False)
     return ran.stdout.rstrip("\n"), ran.stderr.rstrip("\n"), ran.returncode
+
+
+def verify(stage, program, place):
+    """The same on a stage."""
+    files = [os.path.join(stage.folder, it) for it in ("plan", "record")]
+    digests = ["--sources", stage.sources, "--claim", stage.claim]
+    return run_verify(program, *place, *digests, "--plan", files[0], "--record", files[1])
+
+
+def raise_fault(shown, line, told, status):
+    """Raises why there is no verdict."""
+    why = told.removeprefix("error: ") or line or f"the program ends with status {status}"
+    raise (Refused if status == 2 else NotAnswered)(f"{shown}{why}")
+
+
+def hand_on(options):
+    """The status and the line of the program on evidence as it is, whose note is told."""
+    os.stat(options.folder)  # (before a program is built for it)
+    server = stores.store_of(options).words() if options.server else []
+    claim = claim_of(options.artifact) if options.artifact else None
+    line, told, status = run_verify(program_of(options.program), options.folder, *server, *(["--claim", claim] if claim else []))
+    is_yes = re.fullmatch(f"yes {claim or '[0-9a-f]{64}/[0-9]+'}( stages [0-9]+)? steps [0-9]+", line)
+    if not (is_yes if status == 0 else status == 1 and line.startswith("no ")):
+        raise_fault("", line, told, status)
+    command_line.complain(told)
+    return status, line
 
 
 def judge(stages, program, place, jobs):
@@ -164,8 +190,7 @@ def judge(stages, program, place, jobs):
                     return 1, f"no stage {stage.name} {line.removeprefix('no ')}" if stage.name else line
                 found = re.fullmatch(f"yes {stage.claim} steps ([0-9]+)", line)
                 if status != 0 or not found:
-                    why = told.removeprefix("error: ") or line or f"the program ends with status {status}"
-                    raise (Refused if status == 2 else NotAnswered)(f"{stage.shown()}: {why}")
+                    raise_fault(f"{stage.shown()}: ", line, told, status)
                 steps += int(found[1])
                 if is_shown:
                     print(f"\r{count} of {len(stages)} stages, {steps} steps", end="", file=sys.stderr, flush=True)
@@ -298,8 +323,8 @@ def parse(words):
         help="the program buildcache; by default the one that BUILDCACHE names, else this repository's ./buildcache",
     )
     parser.add_argument(
-        "--jobs", metavar="J", type=command_line.number_to(64), default=1, action=command_line.Once,
-        help="stages verified at once, 1 to 64 (default 1)",
+        "--jobs", metavar="J", type=command_line.number_to(64), action=command_line.Once,
+        help="stages verified at once, each by a process of its own, 1 to 64; by default one process judges all",
     )
     add_shares(parser)
     options = parser.parse_args(words)
@@ -319,7 +344,7 @@ def verdict_of(options, stages, store):
     share = options.shard.share_of(stages) if options.shard else stages
     # (a server has blobs alone: nothing tells that another result was put in a result's place)
     place = [*store.words(), *(["--results", os.path.join(options.folder, "store")] if options.server else [])]
-    status, told = judge(share, program_of(options.program), place, options.jobs)
+    status, told = judge(share, program_of(options.program), place, options.jobs or 1)
     if status != 0:
         return status, told
     return 0, shard_line(options.shard, options.evidence, share, told) if options.shard else yes_line(stages, told)
@@ -332,6 +357,8 @@ def claim_of(folder):
 
 def lines_of(options):
     """The status and the line, of a folder or an archive."""
+    if options.jobs is None and not (options.store or options.evidence or options.digest):
+        return hand_on(options)
     has_blobs = not (options.server or options.digest or options.all_of)
     with archives.as_folder(options.folder, has_blobs) as folder, archives.as_folder(options.store, has_blobs) as store:
         if store != options.store:

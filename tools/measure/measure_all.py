@@ -61,7 +61,7 @@ def measure_put(program):
             stores.write_file(path, os.urandom(BYTES))
         turns = []
         for _ in range(TURNS):
-            with harness.Server(program) as server:
+            with harness.Server(program, more=("--at-once", "1")) as server:
                 put = seconds_of([program, "put", "--server", server.address, folder])
             turns.append((put, seconds_of(["sha256sum", *paths])))
     of_put, of_sum = zip(*turns)

@@ -6,7 +6,7 @@ size and kind, so that both meet the same machine. nginx serves WebDAV from memo
 that the server doesn't hold yet. It prints requests a second, the best turn of each.
 
 With CONNECTIONS it measures GETs by `wrk` over that many connections at once, of blobs of three sizes, in three turns of
-SECONDS: of `serve --at-once`, of nginx, and over one connection also of `serve` without it. It needs nginx, with CONNECTIONS
+SECONDS: of `serve --at-once`, of nginx, and over one connection also of `serve --at-once 1`. It needs nginx, with CONNECTIONS
 also wrk, and the built program (crates/buildcache/out/buildcache).
 """
 
@@ -132,7 +132,9 @@ def measure_many(ports, seconds, connections):
 
 
 def main_many(program, seconds, connections):
-    with Server(program, more=("--at-once", str(connections + 8))) as many, Server(program) as one, Nginx("/dev/shm") as nginx:
+    one_at_a_time = ("--at-once", "1")
+    with Server(program, more=("--at-once", str(connections + 8))) as many, Server(program, more=one_at_a_time) as one, \
+            Nginx("/dev/shm") as nginx:
         ports = {"serve --at-once": many.port, "nginx": nginx.port, **({"serve": one.port} if connections == 1 else {})}
         print(f"| Bytes, {connections} connections |" + "|".join(f" GET, {it} " for it in ports) + "|\n|" + "---|" * (len(ports) + 1))
         for size, best in measure_many(ports, seconds, connections):
@@ -147,7 +149,7 @@ def main():
     if len(seconds) > 1:
         main_many(program, *seconds)
         return
-    with Server(program) as serve, Nginx("/dev/shm") as nginx:
+    with Server(program, more=("--at-once", "1")) as serve, Nginx("/dev/shm") as nginx:
         clients = {"serve": Client(serve.port), "nginx": Client(nginx.port)}
         print("| Bytes | GET, serve | GET, nginx | PUT, serve | PUT, nginx | SHA-256 (OpenSSL) |\n|---|---|---|---|---|---|")
         for size, best, hashed in measure(clients, seconds[0] if seconds else 2, f"{nginx.folder}/store"):

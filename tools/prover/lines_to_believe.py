@@ -21,7 +21,7 @@ ASIDE = {
     "builder": ["TwoSteps"],
     "cache_server": ["Sessions", "Writing"],
     "cli": ["Progress", "Running"],
-    "commands": ["Children", "SmallExample"],
+    "commands": ["Children", "Hashed", "Putting", "SmallExample", "Walked"],
     "eviction": ["Victims", "View"],
     "exchange": ["Conversation"],
     "http_core": ["Method"],

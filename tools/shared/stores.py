@@ -123,14 +123,16 @@ def add_options(parser, folder_help="where the files are written, if not as --ar
     places.add_argument(
         "--store", metavar="STORE", action=Once, type=place_of, help="the store folder, in place of FOLDER/store; it may hold other builds"
     )
-    places.add_argument(
-        "--server", metavar="HOST:PORT", action=Once,
-        help="a cache over HTTP for blobs, at /cas/HASH; results are in FOLDER/store then, and never on the server",
-    )
+    add_server(parser, "a cache over HTTP for blobs, at /cas/HASH; results are in FOLDER/store then, and never on the server", places)
+    return word
+
+
+def add_server(parser, server_help, places=None):
+    """The options of a cache over HTTP; `places` are those of which one is taken."""
+    (places or parser).add_argument("--server", metavar="HOST:PORT", action=Once, help=server_help)
     parser.add_argument(
         "--prefix", metavar="PREFIX", default="", action=Once, help="what stands before these paths on the server"
     )
-    return word
 
 
 def store_of(options, own=None):

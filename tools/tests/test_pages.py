@@ -1,6 +1,7 @@
 """Tests of the pages: each link leads to a file and a heading that are there, and README is short."""
 
 import glob
+import hashlib
 import os
 import re
 import unittest
@@ -58,3 +59,34 @@ class Pages(unittest.TestCase):
     def test_all_pages_are_not_long(self):
         words = {it: len(text_of(it).split()) for it in PAGES if os.path.dirname(it) == f"{TOP}/docs"}
         self.assertLess(sum(words.values()), 24000, "what stands twice goes; what one crate alone needs goes to its README")
+
+
+class Pictures(unittest.TestCase):
+    """The pictures of docs/pictures, each made of the text beside it by tools/pictures.sh."""
+
+    TEXTS = sorted(glob.glob(f"{TOP}/docs/pictures/*.dot"))
+
+    def test_each_is_made_of_the_text_beside_it(self):
+        self.assertGreater(len(self.TEXTS), 3)
+        made = [it.replace(".dot", ".svg") for it in self.TEXTS]
+        self.assertEqual(made, sorted(glob.glob(f"{TOP}/docs/pictures/*.svg")))
+        for text, picture in zip(self.TEXTS, made):
+            with open(text, "rb") as it:
+                hashed = hashlib.sha256(it.read()).hexdigest()
+            with self.subTest(os.path.basename(picture)):
+                last = f"<!-- made of {os.path.basename(text)}, SHA-256 {hashed} -->"
+                self.assertEqual(text_of(picture).splitlines()[-1], last, "tools/pictures.sh makes it anew")
+
+    def test_each_is_shown_on_a_page(self):
+        shown = {os.path.basename(link) for page in PAGES for link in LINK.findall(text_of(page))}
+        self.assertEqual([it for it in self.TEXTS if os.path.basename(it).replace(".dot", ".svg") not in shown], [])
+
+    def test_the_layers_are_those_of_the_crates(self):
+        uses = dict(it.partition(":")[::2] for it in text_of(f"{TOP}/crates.txt").splitlines() if not it.startswith("#"))
+        text = re.sub(r"(?m)^//.*", "", text_of(f"{TOP}/docs/pictures/layers.dot"))
+        chains = [re.findall(r"\w+", it) for it in re.findall(r"(?m)^  (\w+(?: -> \w+)+)$", text)]
+        for above, below in (pair for chain in chains for pair in zip(chain, chain[1:])):
+            with self.subTest(f"{above} stands on {below}"):
+                self.assertIn(below, uses[above].split())
+        apart = {"benchmark", "exchange"} | {it for it in uses if it.startswith("test_")}
+        self.assertEqual({it for chain in chains for it in chain}, set(uses) - apart)

@@ -27,7 +27,7 @@ NEEDS_A_PROGRAM = {
 }
 NEEDS_A_FILE = {
     "evidence/bazel_plan.py": ["asked"], "evidence/make_plan.py": ["asked"], "evidence/verify_stages.py": [],
-    "evidence/trim_log.py": ["/base"],
+    "evidence/judge.py": [], "evidence/show.py": ["0" * 64], "evidence/trim_log.py": ["/base"],
 }
 WRONG_NUMBERS = {
     "end_to_end/soak.py": ["x"], "measure/measure_build.py": ["0"], "measure/measure_verify.py": ["steps", "-"],

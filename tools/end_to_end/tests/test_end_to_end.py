@@ -10,76 +10,114 @@ import unittest
 import unittest.mock
 
 import end_to_end
-from shared import harness, previews
+from shared import previews
 from shared.rows import Rows
+
+
+# What stands in for a part in a process of its own: it notes which part it is, over which program, and how much longer rows may take.
+PART = """
+import os, sys
+_, _, name, program = sys.argv
+folder = os.path.dirname(program)
+with open(f"{folder}/begun", "a", encoding="utf-8") as it:
+    print(name, os.path.basename(program), os.environ["BUILDCACHE_SLOWNESS"], os.environ["BUILDCACHE_UNPROVED"], file=it)
+"""
+RIGHT = 'print("1 passed, 0 failed")'
+WRONG = 'print("FAILED a row")\nprint("0 passed, 1 failed")\nsys.exit(1)'
+
+
+def report(text):
+    """A report of the sanitizer, where its options say."""
+    return f"""
+options = dict(it.split("=") for it in os.environ["ASAN_OPTIONS"].split(":"))
+with open(options["log_path"] + ".1", "w", encoding="utf-8") as it:
+    it.write({text!r})
+"""
 
 
 class Preview(unittest.TestCase):
     def setUp(self):
         # (these tests may run among the rows over a real preview)
-        for it in (unittest.mock.patch.object(harness, "SLOWNESS", harness.SLOWNESS), unittest.mock.patch.dict(os.environ)):
-            it.start()
-            self.addCleanup(it.stop)
+        place = unittest.mock.patch.dict(os.environ)
+        place.start()
+        self.addCleanup(place.stop)
 
-    def try_preview(self, status, part, mark=previews.MARKS[0]):
+    def try_preview(self, status, part, mark=previews.MARKS[0], lanes=(0,)):
         """The parts that were begun, what was printed, and how many rows passed and failed."""
-        begun = []
-
-        def told(name):
-            def tried(rows, program):
-                begun.append((name, os.path.basename(program)))
-                part(rows)
-            return tried
-
-        parts = {it: told(it) for it in ("words", "a server", "faults", "Bazel")}
         rows, printed = Rows(), io.StringIO()
         with tempfile.TemporaryDirectory() as tools, contextlib.redirect_stdout(printed):
             with open(f"{tools}/preview.sh", "w", encoding="utf-8") as it:
                 it.write(f"#!/bin/sh\nexit {status}\n")
+            with open(f"{tools}/part.py", "w", encoding="utf-8") as script:
+                script.write(PART + part)
             with open(f"{tools}/buildcache", "wb") as program:
                 program.write(mark)
             for name in (it.name, program.name):
                 os.chmod(name, 0o755)
-            with unittest.mock.patch.multiple(end_to_end, TOOLS=tools, PREVIEW=program.name, PARTS=parts):
+            parts = dict.fromkeys(("a server", "words", "faults", "Bazel"))
+            changes = {"TOOLS": tools, "PREVIEW": program.name, "PARTS": parts, "PART": script.name}
+            with unittest.mock.patch.multiple(end_to_end, **changes), \
+                    unittest.mock.patch("os.sched_getaffinity", return_value=set(lanes)):
                 end_to_end.try_preview(rows)
+            begun = []
+            with contextlib.suppress(FileNotFoundError), open(f"{tools}/begun", encoding="utf-8") as it:
+                begun = it.read().splitlines()
         return begun, printed.getvalue(), (rows.passed, rows.failed)
 
-    def report(self, rows, text="==1==ERROR: LeakSanitizer: detected memory leaks\n"):
-        """A right row, beside which the program reports a leak."""
-        rows.tell("a row", True)
-        options = dict(it.split("=") for it in os.environ["ASAN_OPTIONS"].split(":"))
-        with open(f"{options['log_path']}.1", "w", encoding="utf-8") as it:
-            it.write(text)
-
     def test_what_is_tried_over_it(self):
-        begun, printed, counts = self.try_preview(0, lambda rows: rows.tell("a row", True))
-        self.assertEqual((begun, counts), ([("words", "buildcache"), ("a server", "buildcache")], (5, 0)))
+        begun, printed, counts = self.try_preview(0, RIGHT)
+        self.assertEqual((begun, counts), (["words buildcache 8 rows", "a server buildcache 8 rows"], (4, 0)))
         self.assertIn("left out over the preview: faults, Bazel", printed)
+        begun, _, counts = self.try_preview(0, RIGHT, lanes=(0, 1))
+        self.assertEqual((sorted(begun), counts), (["a server buildcache 8 rows", "words buildcache 8 rows"], (4, 0)))
 
     def test_a_report_fails_though_each_row_is_right(self):
-        _, printed, counts = self.try_preview(0, self.report)
-        self.assertEqual(counts, (3, 2))
+        _, printed, counts = self.try_preview(0, report("==1==ERROR: LeakSanitizer: detected memory leaks\n") + RIGHT)
+        self.assertEqual(counts, (3, 1))
         self.assertIn("FAILED words: memory: ==1==ERROR: LeakSanitizer: detected memory leaks", printed)
-        _, printed, counts = self.try_preview(0, lambda rows: self.report(rows, "something else\n"))
-        self.assertEqual(counts, (3, 2))
+        _, printed, counts = self.try_preview(0, report("something else\n") + RIGHT)
+        self.assertEqual(counts, (3, 1))
 
     def test_a_row_that_is_wrong_fails_and_no_further_part_begins(self):
-        begun, printed, counts = self.try_preview(0, lambda rows: rows.tell("a row", False))
-        self.assertEqual((begun, counts), ([("words", "buildcache")], (3, 1)))
-        self.assertIn("left out after what is wrong above: a server", printed)
+        begun, printed, counts = self.try_preview(0, WRONG)
+        self.assertEqual((begun, counts), (["words buildcache 8 rows"], (2, 1)))
+        self.assertIn("FAILED a row", printed)
+        self.assertIn("left out after what is wrong: a server", printed)
+
+    def test_a_part_that_ends_otherwise_fails(self):
+        for part in ("", 'print("1 passed, 0 failed")\nsys.exit(1)', 'print("0 passed, 1 failed")', "os.kill(os.getpid(), 9)"):
+            _, printed, counts = self.try_preview(0, part)
+            self.assertGreater(counts[1], 0, part)
+            self.assertIn("FAILED words: status ", printed)
 
     def test_its_yes_is_refused_but_for_the_rows(self):
-        seen = []
-        self.try_preview(0, lambda rows: seen.append(os.environ[previews.VARIABLE]))
-        self.assertEqual(seen, ["rows", "rows"])
         os.environ[previews.VARIABLE] = "rows"
-        begun, printed, counts = self.try_preview(0, self.report, b"no mark")
-        self.assertEqual((begun, counts), ([], (2, 1)))
+        begun, printed, counts = self.try_preview(0, RIGHT, b"no mark", (0, 1))
+        self.assertEqual((len(begun), counts), (2, (3, 1)))
         self.assertIn("FAILED the preview is known as a program of which nothing is proved: it isn't refused", printed)
 
     def test_nothing_is_tried_where_it_is_not_compiled(self):
-        begun, _, counts = self.try_preview(3, self.report)
-        self.assertEqual((begun, counts), ([], (1, 1)))
+        begun, _, counts = self.try_preview(3, RIGHT)
+        self.assertEqual((begun, counts), ([], (0, 1)))
+
+
+class One(unittest.TestCase):
+    """A part alone, as a process of its own tries it."""
+
+    def try_one(self, name):
+        printed = io.StringIO()
+        parts = {"words": lambda rows, program: rows.tell(program, True), "a server": lambda rows, program: 1 / 0}
+        with contextlib.redirect_stdout(printed), unittest.mock.patch.object(end_to_end, "PARTS", parts):
+            return end_to_end.try_one(name, "it"), printed.getvalue()
+
+    def test_it_ends_with_its_counts(self):
+        status, printed = self.try_one("words")
+        self.assertEqual((status, printed.splitlines()[-1]), (0, "1 passed, 0 failed"))
+
+    def test_what_it_raises_fails(self):
+        status, printed = self.try_one("a server")
+        self.assertEqual((status, printed.splitlines()[-1]), (1, "0 passed, 1 failed"))
+        self.assertIn("FAILED a server: ZeroDivisionError", printed)
 
 
 class Tests(unittest.TestCase):

@@ -27,6 +27,12 @@ from tests.spawns import log, spawn
 VECTORS = os.path.join(TOP, "crates", "test_archive")
 COUNTS = ["--outputs", "*/counts.txt", "*/site", "--below", "bazel-out/k8-fastbuild/bin/pages"]
 ZEROS = bytes(1024)
+# What stands last in an archive.
+LISTS = ["artifact.sums", "from-cache", "sources.sums", "taken"]
+
+
+def digest_of(content):
+    return f"{hashlib.sha256(content).hexdigest()}/{len(content)}"
 
 
 def called(main, *words):
@@ -72,12 +78,25 @@ class Read(ArchiveCase):
             held = archives.Archive(place)
         except command_line.Refused as fault:
             return [f"{name}{str(fault).removeprefix(chr(34) + place + chr(34))}"]
-        whole, lines = stores.read_file(place), [name]
+        whole, lines, found = stores.read_file(place), [name], []
         for it in paths:
             start, size = held.places.get(it, (0, 0))
-            digest = f"{hashlib.sha256(whole[start:start + size]).hexdigest()}/{size}"
-            lines.append(f"  {digest if it in held.places else 'none'}")
-        return lines
+            content = whole[start:start + size]
+            lines.append(f"  {digest_of(content) if it in held.places else 'none'}")
+            found += [(it, content)] if it in held.places else []
+        return [*lines, f"  {self.written(found)}"]
+
+    def written(self, files):
+        """What the crate tells of an archive that it writes of these files: that it is the one that the tools write."""
+        out = io.BytesIO()
+        writer = archives.Writer(out)
+        for number, (path, content) in enumerate(files):
+            if len(path) > 100:
+                return f"not written: file {number}: the name isn't that of a file in a folder, in at most 100 bytes"
+            if path in (it for it, _ in files[:number]):
+                return f"not written: file {number}: the name stands twice"
+            writer.add(path, content)
+        return f"written {digest_of(out.getvalue() + ZEROS)}"
 
     def test_the_rows_of_the_crate(self):
         asked, answers = (stores.read_file(os.path.join(VECTORS, it)).decode().splitlines() for it in ("stdin", "stdout"))
@@ -120,15 +139,15 @@ class Written(ArchiveCase):
 
     def test_one_plan(self):
         names = self.compare(kept_log("counts.json"), *COUNTS)
-        store = names[4:-3]
-        self.assertEqual(names[:4] + names[-3:], ["sources", "claim", "plan", "record", "artifact.sums", "sources.sums", "taken"])
+        store = names[4:-4]
+        self.assertEqual(names[:4] + names[-4:], ["sources", "claim", "plan", "record", *LISTS])
         self.assertEqual(store, sorted(store, key=lambda it: (it.startswith("store/ac/"), it)))
 
     def test_stages(self):
         names = self.compare(kept_log("counts.json"), *COUNTS, "--stages", "3")
-        self.assertEqual(names[:3] + names[-3:], ["stages", "sources", "claim", "artifact.sums", "sources.sums", "taken"])
+        self.assertEqual(names[:3] + names[-4:], ["stages", "sources", "claim", *LISTS])
         begins = [names.index(f"{stage}/claim") for stage in (1, 2, 3)]
-        for begin, end in zip(begins, [*begins[1:], len(names) - 3]):
+        for begin, end in zip(begins, [*begins[1:], len(names) - 4]):
             stage = names[begin][0]
             self.assertEqual(names[begin:begin + 4], [f"{stage}/{it}" for it in ("claim", "plan", "record", "sources")])
             store = names[begin + 4:end]
@@ -330,7 +349,8 @@ class Verified(ArchiveCase):
         os.chmod(self.at("program"), 0o755)
 
     def verify(self, *words, program=None):
-        """Status, standard output and standard error; no temporary file is left."""
+        """Status, standard output and standard error; no temporary file is left. Without a program stages are asked one by one."""
+        words = (*words, *(("--jobs", "1") if not program and "--jobs" not in words else ()))
         tool = os.path.join(TOP, "tools", "evidence", "verify_stages.py")
         done = subprocess.run([sys.executable, tool, *words], capture_output=True, text=True, cwd=self.folder,
                               env={**self.env, "BUILDCACHE": program or self.at("program")})

@@ -3,6 +3,7 @@ together what each spawn read. bazel_case.py says what judges what is made.
 """
 
 import io
+import itertools
 import random
 import re
 import shutil
@@ -170,7 +171,8 @@ class LogsAtRandom(Case):
 
     def test_the_order_of_the_log_is_nothing(self):
         logs = [self.spawns(random.Random(seed)) for seed in range(10)]
-        logs += [[it for _, it in bazel_log.objects(io.StringIO(kept_log(name)))] for name in ("counts.json", "taken.json")]
+        kept = map(kept_log, ("counts.json", "taken.json", "recorded.json"))
+        logs += [[it for _, it in bazel_log.objects(io.StringIO(text))] for text in kept]
         for number, spawns in enumerate(logs):
             for words in [], ["--stages", "3"]:
                 with self.subTest(number=number, words=words):
@@ -182,6 +184,25 @@ class LogsAtRandom(Case):
                         shutil.rmtree(self.at("asked"))
                         rng.shuffle(spawns)
                     self.assertTrue(all(it == told[0] for it in told))
+
+    def test_which_run_of_an_action_counts(self):
+        """Whichever ran first: with the runs in each order the files are the same, those names too that a mnemonic gives."""
+        outcomes = (("1", 2), ("2", 1), ("3", 1))
+        failed = [spawn({}, ["z"], {"z": it}, exitCode=code, status="NON_ZERO_EXIT") for it, code in outcomes]
+        linked = spawn({}, ["z"], {}, exitCode=1, status="NON_ZERO_EXIT")
+        linked["actualOutputs"] = [{"path": "z", "symlinkTargetPath": "l"}]
+        again = [spawn({}, ["a"], mnemonic=it, runner=runner) for it, runner in (("Make", "remote"), ("Other", "linux-sandbox"))]
+        cached = spawn({}, ["a"], mnemonic="Make", runner="remote cache hit", remoteCacheHit=True)
+        for runs, expected in (([*failed, linked], "step make-z "), ([*again, cached], "step other-a ")):
+            told = set()
+            for order in itertools.permutations(runs):
+                status, out, err = self.call(log(spawn({}, ["b"]), *order, spawn({"s": "s"}, ["c"])))
+                self.assertEqual((status, err), (0, ""))
+                told.add((out, *sorted(contents(self.at("asked")).items())))
+                shutil.rmtree(self.at("asked"))
+            self.assertEqual(len(told), 1)
+            self.assertIn(expected.encode(), dict(next(iter(told))[1:])["plan"])
+            self.assertNotIn("from-cache", next(iter(told))[0])
 
     def test_what_lines_put_together(self):
         versions = set()

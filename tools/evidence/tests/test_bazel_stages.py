@@ -67,7 +67,7 @@ class KeptLog(Case):
         kept = contents(KEPT)
         for name in ("plan", "record", "taken", *(it for it in kept if it.startswith("store/"))):
             self.assertEqual(contents(self.at("asked"))[name], kept[name], name)
-        self.assertEqual(contents(self.at("asked")).keys(), kept.keys() | {"sources", "claim", "sources.sums", "artifact.sums"})
+        self.assertEqual(contents(self.at("asked")).keys(), kept.keys() | {"sources", "claim", "from-cache", "sources.sums", "artifact.sums"})
         with open(os.path.join(os.path.dirname(KEPT), "rows"), encoding="utf-8") as it:
             words = next(line for line in it if "--plan counts/plan" in line).split()
         self.assertEqual(self.lines("sources"), [words[words.index("--sources") + 1]])
@@ -187,10 +187,11 @@ class InStages(StagesCase):
         self.stages("1")
         with open(self.at("asked", "2", "claim"), "w", encoding="utf-8") as out:
             out.write(f"{'0' * 64}/1\n")
-        self.judge_stages("^error: stage 3: its sources .* aren't the claim of stage 2\n$", 2)
+        self.judge_stages("^no stage 2 root cause root-differs ", 1)
+        self.judge_stages("^error: stage 3: its sources .* aren't the claim of stage 2\n$", 2, "--jobs", "2")
         with open(self.at("asked", "3", "sources"), "w", encoding="utf-8") as out:
             out.write(f"{'0' * 64}/1\n")
-        self.judge_stages("^no stage 2 root cause root-differs ", 1)
+        self.judge_stages("^no stage 2 root cause root-differs ", 1, "--jobs", "2")
 
     def test_a_list_of_stages_that_was_changed_is_refused(self):
         self.stages("1")
@@ -203,7 +204,7 @@ class InStages(StagesCase):
         for names, reason in rows.items():
             with self.subTest(names):
                 stores.write_texts(self.at("asked"), {"stages": names.split(" ") if names else []})
-                self.judge_stages(f"^error: [^\n]*{reason}[^\n]*\n$", 3 if names == "1 2 3 5" else 2)
+                self.judge_stages(f"^error: [^\n]*{reason}[^\n]*\n$", 3 if names == "1 2 3 5" else 2, "--jobs", "2")
         self.stages("1")
         self.judge_stages("^yes ", 0)
 
@@ -211,7 +212,7 @@ class InStages(StagesCase):
         for name, reason in (("claim", "the claim of stage 4, .*, isn't the build's, 0"), ("sources", "stage 1: its sources .* aren't the build's")):
             self.stages("1")
             stores.write_texts(self.at("asked"), {name: [f"{'0' * 64}/1"]})
-            self.judge_stages(f"^error: {reason}", 2)
+            self.judge_stages(f"^error: {reason}", 2, "--jobs", "2")
 
     def test_a_log_of_many_spawns(self):
         for changed, line in (None, "^yes .* stages 3 steps 60\n$"), (30, "^no stage 2 step make-p0-r30-o cause input-differs .*/r29.o\n$"):
@@ -226,7 +227,7 @@ class InStages(StagesCase):
         os.remove(self.at("asked", "2", "record"))
         self.judge_stages("^error: .*2/record.*\n$", 3)
         shutil.rmtree(self.at("asked"))
-        self.judge_stages("^error: .*stages.*\n$", 3)
+        self.judge_stages("^error: .*stages.*\n$", 3, "--jobs", "2")
 
     def test_a_path_of_64_names_is_not_handed_on(self):
         deep = "/".join("n" * 64)
@@ -405,13 +406,24 @@ class ManyMachines(StagesCase):
         self.refuses("is other evidence", self.ask("--evidence", self.evidence))
         self.refuses("has one plan, and no stages", self.ask("--evidence", found, "--shard", "1/1"))
         stores.write_texts(self.at("asked"), {"stages": ["1", "2", "3", "4"]})
-        self.refuses("it has stages, and a plan beside them", self.ask())
+        self.refuses("it has stages, and a plan beside them", self.ask("--jobs", "1"))
 
     def test_results_are_read_from_the_folder(self):
         self.program_says('echo "error: $*" >&2; exit 2')
-        for words, told in (["--server", "h:1", "--prefix", "/p"], "--server h:1 --prefix /p --results asked/store"), (["--store", "s"], "--store s"):
+        server = ["--server", "h:1", "--prefix", "/p"]
+        told_of_both = f"{' '.join(server)} --results asked/store"
+        for words, told in ([*server, "--jobs", "1"], told_of_both), (["--store", "s"], "--store s"):
             found = self.ask(*words)
             self.assertEqual(found[2].partition(" --sources ")[0], f"error: stage 1: verify {told}")
+
+    def test_what_the_program_is_handed(self):
+        self.program_says('echo "no root cause $*"; echo "note: x" >&2; exit 1')
+        for words in [], ["--server", "h:1", "--prefix", "/p"]:
+            self.assertEqual(self.ask(*words), (1, f"no root cause {' '.join(['verify', 'asked', *words])}\n", "note: x\n"))
+        self.program_says('echo "error: $*" >&2; exit 3')
+        self.assertEqual(self.ask(), (3, "", "error: verify asked\n"))
+        self.program_says("kill -9 $$")
+        self.assertEqual(self.ask(), (3, "", "error: the program ends with status -9\n"))
 
 
 class FalseResults(StagesCase):
@@ -498,7 +510,7 @@ class TheProgram(StagesCase):
             words = ["--program", self.at(word)] if word else []
             ran = subprocess.run([sys.executable, os.path.join(tools, "evidence", "verify_stages.py"), self.at("asked"), *words],
                                  capture_output=True, text=True, env=env)
-            self.assertEqual((ran.returncode, ran.stdout, ran.stderr), (3, "", f"error: stage 1: {told}\n"))
+            self.assertEqual((ran.returncode, ran.stdout, ran.stderr), (3, "", f"error: {told}\n"))
         stores.write_file(self.at("repository/buildcache"), b"#!/bin/sh\nexit 3\n")
         ran = subprocess.run([sys.executable, os.path.join(tools, "evidence", "verify_stages.py"), self.at("asked")],
                              capture_output=True, text=True, env={**os.environ, "BUILDCACHE": ""})
@@ -506,7 +518,7 @@ class TheProgram(StagesCase):
 
 
 class OtherPrograms(Case):
-    """verify_stages.py where BUILDCACHE names a program that answers by the stage's claim, or none."""
+    """verify_stages.py, which asks stage by stage, where BUILDCACHE names a program that answers by the stage's claim, or none."""
 
     DIGEST = f"{'0' * 64}/1"
 
@@ -519,8 +531,9 @@ class OtherPrograms(Case):
         stores.write_texts(self.at("asked"), {"stages": ["1", "2"]})
         return self.ask(script, *words)
 
-    def ask(self, script, *words, before="exec"):
+    def ask(self, script, *words, before="exec", jobs=("--jobs", "1")):
         """The same, where a shell has `before` before the command."""
+        words = (*words, *(() if "--jobs" in words else jobs))
         if script is not None:
             stores.write_texts(self.folder, {"program": ["#!/bin/sh", script]})
             os.chmod(self.at("program"), 0o755)
@@ -542,6 +555,9 @@ class OtherPrograms(Case):
             with self.subTest(script):
                 out, err, found = self.answer(script)
                 self.assertEqual((out, err.count("\n"), err[:7], found), ("", 1, "error: ", status))
+                if script != other:  # (the program alone knows the claim of what it is handed)
+                    out, err, found = self.ask(script, jobs=())
+                    self.assertEqual((out, err.count("\n"), err[:7], found), ("", 1, "error: ", status))
 
     def test_files_that_have_no_digest(self):
         two = f"{self.DIGEST}\n{self.DIGEST}\n"

@@ -278,7 +278,8 @@ class Releases(Scripts):
     def test_evidence_in_an_archive(self):
         words = self.place.words("--archive")
         self.assertEqual(self.place.run(*self.place.words())[:2], (0, self.yes))
-        for stages, yes in ([], self.yes), (["--stages", "1"], self.yes.replace("steps", "stages 1 steps")):
+        # (with --jobs the tool puts the line of stages together, which this program doesn't print)
+        for stages, yes in ([], self.yes), (["--stages", "1", "--jobs", "1"], self.yes.replace("steps", "stages 1 steps")):
             self.assertEqual(self.place.run(*words, *stages)[:2], (0, yes))
             self.assertEqual(sorted(os.listdir(self.at("place", "out"))), ["build.json", "evidence.tar", "log", "shipped"])
             self.assertEqual(os.listdir(self.at("place", "tmp")), [])
