@@ -1,5 +1,5 @@
 #!/usr/bin/env python3
-"""Measures the program `verify` on builds of growing size: prints the rows of tables in docs/PERFORMANCE.md.
+"""Measures the program `verify` on builds of growing size: prints the rows of tables in README.md beside this.
 
     ./measure_verify.py ../crates/buildcache/out/buildcache steps 1024 2048 4096
     ./measure_verify.py ../crates/buildcache/out/buildcache outputs 16384 32768 65536

@@ -1,5 +1,5 @@
 #!/usr/bin/env python3
-"""Runs the gate (.ci/run) and tells what it took, which docs/GATE.md has of one run: gate_minutes.py [--anew] [LOG].
+"""Runs the gate (.ci/run) and tells what it took, which docs/CONTRIBUTING.md has of one run: gate_minutes.py [--anew] [LOG].
 
 For each crate: the processor minutes of its proof, of its tests' proof and of its mistakes, and the most memory that one
 of these processes held. It looks at the gate's processes of the toolchain twice a second, so what lives shorter

@@ -1,5 +1,5 @@
 #!/usr/bin/env python3
-"""Prints how much has to be believed, which docs/DEFINITIONS.md tells: a table of the lines of each crate's specs/, without
+"""Prints how much has to be believed, which docs/GUARANTEES.md tells: a table of the lines of each crate's specs/, without
 blank lines, imports, comments and the files that ASIDE names; and what two claims stand on. It takes no arguments.
 
 A claim stands on the definitions that its clauses name, on those that these name, and so on: `use` says whose a name is. Lines
@@ -181,7 +181,7 @@ def lines_by_crate(library):
 
 
 def sentences(library):
-    """What docs/DEFINITIONS.md says of the whole, and of the claims."""
+    """What docs/GUARANTEES.md says of the whole, and of the claims."""
     program, headline = (len(library.stands_on(it)) for it in (PROGRAM, HEADLINE))
     return [
         f"{sum(lines_by_crate(library).values()):,} lines of definitions",

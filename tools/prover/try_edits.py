@@ -1,7 +1,7 @@
 #!/usr/bin/env python3
 """Judges the mistakes of the repository's crates: try_edits.py [--anew] [CRATE[/MISTAKE] ..]
 
-A mistake turns what some functions of a crate mean (crates/NAME/mistakes/*.edit; docs/CONTRIBUTING.md has the format), and the
+A mistake turns what some functions of a crate mean (crates/NAME/mistakes/*.edit; README.md beside this has the format), and the
 prover has to refuse each of those functions for a goal of its own (judging.py). A mistake fails that is proved, that makes the
 text unreadable, or that is refused only since a proof names what is gone.
 

@@ -122,20 +122,25 @@ class Tools(unittest.TestCase):
                 self.refuse(2, tool, "word")
 
     def test_each_attack_has_its_tests(self):
-        """Each line of the page's list of attacks names a test or a script, and each that is named is there."""
-        with open(f"{TOP}/docs/VERIFY_BAZEL.md", encoding="utf-8") as it:
-            section = it.read().partition("## What an attacker of the cache can do\n")[2].partition("\n## ")[0]
-        lines = [it for it in section.splitlines() if it.startswith("- ")]
-        self.assertGreater(len(lines), 9)
-        for line in lines:
+        """Each attack of the page has its line in the README of the tools, which names a test or a script, and each is there."""
+        lines = []
+        for page, heading in (("docs/VERIFY_BAZEL.md", "## What an attacker of the cache can do"),
+                              ("tools/evidence/README.md", "### Attacks and their tests")):
+            with open(f"{TOP}/{page}", encoding="utf-8") as it:
+                section = re.split(r"\n##+ ", it.read().partition(f"\n{heading}\n")[2])[0]
+            lines.append(re.findall(r"(?m)^- \*\*(.+?)\*\*(.*)$", section))
+        attacks, tested = lines
+        self.assertGreater(len(attacks), 9)
+        self.assertEqual([name for name, _ in attacks], [name for name, _ in tested])
+        for attack, line in tested:
             named = re.findall(r"`(test_\w+\.py)`: ((?:`\w+`(?:, )?)+)", line)
             scripts = re.findall(r"`(\w+\.sh|client_rows\.py)`", line)
-            self.assertTrue(named or scripts, line)
+            self.assertTrue(named or scripts, attack)
             for file, tests in named:
                 with open(f"{TOP}/tools/evidence/tests/{file}", encoding="utf-8") as it:
                     text = it.read()
                 for test in re.findall(r"\w+", tests):
-                    self.assertRegex(text, rf"(?m)^(?:class|    def) {test}\b", line)
+                    self.assertRegex(text, rf"(?m)^(?:class|    def) {test}\b", attack)
             for script in scripts:
                 self.assertTrue(os.access(f"{TOP}/tools/end_to_end/{script}", os.X_OK), script)
 

@@ -117,7 +117,7 @@ class Facts(JudgeCase):
             self.assertIn(f"{name}\": {line!r} is no", err)
 
     def test_a_false_result_by_the_program(self):
-        """As docs/VERIFY_BAZEL.md has it: the result of the step that makes card.txt has another digest."""
+        """The result of the step that makes card.txt has another digest."""
         maker = {"step": "genrule-pages-card-txt", "path": "bazel-out/k8-fastbuild/bin/pages/card.txt"}
         for words, stage in ([], None), (["--stages", "3"], 3):
             shutil.rmtree(self.at("asked"), ignore_errors=True)

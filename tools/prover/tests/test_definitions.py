@@ -1,4 +1,4 @@
-"""Tests of lines_to_believe.py, that docs/DEFINITIONS.md says what it prints, and that comments of definitions stand
+"""Tests of lines_to_believe.py, that docs/GUARANTEES.md says what it prints, and that comments of definitions stand
 alone."""
 
 import glob
@@ -153,17 +153,17 @@ class Words(unittest.TestCase):
 
 
 class Page(unittest.TestCase):
-    """docs/DEFINITIONS.md, and the definitions that stand here."""
+    """docs/GUARANTEES.md, and the definitions that stand here."""
 
     @classmethod
     def setUpClass(cls):
         cls.library = tool.Library()
-        with open(f"{TOP}/docs/DEFINITIONS.md") as page:
+        with open(f"{TOP}/docs/GUARANTEES.md") as page:
             cls.page = page.read()
 
     def test_the_page_says_what_the_tool_prints(self):
         lacking = [it for it in tool.sentences(self.library) if it not in self.page]
-        self.assertEqual(lacking, [], "docs/DEFINITIONS.md lacks what tools/prover/lines_to_believe.py prints")
+        self.assertEqual(lacking, [], "docs/GUARANTEES.md lacks what tools/prover/lines_to_believe.py prints")
         told = dict(re.findall(r"`(\w+)` \(([\d,]+)\)", self.page))
         counts = tool.lines_by_crate(self.library)
         self.assertGreater(len(told), 5)
