@@ -2,10 +2,10 @@
 """Tries the program with real sockets and processes: end_to_end.py [PROGRAM], end_to_end.py --preview, end_to_end.py --tests
 
 Each part prints a line for each row or test: the rows of words, a server, a client, a build, its store and its evidence
-(word_rows.py, server_rows.py, client_rows.py, build_rows.py, store_rows.py, evidence_rows.py), the pages, whose commands are typed
-(page_rows.py), ten seconds of requests at random beside a model (soak.py), the tests of tools/, and each command with each request
-for memory and each call of the system failing in turn (fault_rows.py, where a C compiler is installed). Where Bazel is installed,
-the round trips with it run too (bazel_roundtrip.sh, bazel_attacks.sh, and with nginx bazel_cache.sh). A line says what was left
+(word_rows.py, server_rows.py, client_rows.py, build_rows.py, store_rows.py, evidence_rows.py), two builds (compare_rows.py), the
+pages, whose commands are typed (page_rows.py), ten seconds of requests at random beside a model (soak.py), the tests of tools/, and
+each command with each request for memory and each call of the system failing in turn (fault_rows.py, where a C compiler is
+installed). Where Bazel is installed, the round trips with it run too (bazel_roundtrip.sh, bazel_attacks.sh, and with nginx bazel_cache.sh). A line says what was left
 out. PROGRAM is crates/buildcache/out/buildcache, where `rt ci` leaves it. Nothing outside this machine is asked. The last line is
 'N passed, M failed', and the status 1 where one failed.
 
@@ -31,6 +31,7 @@ import time
 
 import build_rows
 import client_rows
+import compare_rows
 import evidence_rows
 import fault_rows
 import page_rows
@@ -117,6 +118,7 @@ PARTS = {
     "a build": build_rows.try_all,
     "a store": store_rows.try_all,
     "evidence": evidence_rows.try_all,
+    "two builds": compare_rows.try_all,
     "pages": page_rows.try_all,
     "requests at random": lambda rows, program: soak.soak(program, rows, SOAK_SECONDS),
     "tests of tools/": try_tests,

@@ -24,13 +24,6 @@ UNCACHED = action_message(Digest.of(GEN_COMMAND), EMPTY, is_cacheable=False)
 FILE = File(Digest.of(LINE))
 CLAIM, OTHER_CLAIM = (Digest.of(directory_message({"result": File(Digest.of(LINE), it)})).text() for it in (False, True))
 YES = f"yes {CLAIM} steps 2\n"
-# What may be printed by each status.
-ANSWERS = {
-    0: re.escape(YES.encode()),
-    1: rb"no (?:root|step [a-z0-9_-]{1,64}) cause [a-z-]+(?: [A-Za-z0-9./%_~-]+)?\n",
-    2: b"",
-    3: b"",
-}
 
 
 def digest(blob):
@@ -142,6 +135,13 @@ STAGES = {
     **{name: content for name, content in RIGHT.items() if "/" in name}, **{blob_at(it): it for it in ENDS},
 }
 STAGES_YES = f"yes {digest(ENDS[2])} stages 3 steps 3\n"
+# What may be printed by each status.
+ANSWERS = {
+    0: re.escape(YES.encode()) + b"|" + re.escape(STAGES_YES.encode()),
+    1: rb"no (?:stage [0-9]{1,9} )?(?:root|step [a-z0-9_-]{1,64}) cause [a-z-]+(?: [A-Za-z0-9./%_~-]+)?\n",
+    2: b"",
+    3: b"",
+}
 NO_STAGE = "expected a stage's number, of 1 to 9 digits without a leading zero, and a newline\n"
 # Texts of stages, and the line at fault.
 FAULTY_STAGES = {

@@ -3,9 +3,10 @@
 
 Questions of all kinds, each by options, as a folder and as an archive: the same verdict and status, and of the files the same
 one is named. Builds in stages, with each no and fault. Digests that are said in place of the files, and folders in place of a
-claim; a server beside evidence; archives as GNU tar (where it is installed) and Python's tarfile write them, and in other orders.
+claim, with the note that says where one differs; `digest` of a large file; a server beside evidence; what a verdict looked at,
+kept as evidence by itself; archives as GNU tar (where it is installed) and Python's tarfile write them, and in other orders.
 Archives of which each field of a header is turned, or a member that isn't read is among them, are refused in the words of
-docs/FORMATS.md; so are archives that end too early, wherever. Archives that are turned at random, for ten seconds, come to what a
+docs/FORMATS.md; so are archives that end too early, wherever. Archives that are turned at random, for half a minute, come to what a
 model of that page says: a refusal, or the verdict on a folder of their files. An archive of 100,000 files (with --many of
 1,000,000) is judged in bounded memory. It prints a line for each row, and ends with status 1 where one failed. Nothing outside
 this machine is asked.
@@ -23,17 +24,18 @@ import time
 
 from archive_model import FIELDS, TWICE, NoArchive, files_of, members_of, turned, with_field
 from archive_vectors import CUT, END, NAME, TURNED, header
+from artifact_notes import try_notes
 from evidence_forms import (
-    ANSWERS, CLAIM, EMPTY, ENDS, GEN, LINE, OF_FILES, OF_STAGES, QUESTIONS, RIGHT, STAGES, STAGES_YES, TREE, YES, archive_of,
-    blob_at, by_tar, by_tarfile, changed, digest, has_gnu_tar, member, options_of, result_at, write_folder, wrong_of,
+    ANSWERS, CLAIM, DATA, EMPTY, ENDS, GEN, INPUT, LINE, NINE, OF_FILES, OF_STAGES, QUESTIONS, RIGHT, STAGES, STAGES_YES, TREE, USE, YES,
+    archive_of, blob_at, by_tar, by_tarfile, changed, digest, has_gnu_tar, member, options_of, result_at, write_folder, wrong_of,
 )
 from shared import harness, stores
 from shared.command_line import fail, program_at, words_of
 from shared.crates import TOP
 from shared.rows import Rows
 
-# How long archives are turned at random, with the built program and with any; and so many are, which come to each kind of answer.
-SECONDS, MOST_SECONDS, FEWEST = 10, 30, 100
+# How long archives are turned at random; and so many are, which come to each kind of answer.
+SECONDS, FEWEST = 30, 100
 # The files of a large archive, of which a slow program has its part, and with --many.
 FILES, MANY = 100_000, 1_000_000
 # The KiB that each file may cost, and the program beside them; a slow one may take twice that. (The reader of test_archive was
@@ -218,6 +220,85 @@ def try_servers(tried):
         tried.expect_words(f"no server beside {os.path.basename(evidence)}", told, 3, NO_SERVER)
 
 
+def kept_by(tried, path, words, out, status, evidence, named=""):
+    """What a run keeps in a file: its bytes, or None where it isn't written; and what is wrong with it."""
+    stores.forget(path)
+    wrong = wrong_of(tried.verify(*words, "--keep", path), evidence, out, status, named)
+    kept = stores.read_file(path) if os.path.exists(path) else None
+    if kept is None or wrong or status > 1:
+        return kept, wrong or (kept is None) != (status > 1) and (status, kept)
+    return kept, wrong_of(tried.verify(path), path, out, status)
+
+
+def try_kept(tried):
+    """What a verdict looks at, kept in one file: evidence by itself with the same line, alike by whatever form it was asked."""
+    path = f"{tried.place}/kept"
+    for name, (changes, out, status, named) in {**QUESTIONS, **OF_STAGES}.items():
+        files = changed(changes, STAGES if name in OF_STAGES else RIGHT)
+        folder, archive = tried.folder(files), tried.archive(archive_of(files))
+        seen = [kept_by(tried, path, [it], out, status, it, named) for it in (folder, archive)]
+        if name in QUESTIONS and not re.match("claim|sources", named):
+            seen.append(kept_by(tried, path, options_of(folder, files), out, status, folder, named))
+        wrong = next((it for _, it in seen if it), None)
+        tried.rows.tell(f"kept: {name}: status {status}", not wrong and len({it for it, _ in seen}) == 1, wrong or seen)
+    try_kept_members(tried, path)
+    try_kept_of_server(tried, path)
+    try_not_kept(tried, path)
+
+
+def try_kept_members(tried, path):
+    """It has what was looked at, and no more."""
+    names = sorted({*RIGHT} - {blob_at(DATA), blob_at(INPUT)})
+    kept_by(tried, path, [tried.folder(RIGHT)], YES, 0, "")
+    with tarfile.open(path) as archive:
+        members = {it.name: (archive.extractfile(it).read(), it.mode, it.mtime, it.uid, it.uname) for it in archive}
+    wanted = {name: (RIGHT[name].removesuffix(LINE) + LINE * ("/" not in name), 0o644, 0, 0, "") if name in ("sources", "claim")
+              else (RIGHT[name], 0o644, 0, 0, "") for name in names}
+    tried.rows.tell("kept: what was looked at, sorted", [*members.items()] == [*wanted.items()], [*members])
+    once = stores.read_file(path)
+    wrong = kept_by(tried, f"{path} again", [path], YES, 0, path)[1]
+    tried.rows.tell("kept: of it again the same bytes", not wrong and stores.read_file(f"{path} again") == once, wrong)
+
+
+def try_kept_of_server(tried, path):
+    """Kept from a server, which has ended when it is judged."""
+    folder = tried.folder({name: content for name, content in RIGHT.items() if "/" not in name})
+    with harness.Server(tried.program) as server:
+        store = stores.ServerStore(server.address, "")
+        complete = {**RIGHT, **{blob_at(it): it for it in (NINE, LINE)}}
+        for name, content in sorted(complete.items(), key=lambda it: "store/ac" in it[0]):
+            if "/" in name:
+                store.put(*name.split("/")[1:], content)
+        store.close()
+        words = options_of(folder, RIGHT)
+        words[words.index("--store"):] = ["--server", server.address]
+        kept, wrong = kept_by(tried, path, words, YES, 0, folder)
+    told = tried.verify(path)
+    tried.rows.tell("kept from serve, which then ended", not wrong and (told.stdout, told.returncode) == (YES.encode(), 0), wrong or told)
+    folder_kept, _ = kept_by(tried, path, [tried.folder(RIGHT)], YES, 0, "")
+    tried.rows.tell("kept from serve as from a folder", kept == folder_kept, kept)
+
+
+def try_not_kept(tried, path):
+    """Where the file can't be written, nothing is asked and nothing printed; where it isn't, what stands there stays."""
+    folder, archive = tried.folder(RIGHT), tried.archive(archive_of(RIGHT))
+    for name, it in (("an empty path", ""), ("the evidence", archive)):
+        told = tried.verify(archive, "--keep", it)
+        tried.rows.tell(f"not kept: {name}: status 2", (told.returncode, told.stdout) == (2, b"") and harness.is_error(told.stderr), told)
+    told = tried.verify(*options_of(folder, RIGHT), "--keep", f"{folder}/plan")
+    right = (told.returncode, told.stdout, told.stderr) == (2, b"", b"error: --keep cannot name the file of --plan\n")
+    tried.rows.tell("not kept: the plan's file: status 2", right, told)
+    for name, it in (("a folder", folder), ("no folder", f"{tried.place}/none/kept"), ("a device", "/dev/full")):
+        tried.expect_words(f"not kept: {name}", tried.verify(NO_SERVER, "--keep", it), 3, f'"{it}"')
+    stores.write_file(path, b"before")
+    tried.expect_words("not kept: a fault of what is asked", tried.verify(tried.folder(changed({"plan": None})), "--keep", path), 3,
+                       f'"{tried.place}/folder/plan"')
+    twice = changed({"record": RIGHT["record"].replace(digest(USE).encode(), digest(GEN).encode().rpartition(b"/")[0] + b"/9")})
+    told = tried.verify(tried.folder(twice), "--keep", path)
+    tried.expect_words("not kept: two digests with one hash", told, 3, f'"{path}"')
+    tried.rows.tell("not kept: what stands there stays", stores.read_file(path) == b"before", path)
+
+
 def try_archives(tried):
     """Archives of the same files, by several hands."""
     folder = tried.folder(RIGHT)
@@ -304,8 +385,8 @@ def try_cuts(tried):
         tried.rows.tell(f"{name} archive of {len(archive)} bytes, cut at {len(places)} places", not wrong, wrong)
 
 
-def wrong_of_turned(tried, archive, seen):
-    """What is wrong with what is told of an archive that was turned, or None."""
+def wrong_of_turned(tried, archive, whole, yes, seen):
+    """What is wrong with what is told of an archive that was turned, or None; with all of these files it has this yes."""
     told = tried.verify(path := tried.archive(archive))
     seen[told.returncode] += 1
     try:
@@ -314,27 +395,32 @@ def wrong_of_turned(tried, archive, seen):
         at, words = refused.args
         seen[words] += 1
         return wrong_of(told, path, "", 2, f'": at byte {at}: {words}\n')
-    if files.items() >= RIGHT.items():
-        return wrong_of(told, path, YES, 0)
+    if files.items() >= whole.items():
+        return wrong_of(told, path, yes, 0)
     is_line = told.returncode in ANSWERS and re.fullmatch(ANSWERS[told.returncode], told.stdout)
     if not is_line or not harness.is_told(told.stderr, told.returncode):
         return told
-    if any(it in ("store", "store/cas", "store/ac") or it.startswith(tuple(f"{name}/" for name in RIGHT)) for it in files):
+    folders = {"store", "store/cas", "store/ac", *(name.partition("/")[0] for name in whole if name[0].isdigit())}
+    if any(it in folders or it.startswith(tuple(f"{name}/" for name in whole)) for it in files):
         return None  # (a folder with these files is another one)
     seen["as a folder"] += 1
-    alike = tried.verify(tried.folder({name: it for name, it in files.items() if name in RIGHT or name.startswith("store/")}))
+    alike = tried.verify(tried.folder({name: it for name, it in files.items() if name in whole or name.startswith("store/")}))
     return None if (alike.stdout, alike.returncode) == (told.stdout, told.returncode) else (told, alike)
 
 
 def try_turned(tried):
     """Archives that are turned at random; each has the seed of its number."""
-    archives = [archive_of(RIGHT), archive_of(RIGHT, "./", with_folders=True), by_tarfile(RIGHT, tarfile.PAX_FORMAT)]
+    archives = [
+        *((it, RIGHT, YES) for it in (archive_of(RIGHT), archive_of(RIGHT, "./", with_folders=True))),
+        (by_tarfile(RIGHT, tarfile.PAX_FORMAT), RIGHT, YES), (archive_of(STAGES), STAGES, STAGES_YES),
+    ]
     seen, number, wrong = collections.Counter(), 0, None
-    end = time.monotonic() + min(harness.within(SECONDS), MOST_SECONDS)
+    end = time.monotonic() + SECONDS
     while (time.monotonic() < end or number < FEWEST) and not wrong:
         number += 1
         chance = random.Random(number)
-        wrong = wrong_of_turned(tried, turned(chance, chance.choice(archives)), seen)
+        archive, whole, yes = chance.choice(archives)
+        wrong = wrong_of_turned(tried, turned(chance, archive), whole, yes, seen)
     tried.rows.tell(f"{number} archives that were turned at random", not wrong, f"seed {number}: {wrong}")
     tried.rows.tell("they are judged and refused in several ways", seen[0] and seen[1] and seen[2] and len(seen) > 8, seen)
 
@@ -359,7 +445,8 @@ def try_many(tried, count):
 def try_all(rows, program, count=None):
     with tempfile.TemporaryDirectory() as place:
         tried = Evidence(program, place, rows)
-        for part in (try_questions, try_stages, try_said, try_artifacts, try_servers, try_archives, try_hostile, try_cuts, try_turned):
+        for part in (try_questions, try_stages, try_said, try_artifacts, try_notes, try_servers, try_kept, try_archives, try_hostile, try_cuts,
+                     try_turned):
             part(tried)
         try_many(tried, count or FILES // harness.SLOWNESS)
 

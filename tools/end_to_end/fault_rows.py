@@ -138,6 +138,8 @@ class Commands:
         stores.write_file(f"{self.folder}/shipped/made/a", NINE)
         for name in ("a", "b/a"):
             stores.write_file(f"{self.folder}/tree/{name}", NINE)
+        harness.run(self.program, "verify", f"{self.folder}/archive", "--keep", f"{self.folder}/whole")
+        self.whole = stores.read_file(f"{self.folder}/whole")
 
     def run(self, fault, *words):
         return harness.run(self.program, *words, seconds=SECONDS, env=fault.environment())
@@ -198,6 +200,17 @@ class Commands:
         is_right = left == record if done.returncode == 0 else left is None or is_unsaid and left == record
         return wrong or (None if is_right and (fault or done.returncode == 0) else (done, left))
 
+    def kept(self, fault):
+        """What a verdict looks at, kept in a file: whole where the verdict is told, and where only its line couldn't be written."""
+        path = f"{self.folder}/kept-{os.path.basename(fault.told)}-{fault.number}"
+        words = ["verify", f"{self.folder}/archive", "--keep", path]
+        wrong = wrong_of(done := self.run(fault, *words), f"yes {self.claim} steps 1\n".encode(), 0, fault.failed())
+        left = stores.read_file(path) if os.path.exists(path) else None
+        is_unsaid = done.returncode == 3 and fault.failed() in WRITES
+        is_right = left == self.whole if done.returncode == 0 else left is None or is_unsaid and left == self.whole
+        stores.forget(path)
+        return wrong or (None if is_right else (done, left))
+
     def all(self):
         server, store = ["--server", self.server.address], ["--store", f"{self.folder}/store"]
         nine, large = Digest.of(NINE).text(), Digest.of(LARGE).text()
@@ -220,6 +233,9 @@ class Commands:
             "verify over an archive: no": self.asked(no, 1, "verify", archive, "--claim", EMPTY.text()),
             "verify of a folder, over an archive": self.asked(yes, 0, "verify", archive, "--artifact", f"{self.folder}/shipped"),
             "verify over stages": self.asked(yes.replace(b"steps", b"stages 1 steps"), 0, "verify", f"{self.folder}/stages"),
+            "verify over an archive, and it is kept": self.kept,
+            "compare of a folder and an archive": self.asked(yes.replace(b"yes", b"same"), 0, "compare", evidence, archive),
+            "compare of no archive": self.asked(b"", 2, "compare", archive, f"{self.folder}/plan"),
             "verify over no archive": self.asked(b"", 2, "verify", f"{self.folder}/plan"),
             "verify over an archive and a server": self.asked(yes, 0, "verify", archive, *server),
             "verify by results of a folder": self.verify([*server, "--results", f"{self.folder}/store"], self.claim, yes, 0),

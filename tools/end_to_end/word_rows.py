@@ -28,6 +28,7 @@ COMMANDS = {
     "put": ({"server": ADDRESS}, {"prefix": "/p", "timeout": "1"}, ["plan"]),
     "get": ({"server": ADDRESS}, {"prefix": "/p", "timeout": "1", "into": "tree"}, [EMPTY.text()]),
     "digest": ({}, {}, ["plan"]),
+    "compare": ({}, {}, ["evidence", "other"]),
     "build": ({"server": ADDRESS, "sources": EMPTY.text(), "plan": "plan", "record": "made", "work": "work"},
               {"prefix": "/p", "timeout": "1", "jobs": "1"}, []),
 }

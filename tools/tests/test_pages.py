@@ -60,7 +60,7 @@ class Pages(unittest.TestCase):
         """All words of README and docs/, as `wc -w` counts them."""
         pages = [f"{TOP}/README.md", *glob.glob(f"{TOP}/docs/*.md")]
         words = sum(len(text_of(it).split()) for it in pages)
-        self.assertLessEqual(words, 14200, "what stands twice goes; what one crate or tool alone needs goes to its README")
+        self.assertLessEqual(words, 15200, "what stands twice goes; what one crate or tool alone needs goes to its README")
 
 
 class Pictures(unittest.TestCase):

@@ -7,11 +7,12 @@ use Rattle.command_lines.specs.CommandLine.{CallsCommand, options_of, program_li
 use Rattle.cli.specs.Built.{BeginsBuild, Below, PrintsBuild}
 use Rattle.cli.specs.Refused.{FailsBuild}
 use Rattle.cli.specs.Ended.{BeginsAsked, EndsNo, Fails, IsDone}
-use Rattle.cli.specs.Ended.BeginsAsked.{built as build_begun, hashed as digest_begun, got as get_begun, put as put_begun, served as serve_begun, verified as verify_begun}
+use Rattle.cli.specs.Ended.BeginsAsked.{built as build_begun, compared as compare_begun, hashed as digest_begun, got as get_begun, put as put_begun, served as serve_begun, verified as verify_begun}
 use Rattle.cli.specs.Running.{Ends, TellsEnd}
-use Rattle.cli.specs.Ended.Fails.{in_build, in_digest, in_get, in_put, in_serve, in_verify}
-use Rattle.cli.specs.Ended.IsDone.{built, got, yes}
-use Rattle.cli.specs.Ended.IsNo.{failed, no, none}
+use Rattle.cli.specs.Ended.Fails.{in_build, in_compare, in_digest, in_get, in_put, in_serve, in_verify}
+use Rattle.cli.specs.Ended.IsDone.{built, got, same, yes}
+use Rattle.cli.specs.Ended.IsNo.{differ, failed, no, none}
+use Rattle.commands.specs.Compared.{BeginsComparison, ComparesAsked, FailsCompare}
 use Rattle.commands.specs.Digested.{BeginsDigestRead, FailsDigest}
 use Rattle.commands.specs.Verified.{BeginsAnswer, FailsAsked, VerifiesAsked}
 use Rattle.commands.specs.Printed.{BeginsDigest, BeginsListening, GetsAsked, GetsPart}
@@ -56,6 +57,10 @@ module _ {sees : Sight} (below : Below) (words : List Text) {rows : List Row} (i
   verify_ends {old} {new} Done called h = yes called (subst (λ (o : List Row). VerifiesAsked sees o old new Done) is h)
   verify_ends {old} {new} (No note) called h = no called (subst (λ (o : List Row). VerifiesAsked sees o old new (No note)) is h)
 
+  pub compare_ends : (old new : Option (List ℕ)) (ended : Ended) → CallsCommand words (codes "compare") → ComparesAsked sees rows old new ended → Ends sees below words old new ended
+  compare_ends old new Done called h = same called (subst (λ (o : List Row). ComparesAsked sees o old new Done) is h)
+  compare_ends old new (No note) called h = differ called (subst (λ (o : List Row). ComparesAsked sees o old new (No note)) is h)
+
   pub get_ends : {old new : Option (List ℕ)} (ended : Ended) → CallsCommand words (codes "get") → GetsAsked sees rows old new ended → Ends sees below words old new ended
   get_ends {old} {new} Done called h = got called (subst (λ (o : List Row). GetsAsked sees o old new Done) is h)
   get_ends {old} {new} (No note) called h = none called (subst (λ (o : List Row). GetsAsked sees o old new (No note)) is h)
@@ -82,6 +87,9 @@ module _ {sees : Sight} {below : Below} (words : List Text) {rows : List Row} (i
   pub put_begins : {old new : Option (List ℕ)} → CallsCommand words (codes "put") → BeginsDigest sees rows old new → BeginsAsked sees below words old new
   put_begins {old} {new} called h = put_begun called (subst (λ (o : List Row). BeginsDigest sees o old new) is h)
 
+  pub compare_begins : {old new : Option (List ℕ)} → CallsCommand words (codes "compare") → BeginsComparison sees rows old new → PrintsNoLine old new → BeginsAsked sees below words old new
+  compare_begins {old} {new} called h unended = compare_begun called (subst (λ (o : List Row). BeginsComparison sees o old new) is h) unended
+
   pub digest_begins : {old new : Option (List ℕ)} → CallsCommand words (codes "digest") → BeginsDigestRead sees rows old new → BeginsAsked sees below words old new
   digest_begins {old} {new} called h = digest_begun called (subst (λ (o : List Row). BeginsDigestRead sees o old new) is h)
 
@@ -93,6 +101,9 @@ module _ {sees : Sight} {below : Below} (words : List Text) {rows : List Row} (i
 
   pub put_fails : (e : CommandError) → CallsCommand words (codes "put") → FailsPut sees rows e → Fails sees below words e
   put_fails e called h = in_put called (subst (λ (o : List Row). FailsPut sees o e) is h)
+
+  pub compare_fails : (e : CommandError) → CallsCommand words (codes "compare") → FailsCompare sees rows e → Fails sees below words e
+  compare_fails e called h = in_compare called (subst (λ (o : List Row). FailsCompare sees o e) is h)
 
   pub digest_fails : (e : CommandError) → CallsCommand words (codes "digest") → FailsDigest sees rows e → Fails sees below words e
   digest_fails e called h = in_digest called (subst (λ (o : List Row). FailsDigest sees o e) is h)

@@ -8,6 +8,7 @@ use Rattle.command_lines.specs.CommandLine.{CallsCommand, options_of, program_li
 use Rattle.cli.specs.Built.{BeginsBuild, Below, PrintsBuild}
 use Rattle.cli.specs.Help.{IsTip, help_asked, version_line}
 use Rattle.cli.specs.Refused.{FailsBuild}
+use Rattle.commands.specs.Compared.{BeginsComparison, ComparesAsked, FailsCompare}
 use Rattle.commands.specs.Digested.{BeginsDigestRead, FailsDigest, PrintsDigestRead}
 use Rattle.commands.specs.Verified.{BeginsAnswer, FailsAsked, VerifiesAsked}
 use Rattle.commands.specs.Printed.{BeginsDigest, BeginsListening, GetsAsked, GetsPart}
@@ -42,12 +43,14 @@ pub data BeginsShown (words : List Text) (old new : Option (List ℕ)) : Type 0 
   help : WantsHelp words → AppendsBeginning old new (help_asked words) → BeginsShown words old new
   version : WantsVersion words → AppendsBeginning old new version_line → BeginsShown words old new
 
--- The line of a yes was printed, or a blob, or the line of the digest of what was put or read, or
--- that of the address where connections were served, or that of a build's root, or the help or the
--- version.
+-- The line of a yes was printed, or that of two builds that are the same, or a blob, or the line of
+-- the digest of what was put or read, or that of the address where connections were served, or that
+-- of a build's root, or the help or the version.
 pub data IsDone (sees : Sight) (below : Below) (words : List Text) (old new : Option (List ℕ))
     : Type 0 where
   yes : CallsCommand words (codes "verify") → VerifiesAsked sees (options_of words) old new Done
+      → IsDone sees below words old new
+  same : CallsCommand words (codes "compare") → ComparesAsked sees (options_of words) old new Done
       → IsDone sees below words old new
   got : CallsCommand words (codes "get") → GetsAsked sees (options_of words) old new Done
       → IsDone sees below words old new
@@ -61,12 +64,15 @@ pub data IsDone (sees : Sight) (below : Below) (words : List Text) (old new : Op
       → PrintsBuild sees below (options_of words) old new Done → IsDone sees below words old new
   shown : ShowsAsked words old new → IsDone sees below words old new
 
--- The line of a no was printed, or nothing since there is no such blob, or the line of a build's
--- refusal. The note is of a store folder that isn't there, that there is no such blob, or why.
+-- The line of a no was printed, or that of two builds that differ, or nothing since there is no such
+-- blob, or the line of a build's refusal. The note is of a store folder that isn't there, of where a
+-- folder isn't what builds make, that there is no such blob, or why.
 pub data IsNo (sees : Sight) (below : Below) (words : List Text) (note : Option Note)
     (old new : Option (List ℕ)) : Type 0 where
   no : CallsCommand words (codes "verify")
       → VerifiesAsked sees (options_of words) old new (No note) → IsNo sees below words note old new
+  differ : CallsCommand words (codes "compare")
+      → ComparesAsked sees (options_of words) old new (No note) → IsNo sees below words note old new
   none : CallsCommand words (codes "get") → GetsAsked sees (options_of words) old new (No note)
       → IsNo sees below words note old new
   failed : CallsCommand words (codes "build")
@@ -83,12 +89,15 @@ pub record EndsNo (sees : Sight) (below : Below) (words : List Text)
 -- ---- why they come to neither
 
 -- What the words ask for was begun: the help, the version, or what the called command answers. Of
--- `verify` no line is whole.
+-- `verify` and `compare` no line is whole.
 pub data BeginsAsked (sees : Sight) (below : Below) (words : List Text)
     (old new : Option (List ℕ)) : Type 0 where
   shown : BeginsShown words old new → BeginsAsked sees below words old new
   verified : CallsCommand words (codes "verify") → BeginsAnswer sees (options_of words) old new
       → PrintsNoLine old new → BeginsAsked sees below words old new
+  compared : CallsCommand words (codes "compare")
+      → BeginsComparison sees (options_of words) old new → PrintsNoLine old new
+      → BeginsAsked sees below words old new
   got : CallsCommand words (codes "get") → GetsPart sees (options_of words) old new
       → BeginsAsked sees below words old new
   put : CallsCommand words (codes "put") → BeginsDigest sees (options_of words) old new
@@ -130,6 +139,8 @@ pub data FailsInWords (words : List Text) (e : CommandError) : Type 0 where
 pub data Fails (sees : Sight) (below : Below) (words : List Text) (e : CommandError) : Type 0 where
   in_words : FailsInWords words e → Fails sees below words e
   in_verify : CallsCommand words (codes "verify") → FailsAsked sees (options_of words) e
+      → Fails sees below words e
+  in_compare : CallsCommand words (codes "compare") → FailsCompare sees (options_of words) e
       → Fails sees below words e
   in_build : CallsCommand words (codes "build") → FailsBuild sees below (options_of words) e
       → Fails sees below words e

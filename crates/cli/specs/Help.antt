@@ -3,7 +3,8 @@ use Rattle.std.specs.Prelude.{◌≡◌, ◌≢◌, ℕ, List, [], ◌∷◌, by
 use Rattle.clap.specs.Words.{Text}
 use Rattle.clap.specs.declared.error.kind.ErrorKind.{ErrorKind}
 use Rattle.clap.specs.declared.error.kind.ErrorKind.TheVariants.{InvalidSubcommand}
-use Rattle.cli.specs.declared.help.TheConstants.{BUILD, DIGEST, GET, PROGRAM, PUT, SERVE, VERIFY}
+use Rattle.cli.specs.declared.help.TheConstants.{BUILD, COMPARE, DIGEST, GET, PROGRAM, PUT, SERVE}
+use Rattle.cli.specs.declared.help.TheConstants.{VERIFY}
 
 -- the help of a command, and that of the program where no command has the name
 abbrev pub help_on : Text → List ℕ
@@ -13,7 +14,8 @@ help_on name =
     else (if bytes_eq name (codes "put") then PUT.now
     else (if bytes_eq name (codes "get") then GET.now
     else (if bytes_eq name (codes "digest") then DIGEST.now
-    else (if bytes_eq name (codes "build") then BUILD.now else PROGRAM.now)))))
+    else (if bytes_eq name (codes "build") then BUILD.now
+    else (if bytes_eq name (codes "compare") then COMPARE.now else PROGRAM.now))))))
 
 -- the help that words ask for: that of the command that they name first, and else the program's
 abbrev pub help_asked : List Text → List ℕ

@@ -7,12 +7,13 @@ Keeps blobs and results of builds, and verifies builds from digests
 Usage: buildcache <COMMAND>
 
 Commands:
-  serve   Serve a cache over HTTP
-  verify  Say whether every build of a plan ends in exactly the claimed root
-  put     Upload a file, or a folder with all below it, and print its digest
-  get     Write a blob to standard output, or a tree into a folder
-  digest  Print the digest of a file, or of a folder with all below it
-  build   Build a plan, and write the record of the build
+  serve    Serve a cache over HTTP
+  verify   Say whether every build of a plan ends in exactly the claimed root
+  put      Upload a file, or a folder with all below it, and print its digest
+  get      Write a blob to standard output, or a tree into a folder
+  digest   Print the digest of a file, or of a folder with all below it
+  build    Build a plan, and write the record of the build
+  compare  Say in which step two recorded builds of a plan differ
 
 Options:
   -h, --help     Print help
@@ -75,13 +76,15 @@ Options:
       --claim <DIGEST>     Claimed digest of the root, HASH/SIZE
       --artifact <FOLDER>  Folder whose tree is the claimed root, as it is read
       --no-bits            Take each file of that folder as not executable, as put does
+      --keep <FILE>        Archive to write of all that the verdict looks at: evidence by itself, on
+                           which verify prints the same line
   -h, --help               Print help
 
 Status:
   0  Yes
   1  No, for the cause on standard output
   2  The command line, a digest, the plan or the record is invalid
-  3  A file, the server, standard output or memory failed: no verdict
+  3  A file, the server, standard output or memory failed: no verdict, and nothing kept
 ";
 
 const PUT: &str = "\
@@ -175,6 +178,26 @@ Status:
   3  A file, the server, a process or memory failed
 ";
 
+const COMPARE: &str = "\
+Say in which step two recorded builds of a plan differ
+
+Usage: buildcache compare <EVIDENCE> <EVIDENCE>
+
+Arguments:
+  <EVIDENCE>  A folder with the files sources, claim, plan and record and the folder store, or a
+              tar archive of it (docs/FORMATS.md); of one plan, not of a build in stages. Both are
+              verified first
+
+Options:
+  -h, --help  Print help
+
+Status:
+  0  The same: each step came to the same outputs, and the roots are one
+  1  They differ, as standard output says; or one has a no
+  2  The command line, a digest, a plan or a record is invalid
+  3  A file, standard output or memory failed: nothing is said
+";
+
 /// The help of a command, and that of the program where no command has the name.
 fn help_on(name: &str) -> &'static str
     ensures { result.now ≡ help_on name.now }
@@ -186,6 +209,7 @@ fn help_on(name: &str) -> &'static str
         "get" => GET,
         "digest" => DIGEST,
         "build" => BUILD,
+        "compare" => COMPARE,
         _ => PROGRAM,
     }
 }

@@ -11,8 +11,8 @@ use crate::showing::show;
 use crate::workplace::Workplace;
 use command_lines::parse;
 use commands::{
-    Archives, CommandError, Ended, Hosting, Inputs, Outputs, run_digest, run_get, run_put,
-    run_serve, run_verify, tell, tell_note,
+    Archives, CommandError, Ended, Hosting, Inputs, Outputs, run_compare, run_digest, run_get,
+    run_put, run_serve, run_verify, tell, tell_note,
 };
 use std::alloc::Global;
 use std::io::Write;
@@ -130,6 +130,7 @@ where
     };
     match command {
         "verify" => Ok(run_verify(rt.alloc(), world, inner, out)?),
+        "compare" => Ok(run_compare(rt.alloc(), world, inner, out)?),
         "put" => {
             run_put(rt, world, inner, out, terminal)?;
             Ok(Ended::Done)

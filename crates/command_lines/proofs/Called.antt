@@ -14,7 +14,7 @@ use Rattle.command_lines.specs.CommandLine.{CallsCommand, program_line}
 
 -- the name of one of the commands
 abbrev pub IsOne : Text → Type 0
-IsOne name = (name ≡ codes "serve") ⊎ ((name ≡ codes "verify") ⊎ ((name ≡ codes "put") ⊎ ((name ≡ codes "get") ⊎ ((name ≡ codes "digest") ⊎ (name ≡ codes "build")))))
+IsOne name = (name ≡ codes "serve") ⊎ ((name ≡ codes "verify") ⊎ ((name ≡ codes "put") ⊎ ((name ≡ codes "get") ⊎ ((name ≡ codes "digest") ⊎ ((name ≡ codes "build") ⊎ (name ≡ codes "compare"))))))
 
 pub record CallsOne (words : List Text) : Type 0 where
   pub name : Text
@@ -64,7 +64,7 @@ level_checked s names h words has below required none =
 
 all_named : AllByRecursion (λ s. IsOne s.name) (built program_line).subs
 unfolding clap_on_literals
-all_named = (inl refl, (inr (inl refl), (inr (inr (inl refl)), (inr (inr (inr (inl refl))), (inr (inr (inr (inr (inl refl)))), (inr (inr (inr (inr (inr refl)))), tt))))))
+all_named = (inl refl, (inr (inl refl), (inr (inr (inl refl)), (inr (inr (inr (inl refl))), (inr (inr (inr (inr (inl refl)))), (inr (inr (inr (inr (inr (inl refl))))), (inr (inr (inr (inr (inr (inr refl))))), tt)))))))
 
 command_required : (built program_line).top.subcommand_required ≡ true
 unfolding clap_on_literals

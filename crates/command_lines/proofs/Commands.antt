@@ -62,7 +62,10 @@ verify_knows = record {
                     knows (built_in_program verify_line) false (codes "claim") refl refl refl (λ t. refl) refl (λ t. refl),
                     (
                       knows (built_in_program verify_line) false (codes "artifact") refl refl refl (λ t. refl) refl (λ t. refl),
-                      tt,
+                      (
+                        knows (built_in_program verify_line) false (codes "keep") refl refl refl (λ t. refl) refl (λ t. refl),
+                        tt,
+                      ),
                     ),
                   ),
                 ),

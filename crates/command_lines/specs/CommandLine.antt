@@ -61,9 +61,9 @@ placed_line =
 
 abbrev pub verify_line : App
 verify_line =
-    may_take_word (has_flag (may_have (may_have (may_have (may_have (may_have placed_line
+    may_take_word (has_flag (may_have (may_have (may_have (may_have (may_have (may_have placed_line
     (codes "sources")) (codes "plan")) (codes "record")) (codes "claim")) (codes "artifact"))
-    (codes "no-bits")) (codes "evidence")
+    (codes "keep")) (codes "no-bits")) (codes "evidence")
 
 -- `serve` and its options
 abbrev pub serve_line : App
@@ -84,6 +84,11 @@ get_line = may_have (takes_word (client_line (codes "get")) (codes "digest")) (c
 abbrev pub digest_line : App
 digest_line = takes_word (has_flag (new_app (codes "digest")) (codes "no-bits")) (codes "path")
 
+-- `compare` with two folders or archives
+abbrev pub compare_line : App
+compare_line =
+    takes_word (takes_word (new_app (codes "compare")) (codes "evidence")) (codes "other")
+
 -- `build` and its options
 abbrev pub build_line : App
 build_line =
@@ -96,14 +101,15 @@ build_line =
 abbrev pub program_line : App
 program_line =
     with_subcommand (with_subcommand (with_subcommand (with_subcommand (with_subcommand
-    (with_subcommand (on_top (λ s.
+    (with_subcommand (with_subcommand (on_top (λ s.
     record s {
       has_version = true;
       no_binary_name = true;
       subcommand_required = true;
       disable_help_subcommand = true;
     }) (new_app (codes "buildcache")))
-    serve_line.top) verify_line.top) put_line.top) get_line.top) digest_line.top) build_line.top
+    serve_line.top) verify_line.top) put_line.top) get_line.top) digest_line.top) build_line.top)
+    compare_line.top
 
 -- ---- what the words ask for
 
@@ -132,7 +138,7 @@ IsAtFault words kind = fault_of program_line words ≡ kind ∷ []
 abbrev pub EachIsAtFault : List Text → ErrorKind → Type 0
 EachIsAtFault words kind =
     AllByRecursion (λ (line : App). IsAtFault (line.top.name ∷ words) kind)
-    (serve_line ∷ verify_line ∷ put_line ∷ get_line ∷ digest_line ∷ build_line ∷ [])
+    (serve_line ∷ verify_line ∷ put_line ∷ get_line ∷ digest_line ∷ build_line ∷ compare_line ∷ [])
 
 -- ---- examples
 

@@ -3,7 +3,8 @@ ghost use Rattle.clap.specs.Words.{FailsBy, app_of, fault_of, rule_of, subcomman
 ghost use Rattle.clap.specs.Words.{subcommand_rows_of};
 ghost use Rattle.command_lines.specs.CommandLine.{flag, optional_option, optional_word};
 ghost use Rattle.command_lines.specs.CommandLine.{required_option, required_word};
-ghost use Rattle.command_lines.specs.CommandLine.{build_line, client_line, digest_line, get_line};
+ghost use Rattle.command_lines.specs.CommandLine.{build_line, client_line, compare_line};
+ghost use Rattle.command_lines.specs.CommandLine.{digest_line, get_line};
 ghost use Rattle.command_lines.specs.CommandLine.{placed_line, program_line, put_line};
 ghost use Rattle.command_lines.specs.CommandLine.{serve_line, verify_line};
 
@@ -83,6 +84,7 @@ fn verify_command<'a>(alloc: Global) -> Result<Command<'a>, AllocError>
         .arg(optional(alloc, "record", "FILE"))?
         .arg(optional(alloc, "claim", "DIGEST"))?
         .arg(optional(alloc, "artifact", "FOLDER"))?
+        .arg(optional(alloc, "keep", "FILE"))?
         .arg(flag(alloc, "no-bits"))?
         .arg(optional_word(alloc, "evidence", "EVIDENCE"))
 }
@@ -124,6 +126,14 @@ fn digest_command<'a>(alloc: Global) -> Result<Command<'a>, AllocError>
         .arg(word(alloc, "path", "PATH"))
 }
 
+fn compare_command<'a>(alloc: Global) -> Result<Command<'a>, AllocError>
+    ensures { IfOk result (λ c. app_of c ≡ compare_line) }
+{
+    Command::new(alloc, "compare")
+        .arg(word(alloc, "evidence", "EVIDENCE"))?
+        .arg(word(alloc, "other", "EVIDENCE"))
+}
+
 fn get_command<'a>(alloc: Global) -> Result<Command<'a>, AllocError>
     ensures { IfOk result (λ c. app_of c ≡ get_line) }
 {
@@ -159,7 +169,8 @@ fn program<'a>(alloc: Global) -> Result<Command<'a>, AllocError>
         .subcommand(put_command(alloc)?)?
         .subcommand(get_command(alloc)?)?
         .subcommand(digest_command(alloc)?)?
-        .subcommand(build_command(alloc)?)
+        .subcommand(build_command(alloc)?)?
+        .subcommand(compare_command(alloc)?)
 }
 
 /// The program's words, read.

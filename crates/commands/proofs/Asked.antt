@@ -1,6 +1,6 @@
 -- What is said of evidence, and of options without it.
 use Rattle.std.proofs.Common.{◌≡◌, ℕ, Bool, cond, true, false, List, ◌∷◌, ◌++◌, [], Option, None, Some, inl, inr, refl, string_bytes, subst, sym, true≢false, ◌∙◌}
-use Rattle.std.specs.Prelude.{IfOk, OnErr, OnOk, Result, Ok, Err, codes, option_and_then, slice_get}
+use Rattle.std.specs.Prelude.{IfOk, IfSome, Result, Ok, Err, codes, option_and_then, slice_get}
 use Rattle.std.specs.Map.{lookup}
 use Rattle.std.specs.declared.alloc.Global.{Global}
 use Rattle.std.proofs.lemmas.List.{append_cancel_left}
@@ -12,47 +12,20 @@ use Rattle.archive.specs.Reader.{FailsAt}
 use Rattle.clap.specs.Words.{Row, Text, first_of}
 use Rattle.remote.specs.declared.files.FileError.{FileError}
 use Rattle.remote.specs.declared.files.FileError.TheVariants as errors
-use Rattle.commands.specs.Verified.FailsBehind.{behind, in_memory, in_words}
+use Rattle.commands.specs.Verified.FailsBehind.{behind, in_memory}
 use Rattle.commands.specs.Evidence.InEvidence.{archive}
 use Rattle.commands.specs.Faults.{OrMemory}
-use Rattle.commands.specs.declared.ended.Ended.{Ended}
-use Rattle.commands.specs.Evidence.{HoldsArchive, InEvidence, IsNothingThere, IsSameFault, StatesDigests, artifact_words, entries_option, evidence_options, given, in_evidence, options_in, sees_archive, words_of}
+use Rattle.commands.specs.declared.judgement.Judgement.{Judgement}
+use Rattle.commands.specs.Evidence.{HoldsArchive, InEvidence, IsNothingThere, IsSameFault, StatesDigests, asked_words, entries_option, evidence_options, given, in_evidence, options_in, sees_archive}
 use Rattle.command_lines.specs.CommandLine.{option_text}
 use Rattle.text_verifier.specs.Texts.{IsDigestText}
 use Rattle.text_verifier.specs.declared.reading.Digests.{Digests}
 use Rattle.commands.specs.Stages.{SpellsDigests, StagesAsked}
-use Rattle.commands.specs.Verified.{BeginsAnswer, BeginsClaim, BeginsNamed, FailsAsked, FailsBehind, FailsClaimed, FailsNamed, OnAsked, OnClaim, OnNamed}
-use Rattle.commands.specs.Words.{AllValid, Check, FailsFirst}
+use Rattle.commands.specs.Verified.{AnswersAndKeeps, AnswersAsked, AnswersSaid, FailsBehind, FailsClaimed, FailsNamed, KeepsEvidence, OnClaim, OnNamed}
+use Rattle.commands.specs.Words.{AllValid, Check}
 use Rattle.commands.specs.World.{Sight}
 use Rattle.commands.specs.declared.error.CommandError.{CommandError}
-use Rattle.commands.proofs.Checking.{fails_in}
 use Rattle.commands.specs.declared.evidence_options.EvidenceOptions.{EvidenceOptions}
-
-module _ (sees : Sight) (options : List Row) (named : Option (List ℕ)) (is : first_of (codes "evidence") options ≡ named) where
-  pub asked : (Says : Sight → List Row → Type 0) (OfStages : Sight → StagesAsked → Type 0) → AllValid (artifact_words options) → AllValid (words_of named options) → OnNamed named sees options Says OfStages → OnAsked sees options Says OfStages
-  asked Says OfStages artifact valid says = record {
-    valid = (artifact.0, (artifact.1.0, (artifact.1.1.0, subst (λ o. AllValid (words_of o options)) (sym is) valid)));
-    says = subst (λ o. OnNamed o sees options Says OfStages) (sym is) says;
-  }
-
-  pub begins : (old new : Option (List ℕ)) → BeginsNamed named sees options old new → BeginsAnswer sees options old new
-  begins old new h = subst (λ o. BeginsNamed o sees options old new) (sym is) h
-
-  pub fails : (e : CommandError) → AllValid (artifact_words options) → FailsBehind (words_of named options) (FailsNamed named sees options) e → FailsAsked sees options e
-  fails e artifact h = subst (λ o. FailsBehind (artifact_words options ++ words_of o options) (FailsNamed o sees options) e) (sym is) (behind_artifact h)
-    where
-      behind_artifact : FailsBehind (words_of named options) (FailsNamed named sees options) e → FailsBehind (artifact_words options ++ words_of named options) (FailsNamed named sees options) e
-      behind_artifact (in_memory memory) = in_memory memory
-      behind_artifact (in_words first) = in_words (inr (artifact.0, inr (artifact.1.0, inr (artifact.1.1.0, first))))
-      behind_artifact (behind valid h) = behind (artifact.0, (artifact.1.0, (artifact.1.1.0, valid))) h
-
--- what is said of the folder that stands for a claim is at fault
-pub artifact_fails : (sees : Sight) (options : List Row) (e : CommandError) → OrMemory (FailsFirst (artifact_words options)) e → FailsAsked sees options e
-artifact_fails sees options e h = go (fails_in [] (artifact_words options) (words_of (first_of (codes "evidence") options) options) e tt h)
-  where
-    go : OrMemory (FailsFirst (artifact_words options ++ words_of (first_of (codes "evidence") options) options)) e → FailsAsked sees options e
-    go (inl memory) = in_memory memory
-    go (inr first) = in_words first
 
 -- ---- the options by which evidence is judged
 
@@ -142,31 +115,34 @@ pub ok_spelled : {E : Type 0} (rows : List Row) (r : Result Digests E) → IfOk 
 ok_spelled rows (Ok d) from to = record { sources_are = from; claim_is = to }
 ok_spelled rows (Err e) from to = tt
 
-pub ok_asked : {E : Type 0} (sees : Sight) (options : List Row) (named : Option (List ℕ)) (Says : Ended → Sight → List Row → Type 0) (OfStages : Ended → Sight → StagesAsked → Type 0) (r : Result Ended E) → first_of (codes "evidence") options ≡ named
-    → AllValid (artifact_words options) → OnOk r (AllValid (words_of named options)) → IfOk r (λ ended. OnNamed named sees options (Says ended) (OfStages ended)) → IfOk r (λ ended. OnAsked sees options (Says ended) (OfStages ended))
-ok_asked sees options named Says OfStages (Ok ended) is artifact valid says = asked sees options named is (Says ended) (OfStages ended) artifact valid says
-ok_asked sees options named Says OfStages (Err e) is artifact valid says = tt
-
-pub where_ok : {P T E : Type 0} (r : Result T E) → P → OnOk r P
-where_ok (Ok x) h = h
-where_ok (Err e) h = tt
-
-pub begun_weaker : {P Q T E : Type 0} (r : Result T E) → (P → Q) → OnErr r P → OnErr r Q
-begun_weaker (Ok x) f h = tt
-begun_weaker (Err e) f h = f h
-
 pub behind_words : (checks : List Check) (fails : CommandError → Type 0) (e : CommandError) → AllValid checks → OrMemory fails e → FailsBehind checks fails e
 behind_words checks fails e valid (inl memory) = in_memory memory
 behind_words checks fails e valid (inr h) = behind valid h
+
+pub ok_asked : {E : Type 0} (sees : Sight) (options : List Row) (r : Result Judgement E) → AllValid (asked_words options) → IfOk r (λ j. AnswersSaid sees options (string_bytes j.line) j.ended)
+    → IfOk r (λ j. AnswersAsked sees options (string_bytes j.line) j.ended)
+ok_asked sees options (Ok j) valid says = record { valid = valid; says = says }
+ok_asked sees options (Err e) valid says = tt
+
+-- what is answered on valid words, and kept where they say so
+pub ok_kept : {E : Type 0} (sees : Sight) (options : List Row) (path : Option (List ℕ)) (r : Result Judgement E) → first_of (codes "keep") options ≡ path → AllValid (asked_words options)
+    → IfOk r (λ j. AnswersSaid sees options (string_bytes j.line) j.ended) → IfOk r (λ j. IfSome path (KeepsEvidence sees (string_bytes j.line)))
+    → IfOk r (λ j. AnswersAndKeeps sees options (string_bytes j.line) j.ended)
+ok_kept sees options path (Ok j) is valid says keeps = record {
+  answers = record { valid = valid; says = says };
+  kept = subst (λ o. IfSome o (KeepsEvidence sees (string_bytes j.line))) (sym is) keeps;
+}
+ok_kept sees options path (Err e) is valid says keeps = tt
+
+pub ok_of_none : {T E : Type 0} (r : Result T E) (P : T → List ℕ → Type 0) → IfOk r (λ x. IfSome None (P x))
+ok_of_none (Ok x) P = tt
+ok_of_none (Err e) P = tt
 
 -- ---- a folder that stands for a claim
 
 module _ (sees : Sight) (options : List Row) (named : Option (List ℕ)) (is : first_of (codes "artifact") options ≡ named) where
   pub on_claim : (Says : Sight → List Row → Type 0) (OfStages : Sight → StagesAsked → Type 0) → OnClaim named sees options (Says sees) → OnNamed None sees options Says OfStages
   on_claim Says OfStages h = subst (λ o. OnClaim o sees options (Says sees)) (sym is) h
-
-  pub begins_claim : (old new : Option (List ℕ)) → BeginsClaim named sees options old new → BeginsNamed None sees options old new
-  begins_claim old new h = subst (λ o. BeginsClaim o sees options old new) (sym is) h
 
   pub fails_claim : (e : CommandError) → FailsClaimed named sees options e → FailsNamed None sees options e
   fails_claim e h = subst (λ o. FailsClaimed o sees options e) (sym is) h

@@ -1,6 +1,6 @@
 -- The exit of a `?`, and of a call whose result is returned.
 use Rattle.std.proofs.Common.{◌≡◌, ◌⊎◌, inl, inr, sym, subst}
-use Rattle.std.specs.Prelude.{Result, Ok, Err, IfErr}
+use Rattle.std.specs.Prelude.{Result, Ok, Err, IfErr, OnErr}
 use Rattle.std.specs.Result.{IsErrAnd}
 use Rattle.std.proofs.lemmas.Result.{err_from_is_err_and}
 
@@ -16,3 +16,7 @@ err_weaker (Err e) P Q f h = f e h
 pub or_else : {P Q R : Type 0} → P ⊎ Q → (Q → R) → P ⊎ R
 or_else (inl p) by = inl p
 or_else (inr q) by = inr (by q)
+
+pub begun_weaker : {P Q T E : Type 0} (r : Result T E) → (P → Q) → OnErr r P → OnErr r Q
+begun_weaker (Ok x) f h = tt
+begun_weaker (Err e) f h = f h

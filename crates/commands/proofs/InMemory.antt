@@ -1,5 +1,5 @@
 -- What a verdict over files in memory says of them, and why there is none.
-use Rattle.std.proofs.Common.{◌≡◌, ◌∙◌, ℕ, List, [], ◌∷◌, Option, Some, None, inl, inr, refl, subst, sym}
+use Rattle.std.proofs.Common.{◌≡◌, ◌⊎◌, ◌∙◌, ℕ, List, [], ◌∷◌, Option, Some, None, inl, inr, refl, subst, sym}
 use Rattle.std.proofs.Math.Logic.{∥∥₁_elim}
 use Rattle.std.specs.Coded.{Coded-set, coded_list, coded_option, coded_ℕ}
 use Rattle.std.specs.Io.KnownBytes.{Appends}
@@ -27,12 +27,11 @@ use Rattle.verifier.specs.declared.verdict.Verdict.{Verdict}
 use Rattle.verifier.specs.declared.verdict.Verdict.TheVariants.{No, Yes}
 use Rattle.commands.specs.Ended.{is_done}
 use Rattle.commands.specs.Faults.{IsDigestFault, OrMemory, SpellsNone, error_of_file}
-use Rattle.commands.specs.Memory.{AnswersRight, AsksFiles, FailsInMemory, Files, IsRightStore, JudgesFiles, sees_world, told_by_store}
+use Rattle.commands.specs.Memory.{AnswersRight, AsksFiles, FailsInMemory, Files, IsRightStore, JudgesFiles, PrintsVerdict, sees_world, told_by_store}
 use Rattle.commands.specs.Places.{IsOfFolder, file_of}
-use Rattle.commands.specs.Printed.{IsOfPlace, JudgesAsked, LacksAtPlace, NamesStore, PrintsVerdict}
-use Rattle.commands.specs.Refusal.{FailsAtPlace, FailsText, FailsToJudge, FailsVerify, IsPrintFault}
+use Rattle.commands.specs.Printed.{IsOfPlace, JudgesAsked, LacksAtPlace, NamesStore}
+use Rattle.commands.specs.Refusal.{FailsAtPlace, FailsText, FailsToJudge, IsPrintFault}
 use Rattle.commands.specs.Refusal.FailsToJudge.{in_digests, in_memory, in_place, in_plan, in_record, in_words}
-use Rattle.commands.specs.Refusal.FailsVerify.{in_judging, in_output}
 use Rattle.commands.specs.Words.{AllValid, Check, FailsFirst, place_words}
 use Rattle.commands.specs.declared.ended.Ended.{Ended}
 use Rattle.commands.specs.declared.error.CommandError.{CommandError}
@@ -229,6 +228,6 @@ module _ (laws : TextLaws) (files replies : Files) (options : List Row) (q : Que
   unjudged_for words e (in_place question asked fails) =
       inl (memory_is e (∥∥₁_elim fails (memory_prop e) (λ at. is_memory e (place_fails files replies options asks.names e at))))
 
-  pub refused_for : AllValid (place_words options) → (e : CommandError) → FailsVerify (sees_world files replies) options e → OrMemory IsPrintFault e
-  refused_for words e (in_judging fails) = unjudged_for words e fails
-  refused_for words e (in_output verdict judged printing) = inr printing
+  pub refused_for : AllValid (place_words options) → (e : CommandError) → FailsToJudge (sees_world files replies) options e ⊎ IsPrintFault e → OrMemory IsPrintFault e
+  refused_for words e (inl fails) = unjudged_for words e fails
+  refused_for words e (inr printing) = inr printing

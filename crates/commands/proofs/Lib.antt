@@ -11,7 +11,11 @@ pub mod Hints
 pub mod InMemory
 pub mod Lasting
 pub mod Listed
+pub mod KeptDirectories
+pub mod Notes
 pub mod OfFolder
+pub mod OfNo
+pub mod OfTwo
 pub mod OneHint
 pub mod OneQuestion
 pub mod Order

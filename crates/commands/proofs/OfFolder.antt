@@ -1,5 +1,5 @@
 -- A yes of a folder is one of its tree.
-use Rattle.std.proofs.Common.{◌≡◌, ◌∙◌, ℕ, List, [], ◌∷◌, Option, None, Some, ap, codes, inl, inr, refl, subst, sym}
+use Rattle.std.proofs.Common.{◌≡◌, ◌∙◌, ℕ, List, [], ◌∷◌, Option, None, Some, ap, codes, inl, inr, refl, string_bytes, subst, sym}
 use Rattle.std.specs.Prelude.{◌⊎◌, unwrap_or}
 use Rattle.std.specs.declared.alloc.Global.{Global}
 use Rattle.blob_digest.specs.Digest.{DigestValue}
@@ -22,21 +22,23 @@ use Rattle.verifier.proofs.Passing.{yes_recorded}
 use Rattle.commands.specs.Artifact.{AreYesOfTree, EveryRunEndsInTree, IsYesOfFolder, IsYesOfTree}
 use Rattle.commands.specs.Composed.{EndInClaim}
 use Rattle.commands.specs.Digested.{reads_bits}
-use Rattle.commands.specs.Evidence.{IsClaim, IsFolderClaim, asked_words, entries_option, evidence_options, given, in_evidence, sees_archive}
+use Rattle.commands.specs.Evidence.{IsClaim, IsFolderClaim, asked_words, entries_option, evidence_options, given, in_evidence, options_in, sees_archive}
 use Rattle.commands.specs.Read.{IsTreeReadAt}
 use Rattle.commands.specs.Stages.{AnswersStages, StagesAsked, stages_asked}
-use Rattle.commands.specs.Verified.{AnswersVerdict, OnClaim, OnNamed, OnPlans, VerifiesAsked}
+use Rattle.commands.specs.Printed.{AnswersVerdict}
+use Rattle.commands.specs.Verified.{AnswersAsked, AnswersClaim, OnClaim, OnNamed, OnPlans}
 use Rattle.commands.specs.Verified.OnPlans.{of_one, of_stages}
 use Rattle.commands.specs.Words.{AllValid}
 use Rattle.commands.specs.Evidence.InEvidence.{archive, folder}
 use Rattle.commands.specs.World.{Sight}
 use Rattle.commands.specs.declared.ended.Ended.TheVariants.{Done}
+use Rattle.commands.specs.declared.evidence_options.EvidenceOptions.{EvidenceOptions}
 use Rattle.commands.proofs.Asked.{other_text, own_row}
 use Rattle.commands.proofs.OneQuestion.{digest_one}
 use Rattle.commands.proofs.Staged.{by_verdict}
 
 -- the digest that the text of the claim spells is the tree's
-claim_is : (text : List ℕ) (claim : DigestValue) (t : Tree Leaf) → IsDigestText text claim → text ≡ digest_text (root (form t)) → claim ≡ root (form t)
+pub claim_is : (text : List ℕ) (claim : DigestValue) (t : Tree Leaf) → IsDigestText text claim → text ≡ digest_text (root (form t)) → claim ≡ root (form t)
 claim_is text claim t spelled is = digest_one claim (root (form t)) spelled.valid (IsDigest-digest_of (top (form t))) (sym spelled.text_is ∙ is)
 
 pub ends_in_tree : (told : Telling) (q : Question) (v : Verdict Global) (t : Tree Leaf) → IsPlan q.plan → IsJudged told q v → IsYes v → IsOrdered t → q.claim ≡ root (form t) → EveryRunEndsInTree told q t
@@ -53,17 +55,17 @@ ends_in_tree told q v t valid judged affirmed ordered is = record {
 }
 
 -- the verdict of an answer on one plan, whose claim is the tree's digest
-of_plan : (inside : Sight) (options : List Row) (t : Tree Leaf) (old new : Option (List ℕ)) → IsOrdered t → option_text options (codes "claim") ≡ digest_text (root (form t))
-    → AnswersVerdict inside options old new Done → IsYesOfTree t inside options
-of_plan inside options t old new ordered is answers =
-    let judged = answers.prints.judged in
-    let affirmed : IsYes answers.prints.verdict = answers.done.0 refl in
+of_plan : (inside : Sight) (options : List Row) (t : Tree Leaf) (line : List ℕ) → IsOrdered t → option_text options (codes "claim") ≡ digest_text (root (form t))
+    → AnswersVerdict inside options line Done → IsYesOfTree t inside options
+of_plan inside options t line ordered is answers =
+    let judged = answers.judged in
+    let affirmed : IsYes answers.verdict = answers.done.0 refl in
     record {
       claim = is;
-      verdict = answers.prints.verdict;
+      verdict = answers.verdict;
       judged = judged;
       is_yes = affirmed;
-      ends = ends_in_tree judged.told judged.question answers.prints.verdict t judged.asks.texts.plan_is.valid judged.judged affirmed ordered
+      ends = ends_in_tree judged.told judged.question answers.verdict t judged.asks.texts.plan_is.valid judged.judged affirmed ordered
           (claim_is (option_text options (codes "claim")) judged.question.claim t judged.asks.texts.claim_spelled is);
     }
 
@@ -76,6 +78,12 @@ of_end inside asked t ordered is ends = record {
       let last = ends_in_last Global asked.sources ends.builds runs begin end ends.yes (starts Global asked.sources begin right from) run in
       same_root (λ b. IsBlobOf end b ⊎ IsBlobOf t b) apart end t last.ordered ordered (λ b h. inl h) (λ b h. inr h) (last.same ∙ (ends.last ∙ is));
 }
+
+-- the text of the claim among the options that evidence states
+pub claim_stated : {M : Type 0} (said : List Row) (o : EvidenceOptions M) → option_text (options_in said o) (codes "claim") ≡ string_bytes o.claim
+claim_stated said o =
+    let rest = given (codes "plan") (string_bytes o.plan) ∷ given (codes "record") (string_bytes o.noted) ∷ given o.place.now (string_bytes o.entries) ∷ said in
+    ap (λ (x : Option (List ℕ)). unwrap_or x []) (other_text (codes "claim") (codes "sources") (string_bytes o.sources) (given (codes "claim") (string_bytes o.claim) ∷ rest) refl ∙ own_row (codes "claim") (string_bytes o.claim) rest)
 
 module _ (sees : Sight) (options : List Row) (at : List ℕ) where
   claim_text : (evidence sources claim : List ℕ) → option_text (evidence_options options evidence evidence sources claim) (codes "claim") ≡ claim
@@ -92,8 +100,8 @@ module _ (sees : Sight) (options : List Row) (at : List ℕ) where
     read : IsTreeReadAt sees (reads_bits options) at tree
     says : OnPlans sees inside options evidence (IsYesOfTree tree inside) (AreYesOfTree tree inside)
 
-  module _ (old new : Option (List ℕ)) (named : first_of (codes "artifact") options ≡ Some at) where
-    of_plans : (inside : Sight) (evidence : List ℕ) → OnPlans sees inside options evidence (λ o. AnswersVerdict inside o old new Done) (λ a. AnswersStages inside a old new Done) → Inside inside evidence
+  module _ (line : List ℕ) (named : first_of (codes "artifact") options ≡ Some at) where
+    of_plans : (inside : Sight) (evidence : List ℕ) → OnPlans sees inside options evidence (λ o. AnswersClaim sees options inside o line Done) (λ a. AnswersStages inside a line Done) → Inside inside evidence
     of_plans inside evidence (of_one listed h) =
         let claimed : IsFolderClaim sees options at h.claim = subst (λ o. IsClaim o sees inside options evidence h.claim) named h.claim_is in
         record {
@@ -105,7 +113,7 @@ module _ (sees : Sight) (options : List Row) (at : List ℕ) where
             claim = h.claim;
             claim_is = h.claim_is;
             says =
-                of_plan inside (evidence_options options evidence evidence h.sources h.claim) claimed.tree old new claimed.read.ordered (claim_text evidence h.sources h.claim ∙ claimed.is) h.says;
+                of_plan inside (evidence_options options evidence evidence h.sources h.claim) claimed.tree line claimed.read.ordered (claim_text evidence h.sources h.claim ∙ claimed.is) h.says.on.answers;
           });
         }
     of_plans inside evidence (of_stages stages sources claim asks answers) =
@@ -118,16 +126,16 @@ module _ (sees : Sight) (options : List Row) (at : List ℕ) where
           tree = claimed.tree;
           read = claimed.read;
           says = of_stages stages sources claim asks (of_end inside asked claimed.tree claimed.read.ordered is
-              (by_verdict old new sees inside asked answers.verdict asks (answers.done.0 refl) answers.judged));
+              (by_verdict line sees inside asked answers.verdict asks (answers.done.0 refl) answers.judged));
         }
 
     of_named : AllValid (asked_words options) → (evidence : Option (List ℕ)) → first_of (codes "evidence") options ≡ evidence
-        → OnNamed evidence sees options (λ s o. AnswersVerdict s o old new Done) (λ s a. AnswersStages s a old new Done) → IsYesOfFolder sees options at
+        → OnNamed evidence sees options (λ s o. AnswersClaim sees options s o line Done) (λ s a. AnswersStages s a line Done) → IsYesOfFolder sees options at
     of_named valid None is h =
-        let claimed = subst (λ o. OnClaim o sees options (λ o. AnswersVerdict sees o old new Done)) named h in
+        let claimed = subst (λ o. OnClaim o sees options (λ o. AnswersClaim sees options sees o line Done)) named h in
         let claim = claimed.1 in
         let claimed_yes : OnClaim (Some at) sees options (IsYesOfTree claim.tree sees) =
-        (claimed.0, claim, of_plan sees (given (codes "claim") claimed.0 ∷ options) claim.tree old new claim.read.ordered (own_text claimed.0 ∙ claim.is) claimed.2) in
+        (claimed.0, claim, of_plan sees (given (codes "claim") claimed.0 ∷ options) claim.tree line claim.read.ordered (own_text claimed.0 ∙ claim.is) claimed.2.on.answers) in
         record {
           tree = claim.tree;
           read = claim.read;
@@ -152,5 +160,5 @@ module _ (sees : Sight) (options : List Row) (at : List ℕ) where
           says = record { valid = valid; says = subst (λ o. OnNamed o sees options (IsYesOfTree found.tree) (AreYesOfTree found.tree)) (sym is) (archive leads contents files holds found.says) };
         }
 
-    pub of_folder : VerifiesAsked sees options old new Done → IsYesOfFolder sees options at
+    pub of_folder : AnswersAsked sees options line Done → IsYesOfFolder sees options at
     of_folder h = of_named h.valid (first_of (codes "evidence") options) refl h.says

@@ -13,7 +13,7 @@ use Rattle.messages.specs.declared.node.Node.TheVariants.{Dir, File, Link}
 use Rattle.tree.specs.Form.{NodeValue, directory_of, entry_node, form, leaf_node, root, with_child}
 use Rattle.tree.specs.Tree.{Entry, IsBelowAll, IsOrdered, Leaf, Name, Tree, empty, file, folder, leaf, link, single, whole}
 use Rattle.commands.specs.Children.{with_last_child}
-use Rattle.commands.specs.Read.{AreRead, IsEntryRead, TakesAll, blobs_below, depth, leaf_blobs, names_of}
+use Rattle.commands.specs.Read.{AreRead, IsEntryRead, ReadBlob, TakesAll, blobs_below, depth, leaf_blobs, names_of}
 use Rattle.commands.specs.Walked.{entry_blobs, entry_depth}
 use Rattle.commands.specs.World.{Sight}
 
@@ -245,10 +245,10 @@ ordered_by_names (folder n below rest) sorted inner named =
 
 -- ---- what takes the blobs
 
-module _ {S : Type 0} (takes : S → S → List ℕ → Type 0) where
-  pub takes_more : (blobs more : List (List ℕ)) (old mid new : S) → TakesAll takes old mid blobs → TakesAll takes mid new more → TakesAll takes old new (blobs ++ more)
+module _ {S : Type 0} (takes : S → S → ReadBlob → Type 0) where
+  pub takes_more : (blobs more : List ReadBlob) (old mid new : S) → TakesAll takes old mid blobs → TakesAll takes mid new more → TakesAll takes old new (blobs ++ more)
   takes_more [] more old mid new h next = subst (λ s. TakesAll takes s new more) h next
   takes_more (b ∷ blobs) more old mid new h next = (h.0, h.1, takes_more blobs more h.0 mid new h.2 next)
 
-  pub takes_one : (blob : List ℕ) (old new : S) → takes old new blob → TakesAll takes old new (blob ∷ [])
+  pub takes_one : (blob : ReadBlob) (old new : S) → takes old new blob → TakesAll takes old new (blob ∷ [])
   takes_one blob old new h = (new, h, refl)

@@ -29,8 +29,7 @@ use Rattle.verifier.specs.declared.verdict.Place.TheVariants.{Step}
 use Rattle.verifier.specs.declared.verdict.Verdict.{Verdict}
 use Rattle.verifier.specs.declared.verdict.Verdict.TheVariants.{No}
 use Rattle.commands.specs.Ended.{is_done}
-use Rattle.commands.specs.Memory.{AnswersRight, AsksFiles, Files, IsRightStore, sees_world, told_by_store}
-use Rattle.commands.specs.Printed.{PrintsVerdict}
+use Rattle.commands.specs.Memory.{AnswersRight, AsksFiles, Files, IsRightStore, PrintsVerdict, sees_world, told_by_store}
 use Rattle.commands.specs.SmallExample.{AsksExample, HoldsAnotherAction, HoldsExample, PrintsNo, PrintsYes, no_line, noted, yes_line}
 use Rattle.commands.specs.declared.ended.Ended.{Ended}
 use Rattle.commands.specs.declared.ended.Ended.TheVariants as endings

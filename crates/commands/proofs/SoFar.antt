@@ -15,7 +15,7 @@ use Rattle.tree.specs.Form.{NodeValue, directory_of, entry_node, form, no_childr
 use Rattle.tree.specs.Tree.{Leaf, Tree, empty, file, link, single, whole}
 use Rattle.commands.specs.Children.{AddsName, AreNamed, with_last_child}
 use Rattle.commands.specs.Faults.{OrMemory, TellsOfEntry}
-use Rattle.commands.specs.Read.{AreRead, IsDigestAt, IsTreeReadAt, TakesAll, blobs_below, blobs_of, depth, names_of}
+use Rattle.commands.specs.Read.{AreRead, IsDigestAt, IsTreeReadAt, ReadBlob, TakesAll, blobs_below, blobs_of, depth, file_blob, folder_blob, names_of}
 use Rattle.commands.specs.Read.IsDigestAt.{of_file, of_tree}
 use Rattle.commands.specs.ReadRefused.{FailsFile, FailsTaking, HasNameTwice, HasNoName, LinksToNoText, ReachesEntry, StopsBelow, StopsHere, at_blob, for_error}
 use Rattle.commands.specs.ReadRefused.StopsBelow.{below, here, too_deep}
@@ -33,7 +33,7 @@ use Rattle.commands.proofs.Reading.{AreOrderedBelow, blobs-with_last, depth-with
 pub further_down : (left : ℕ) → (left ≡ 0 → ⊥) → suc (left - 1) ≡ left
 further_down left some = omega (arith, some)
 
-module _ {S : Type 0} (takes : S → S → List ℕ → Type 0) (refuses : S → List ℕ → CommandError → Type 0) (sees : Sight) (bits : Bool) where
+module _ {S : Type 0} (takes : S → S → ReadBlob → Type 0) (refuses : S → ReadBlob → CommandError → Type 0) (sees : Sight) (bits : Bool) where
   -- each name that was read has an entry of this tree, which was read at its place, and whose blobs were taken; the Directory is that of the tree
   pub record IsReadSoFar (left : ℕ) (place : List ℕ) (names : List (List ℕ)) (d : DirectoryValue) (old now : S) : Type 0 where
     pub tree : Tree Leaf
@@ -106,25 +106,25 @@ module _ {S : Type 0} (takes : S → S → List ℕ → Type 0) (refuses : S →
             is_top = is ∙ ap directory_bytes so_far.shape
 
             -- its Directory is taken as the last of its blobs
-            pub folder_taken : (new : S) (result : Result DigestValue CommandError) → IfOk result (λ digest. digest ≡ digest_of bytes) → OnOk result (takes now new bytes)
+            pub folder_taken : (new : S) (result : Result DigestValue CommandError) → IfOk result (λ digest. digest ≡ digest_of bytes) → OnOk result (takes now new (folder_blob bytes))
                 → IfOk result (λ digest. TakesTree takes sees bits left place digest old new)
             folder_taken new (Ok digest) named taken = record {
               tree = so_far.tree;
               read = whole_tree;
               within = so_far.within;
               named = named ∙ ap digest_of is_top;
-              taken = takes_more takes (blobs_below so_far.tree) (top (form so_far.tree) ∷ []) old now new so_far.taken (takes_one takes (top (form so_far.tree)) now new (subst (takes now new) is_top taken));
+              taken = takes_more takes (blobs_below so_far.tree) (folder_blob (top (form so_far.tree)) ∷ []) old now new so_far.taken (takes_one takes (folder_blob (top (form so_far.tree))) now new (subst (λ b. takes now new (folder_blob b)) is_top taken));
             }
             folder_taken new (Err e) named taken = tt
 
             -- it isn't taken
-            pub folder_refused : (result : Result DigestValue CommandError) → IfErr result (OrMemory (refuses now bytes)) → IfErr result (OrMemory (FailsTaking takes refuses sees bits left place old))
+            pub folder_refused : (result : Result DigestValue CommandError) → IfErr result (OrMemory (refuses now (folder_blob bytes))) → IfErr result (OrMemory (FailsTaking takes refuses sees bits left place old))
             folder_refused (Ok digest) fails = tt
-            folder_refused (Err e) fails = or_weaker (refuses now bytes) (FailsTaking takes refuses sees bits left place old) e (λ h. record {
-              stop = at_blob bytes;
+            folder_refused (Err e) fails = or_weaker (refuses now (folder_blob bytes)) (FailsTaking takes refuses sees bits left place old) e (λ h. record {
+              stop = at_blob (folder_blob bytes);
               blobs = blobs_below so_far.tree;
               now = now;
-              stops = here left place (blobs_below so_far.tree) (subst (λ b. StopsHere sees bits left place (blobs_below so_far.tree) (at_blob b)) (sym is_top) (at_folder so_far.tree whole_tree so_far.within));
+              stops = here left place (blobs_below so_far.tree) (subst (λ b. StopsHere sees bits left place (blobs_below so_far.tree) (at_blob (folder_blob b))) (sym is_top) (at_folder so_far.tree whole_tree so_far.within));
               taken = so_far.taken;
               told = h;
             }) fails
@@ -186,7 +186,7 @@ module _ {S : Type 0} (takes : S → S → List ℕ → Type 0) (refuses : S →
       where
         by : FailsFile refuses sees place old e → FailsTaking takes refuses sees bits left place old e
         by (inl h) = fails_first left e (subst (λ x. StopsHere sees bits left place [] (for_error x)) (sym h.2) (unread h.0 h.1))
-        by (inr h) = record { stop = at_blob h.0; blobs = []; now = old; stops = here left place [] (at_file h.0 h.1); taken = refl; told = h.2 }
+        by (inr h) = record { stop = at_blob (file_blob h.0); blobs = []; now = old; stops = here left place [] (at_file h.0 h.1); taken = refl; told = h.2 }
 
     module _ (left : ℕ) (name path : List ℕ) (now : S) (e : CommandError) (entry : IsAtEntry left place name old now) (at : path ≡ place ++ 47 ∷ name) where
       pub name_fails : OrMemory (HasNoName path name) e → Unread left e
@@ -226,7 +226,7 @@ module _ {S : Type 0} (takes : S → S → List ℕ → Type 0) (refuses : S →
 
 -- ---- what was found at a path
 
-module _ {S : Type 0} (takes : S → S → List ℕ → Type 0) (sees : Sight) (bits : Bool) (left : ℕ) (path : List ℕ) (old new : S) {A : Type 0} (there : Found) (node : Node A)
+module _ {S : Type 0} (takes : S → S → ReadBlob → Type 0) (sees : Sight) (bits : Bool) (left : ℕ) (path : List ℕ) (old new : S) {A : Type 0} (there : Found) (node : Node A)
     (stands : sees.stands path (what_stands there)) where
   pub folder_there : (digest : DigestValue) → there ≡ found.Folder → node ≡ Dir digest → TakesTree takes sees bits left path digest old new
       → TakesEntry takes sees bits left path (node_value node) old new
@@ -245,7 +245,7 @@ module _ {S : Type 0} (takes : S → S → List ℕ → Type 0) (sees : Sight) (
     read = (h.read, (executable, subst (λ f. sees.stands path (what_stands f)) is stands, refl));
     within = omega arith;
     named = ap node_value named ∙ ap (λ d. File d (bits && executable)) h.named;
-    taken = takes_one takes h.content old new h.taken;
+    taken = takes_one takes (file_blob h.content) old new h.taken;
   }
 
   pub link_there : (text : String Global) (target : List ℕ) → there ≡ found.Link text → node ≡ Link target → target ≡ string_bytes text → new ≡ old
@@ -260,7 +260,7 @@ module _ {S : Type 0} (takes : S → S → List ℕ → Type 0) (sees : Sight) (
 
 -- ---- what was read at a path where links are followed
 
-module _ {S : Type 0} (takes : S → S → List ℕ → Type 0) (sees : Sight) (bits : Bool) (path : List ℕ) (digest : DigestValue) (old new : S) where
+module _ {S : Type 0} (takes : S → S → ReadBlob → Type 0) (sees : Sight) (bits : Bool) (path : List ℕ) (digest : DigestValue) (old new : S) where
   pub tree_path : sees.leads path true → TakesTree takes sees bits 64 path digest old new → TakesPath takes sees bits path digest old new
   tree_path leads h = record {
     blobs = blobs_of h.tree;
@@ -270,7 +270,7 @@ module _ {S : Type 0} (takes : S → S → List ℕ → Type 0) (sees : Sight) (
 
   pub file_path : sees.leads path false → TakesFile takes sees path old new digest → TakesPath takes sees bits path digest old new
   file_path leads h = record {
-    blobs = h.content ∷ [];
-    read = subst (λ d. IsDigestAt sees bits path d (h.content ∷ [])) (sym h.named) (of_file h.content leads h.read);
-    taken = takes_one takes h.content old new h.taken;
+    blobs = file_blob h.content ∷ [];
+    read = subst (λ d. IsDigestAt sees bits path d (file_blob h.content ∷ [])) (sym h.named) (of_file h.content leads h.read);
+    taken = takes_one takes (file_blob h.content) old new h.taken;
   }

@@ -17,7 +17,7 @@ use Rattle.commands.specs.Evidence.{in_evidence, sees_archive}
 use Rattle.commands.specs.Evidence.InEvidence.{archive, folder}
 use Rattle.commands.specs.Stages.{AnswersStages, AsksStages, IsClaimOf, JudgesStages, LeadsTo, StagesAsked, stage_options, stages_asked}
 use Rattle.commands.specs.Stages.LeadsTo.{begin, next}
-use Rattle.commands.specs.Verified.{AnswersVerdict, OnClaim, OnNamed, OnPlans}
+use Rattle.commands.specs.Verified.{AnswersClaim, OnClaim, OnNamed, OnPlans}
 use Rattle.commands.specs.Verified.OnPlans.{of_one, of_stages}
 use Rattle.commands.specs.World.{Sight}
 use Rattle.commands.specs.declared.ended.Ended.TheVariants.{Done}
@@ -89,15 +89,15 @@ end_in_claim sees asked steps from to leads =
 
 -- ---- the yes that was answered
 
-module _ (old new : Option (List ℕ)) (outside sees : Sight) where
+module _ (line : List ℕ) (outside sees : Sight) where
   pub by_verdict : (asked : StagesAsked) (verdict : StagesVerdict Global) → AsksStages outside sees asked → IsYesOfStages verdict → JudgesStages sees asked verdict → EndInClaim sees asked
   by_verdict asked (verdicts.Yes root count steps) asks positive judged = end_in_claim sees asked steps asks.states.says.sources_are.valid asks.states.says.claim_is.valid judged.2
   by_verdict asked (verdicts.No stage place cause) asks positive judged = absurd positive
 
-  ends_inside : (options : List Row) (evidence : List ℕ) → OnPlans outside sees options evidence (λ o. AnswersVerdict sees o old new Done) (λ a. AnswersStages sees a old new Done)
+  ends_inside : (said options : List Row) (evidence : List ℕ) → OnPlans outside sees options evidence (λ o. AnswersClaim outside said sees o line Done) (λ a. AnswersStages sees a line Done)
       → OnPlans outside sees options evidence (λ o. Unit {0}) (EndInClaim sees)
-  ends_inside options evidence (of_one listed states) = of_one listed (record { sources = states.sources; sources_are = states.sources_are; claim = states.claim; claim_is = states.claim_is; says = tt })
-  ends_inside options evidence (of_stages stages sources claim asks answers) =
+  ends_inside said options evidence (of_one listed states) = of_one listed (record { sources = states.sources; sources_are = states.sources_are; claim = states.claim; claim_is = states.claim_is; says = tt })
+  ends_inside said options evidence (of_stages stages sources claim asks answers) =
       of_stages stages sources claim asks (by_verdict (stages_asked options evidence stages sources claim) answers.verdict asks (answers.done.0 refl) answers.judged)
 
 -- whatever is said of the options with a folder's claim, nothing is
@@ -105,9 +105,9 @@ nothing_claimed : (place : Option (List ℕ)) (sees : Sight) (options : List Row
 nothing_claimed None sees options Says h = tt
 nothing_claimed (Some place) sees options Says h = (h.0, h.1, tt)
 
-pub ends_named : (old new : Option (List ℕ)) (sees : Sight) (options : List Row) (named : Option (List ℕ)) → OnNamed named sees options (λ s o. AnswersVerdict s o old new Done) (λ s a. AnswersStages s a old new Done)
+pub ends_named : (line : List ℕ) (sees : Sight) (options : List Row) (named : Option (List ℕ)) → OnNamed named sees options (λ s o. AnswersClaim sees options s o line Done) (λ s a. AnswersStages s a line Done)
     → OnNamed named sees options (λ s o. Unit {0}) EndInClaim
-ends_named old new sees options None h = nothing_claimed (first_of (codes "artifact") options) sees options (λ o. AnswersVerdict sees o old new Done) h
-ends_named old new sees options (Some evidence) (folder lead says) = folder lead (ends_inside old new sees sees options evidence says)
-ends_named old new sees options (Some evidence) (archive lead contents files holds says) =
-    archive lead contents files holds (ends_inside old new sees (sees_archive sees (in_evidence evidence []) contents files) options evidence says)
+ends_named line sees options None h = nothing_claimed (first_of (codes "artifact") options) sees options (λ o. AnswersClaim sees options sees o line Done) h
+ends_named line sees options (Some evidence) (folder lead says) = folder lead (ends_inside line sees sees options options evidence says)
+ends_named line sees options (Some evidence) (archive lead contents files holds says) =
+    archive lead contents files holds (ends_inside line sees (sees_archive sees (in_evidence evidence []) contents files) options options evidence says)

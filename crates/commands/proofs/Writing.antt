@@ -6,13 +6,19 @@ use Rattle.std.proofs.lemmas.List.Elements.{Contains-append_left}
 use Rattle.report.specs.Line.{HasNoNewline}
 use Rattle.std.proofs.Math.Seq.{drop-append_seam, take-append_seam, take-length}
 use Rattle.std.specs.Fmt.{debug_str}
-use Rattle.std.specs.Prelude.{IfSome, None, Option, Some, string_bytes}
+use Rattle.std.specs.Prelude.{IfSome, None, Option, Some, false, string_bytes, true}
 use Rattle.std.specs.Io.KnownBytes.{Appends, Keeps}
 use Rattle.std.proofs.KnownBytes.{Appends-nil, Appends-trans, Appends-kept}
+use Rattle.blob_digest.specs.Text.{digest_text}
+use Rattle.messages.specs.declared.node.Node.TheVariants.{Dir, File, Link}
+use Rattle.plan.specs.Escape.{escaped_path}
+use Rattle.tree.specs.Form.{NodeValue}
+use Rattle.tree.specs.Mismatch.{MismatchValue, mismatch_value}
 use Rattle.commands.specs.ErrorText.{IsErrorText}
+use Rattle.commands.specs.MismatchText.{IsFolderText, IsMadeText, IsMismatchText, IsNodeText}
 use Rattle.commands.specs.Told.{AppendsBeginning, AppendsPart, AppendsUpTo, IsNoteText, PrintsNoLine, TellsNote, TellsOf, line_after, no_blob_text}
 use Rattle.commands.specs.declared.ended.Note.{Note}
-use Rattle.commands.specs.declared.ended.Note.TheVariants.{NoBlob, NoStore, Refused}
+use Rattle.commands.specs.declared.ended.Note.TheVariants.{Differs, NoBlob, NoStore, Refused}
 use Rattle.commands.specs.declared.error.CommandError.{CommandError}
 use Rattle.commands.specs.declared.error.CommandError.TheVariants.{Memory}
 use Rattle.std.specs.Prelude.{codes}
@@ -127,9 +133,34 @@ quoted_words : (quoted : Option (List ℕ)) (after : List ℕ) → (text : List 
 quoted_words (Some q) after = (q ++ after, (q, refl, refl))
 quoted_words None after = (after, ([], tt, refl))
 
+words_of_node : (x : NodeValue) → (text : List ℕ) × IsNodeText x text
+words_of_node (File d false) = (digest_text d, refl)
+words_of_node (File d true) = (digest_text d ++ codes " (executable)", refl)
+words_of_node (Link target) = by (debug_str target) refl
+  where
+    by : (quoted : Option (List ℕ)) → debug_str target ≡ quoted → (text : List ℕ) × IsNodeText (Link target) text
+    by (Some q) is = (codes "a link to " ++ q, (q, subst (λ o. IfSome o (λ shown. q ≡ shown)) (sym is) refl, refl))
+    by None is = (codes "a link to " ++ [], ([], subst (λ o. IfSome o (λ shown. [] ≡ shown)) (sym is) tt, refl))
+words_of_node (Dir d) = (codes "the directory " ++ digest_text d, refl)
+
+words_of_made : (o : Option NodeValue) → (text : List ℕ) × IsMadeText o text
+words_of_made None = (codes "no build makes anything there", refl)
+words_of_made (Some x) = let node = words_of_node x in (codes "every build makes " ++ node.0, (node.0, node.1, refl))
+
+words_of_folder : (o : Option NodeValue) → (text : List ℕ) × IsFolderText o text
+words_of_folder None = (codes "the folder has nothing there", refl)
+words_of_folder (Some x) = let node = words_of_node x in (codes "the folder has " ++ node.0, (node.0, node.1, refl))
+
+words_of_mismatch : (x : MismatchValue) → (text : List ℕ) × IsMismatchText x text
+words_of_mismatch x =
+    let made = words_of_made x.here in
+    let there = words_of_folder x.there in
+    (escaped_path x.path ++ (codes ": " ++ (made.0 ++ (codes ", " ++ there.0))), record { made = made.0; is_made = made.1; there = there.0; is_there = there.1; is = refl })
+
 words_of_note : (note : Note) → (text : List ℕ) × IsNoteText note text
 words_of_note (NoBlob server digest) = (no_blob_text (string_bytes server) digest, refl)
 words_of_note (NoStore path) = quoted_words (debug_str (string_bytes path)) (codes ": there is no such folder, so what is missing from it says nothing about the build")
+words_of_note (Differs x) = words_of_mismatch (mismatch_value x)
 words_of_note (Refused why) = (string_bytes why, refl)
 
 -- nothing is told of the line of a note

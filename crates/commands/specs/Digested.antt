@@ -5,7 +5,7 @@ use Rattle.blob_digest.specs.Digest.{DigestValue}
 use Rattle.blob_digest.specs.Text.{digest_text}
 use Rattle.clap.specs.Words.{Row}
 use Rattle.command_lines.specs.CommandLine.{option_text}
-use Rattle.commands.specs.Read.{IsDigestAt}
+use Rattle.commands.specs.Read.{IsDigestAt, ReadBlob}
 use Rattle.commands.specs.ReadRefused.{FailsReading}
 use Rattle.commands.specs.Refusal.{IsPrintFault}
 use Rattle.commands.specs.Told.{AppendsBeginning}
@@ -19,7 +19,7 @@ reads_bits options = not (bytes_eq (option_text options (codes "no-bits")) (code
 
 -- the digest is that of what was read at the path that the options name
 pub record IsDigestAsked (sees : Sight) (options : List Row) (digest : DigestValue) : Type 0 where
-  pub blobs : List (List ℕ)
+  pub blobs : List ReadBlob
   pub read : IsDigestAt sees (reads_bits options) (option_text options (codes "path")) digest blobs
 
 -- the line of that digest was printed

@@ -24,7 +24,7 @@ use Rattle.remote.specs.declared.files.FileError.TheVariants as files
 use Rattle.text_verifier.specs.Texts.{IsDigestText}
 use Rattle.tree.specs.Form.{form, root}
 use Rattle.tree.specs.Tree.{Leaf, Tree}
-use Rattle.command_lines.specs.CommandLine.{IsSet}
+use Rattle.command_lines.specs.CommandLine.{IsSet, option_text}
 use Rattle.commands.specs.Digested.{reads_bits}
 use Rattle.commands.specs.Faults.{IsFaultAtPath, SpellsNone, error_of_file}
 use Rattle.commands.specs.Read.{IsTreeReadAt, depth}
@@ -97,14 +97,30 @@ artifact_words options =
     has_one_claim options ∷ has_bits_of_folder options ∷ may_name_folder options (codes "artifact")
     ∷ []
 
+-- the file for what is looked at is none of those that are asked
+abbrev pub leaves : List Row → List ℕ → List ℕ → Check
+leaves options option written = else_told (IsSaid options (codes "keep")
+    → option_text options (codes "keep") ≢ option_text options option)
+    (codes "--keep cannot name the file of " ++ written)
+
+abbrev pub may_name_kept : List Row → Check
+may_name_kept options = where_said options (codes "keep")
+    (is_expected options (codes "keep") (codes "a file") (λ text. text ≢ []))
+
+abbrev pub keep_words : List Row → List Check
+keep_words options = may_name_kept options
+    ∷ leaves options (codes "plan") (codes "--plan")
+    ∷ leaves options (codes "record") (codes "--record")
+    ∷ leaves options (codes "evidence") (codes "<EVIDENCE>") ∷ []
+
 abbrev pub words_of : Option (List ℕ) → List Row → List Check
 words_of None options = has_wanted options ∷ []
 words_of (Some evidence) options = evidence_words options
 
 -- what the words have to be, without evidence and with it
 abbrev pub asked_words : List Row → List Check
-asked_words options =
-    artifact_words options ++ words_of (first_of (codes "evidence") options) options
+asked_words options = artifact_words options
+    ++ (words_of (first_of (codes "evidence") options) options ++ keep_words options)
 
 -- ---- what evidence has
 

@@ -21,7 +21,7 @@ use Rattle.verifier.specs.AsRecorded.{IsPlanAsRecorded}
 use Rattle.verifier.specs.declared.verdict.Verdict.{Verdict}
 use Rattle.commands.specs.Ended.{is_done}
 use Rattle.commands.specs.Faults.{OrMemory}
-use Rattle.commands.specs.Printed.{NamesStore}
+use Rattle.commands.specs.Printed.{JudgesAsked, NamesStore}
 use Rattle.commands.specs.Refusal.{IsPrintFault}
 use Rattle.commands.specs.World.{Sight, a_file, sees_nothing}
 use Rattle.commands.specs.declared.ended.Ended.{Ended}
@@ -97,6 +97,13 @@ pub record AsksFiles (files : Files) (options : List Row) (question : Question) 
   pub noted : files (option_text options (codes "record")) ≡ Some noted_bytes
   pub texts : HasTexts (option_text options (codes "sources")) (option_text options (codes "claim"))
       plan_bytes noted_bytes question
+
+-- the line of the verdict on what the options ask was printed
+pub record PrintsVerdict (sees : Sight) (options : List Row) (old new : Option (List ℕ))
+    : Type 0 where
+  pub verdict : Verdict Global
+  pub judged : JudgesAsked sees options verdict
+  pub printed : Appends old new (report_line verdict)
 
 -- The verdict is the one on the question that they ask, by all that the files of the store hold.
 pub record JudgesFiles (files : Files) (options : List Row) (verdict : Verdict Global)

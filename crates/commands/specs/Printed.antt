@@ -1,6 +1,7 @@
 -- What a command prints, by its options.
-use Rattle.std.specs.Prelude.{◌≡◌, ◌⊎◌, ℕ, false, true, List, [], ◌∷◌, ◌++◌, Option, None, Some}
-use Rattle.std.specs.Prelude.{IsSome, codes, string_bytes, IfSome, if◌then◌else◌, is_some}
+use Rattle.std.specs.Prelude.{◌≡◌, ◌⊎◌, ◌↔◌, ℕ, false, true, List, [], ◌∷◌, ◌++◌, Option, None}
+use Rattle.std.specs.Prelude.{Some, IsSome, IsTrue, codes, string_bytes, IfSome, is_some}
+use Rattle.std.specs.Prelude.{if◌then◌else◌}
 use Rattle.std.specs.Option.{option_or}
 use Rattle.std.specs.Io.KnownBytes.{Appends}
 use Rattle.std.specs.Net.Text.{socket_text}
@@ -15,12 +16,15 @@ use Rattle.remote.specs.Folder.{IsNotThere, IsNothingAt}
 use Rattle.remote.specs.Line.{ConnectionValue}
 use Rattle.remote.specs.declared.files.FileError.{FileError}
 use Rattle.blob_source.specs.Source.{Telling}
+use Rattle.verifier.specs.Verdict.{IsYes}
+use Rattle.verifier.specs.declared.made.Made.{Made}
 use Rattle.verifier.specs.declared.verdict.Verdict.{Verdict}
-use Rattle.text_verifier.specs.Answered.{IsJudged}
+use Rattle.text_verifier.specs.Answered.{IsJudged, IsMadeFor}
 use Rattle.text_verifier.specs.Lacking.{lack_of}
 use Rattle.text_verifier.specs.Texts.{HasTexts, Question, IsDigestText}
 use Rattle.text_verifier.specs.declared.lack.Lack.{Lack}
 use Rattle.commands.specs.ByteCounts.{SpellsBytes}
+use Rattle.commands.specs.Ended.{is_done}
 use Rattle.commands.specs.Got.{BeginsBlob, Writes}
 use Rattle.commands.specs.Options.{IsServerOf, OnNamedServer, greatest_number}
 use Rattle.commands.specs.Options.{number_or}
@@ -33,7 +37,7 @@ use Rattle.commands.specs.Words.{AllValid, IsSaid, serve_words, server_words}
 use Rattle.commands.specs.World.{Serving, Sight}
 use Rattle.commands.specs.declared.ended.Ended.{Ended}
 use Rattle.commands.specs.declared.ended.Ended.TheVariants.{Done, No}
-use Rattle.commands.specs.declared.ended.Note.TheVariants.{NoStore}
+use Rattle.commands.specs.declared.ended.Note.TheVariants.{Differs, NoStore}
 use Rattle.commands.specs.declared.serving.ServeRequest.{ServeRequest}
 use Rattle.commands.specs.declared.verifying.RecordedBuild.{RecordedBuild}
 use Rattle.commands.specs.declared.verifying.RecordedBuild.TheVariants.{Both, Folder, Server}
@@ -112,17 +116,11 @@ pub record JudgesAsked (sees : Sight) (options : List Row) (verdict : Verdict Gl
   pub few : IsSaid options (codes "server") → IsAskedOnce told question
   pub lacks : IfSome (lack_of question verdict) (λ lack. ∥ LacksAtPlace sees options lack ∥₁)
 
--- the line of that verdict was printed
-pub record PrintsVerdict (sees : Sight) (options : List Row) (old new : Option (List ℕ))
-    : Type 0 where
-  pub verdict : Verdict Global
-  pub judged : JudgesAsked sees options verdict
-  pub printed : Appends old new (report_line verdict)
-
--- nothing was printed, or a beginning of such a line
-abbrev pub BeginsVerdict : Sight → List Row → Option (List ℕ) → Option (List ℕ) → Type 0
-BeginsVerdict sees options old new = (new ≡ old) ⊎ ((verdict : Verdict Global)
-    × JudgesAsked sees options verdict × AppendsBeginning old new (report_line verdict))
+-- a verdict on what the options ask, and what builds make, where it says that this isn't the claim
+pub record JudgesAnswer (sees : Sight) (options : List Row) (verdict : Verdict Global)
+    (handed : Option (Made Global)) : Type 0 where
+  pub judges : JudgesAsked sees options verdict
+  pub made : IsMadeFor judges.told judges.question verdict handed
 
 -- the world told that no folder is at the path
 abbrev pub LacksFolder : Sight → List ℕ → Type 0
@@ -146,9 +144,24 @@ abbrev pub named_folder : List Row → Option (List ℕ)
 named_folder options =
     option_or (first_of (codes "store") options) (first_of (codes "results") options)
 
--- a no has a note exactly where the folder that the options name isn't there
+-- what a no says but for where a folder isn't what builds make
+abbrev pub without_mismatch : Ended → Ended
+without_mismatch (No (Some (Differs x))) = No None
+without_mismatch ended = ended
+
+-- a no has another note exactly where the folder that the options name isn't there
 abbrev pub NotesStore : Sight → List Row → Ended → Type 0
-NotesStore sees options = NotesFolder sees (named_folder options)
+NotesStore sees options ended =
+    NotesFolder sees (named_folder options) (without_mismatch ended)
+
+-- the verdict on what the options ask has this line, and comes to done where it is a yes
+pub record AnswersVerdict (sees : Sight) (options : List Row) (line : List ℕ) (ended : Ended)
+    : Type 0 where
+  pub verdict : Verdict Global
+  pub judged : JudgesAsked sees options verdict
+  pub line_is : line ≡ report_line verdict
+  pub done : IsTrue (is_done ended) ↔ IsYes verdict
+  pub noted : NotesStore sees options ended
 
 -- ---- the others
 

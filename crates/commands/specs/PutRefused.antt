@@ -11,7 +11,8 @@ use Rattle.remote.specs.declared.fault.Fault.{Fault}
 use Rattle.commands.specs.Faults.{IsServerFault}
 use Rattle.commands.specs.Places.{FailsToConnect}
 use Rattle.commands.specs.Printed.{StartsPut}
-use Rattle.commands.specs.Put.{PutsNext, PutsPath}
+use Rattle.commands.specs.Put.{PutsPath, PutsRead}
+use Rattle.commands.specs.Read.{bytes_in}
 use Rattle.commands.specs.ReadRefused.{FailsTaking}
 use Rattle.commands.specs.Refusal.{IsPrintFault}
 use Rattle.commands.specs.Words.{AllValid, FailsFirst, server_words}
@@ -35,7 +36,8 @@ pub record RefusesPut (old : ConnectionValue) (address bytes : List ℕ) (e : Co
 -- where paths go so many names further down: it can't be read, or the server refused a blob of it.
 abbrev pub FailsBelow : Sight → List ℕ → CommandError → ℕ → List ℕ → ConnectionValue → Type 0
 FailsBelow sees address e left place old =
-    FailsTaking PutsNext (λ now blob. RefusesPut now address blob) sees false left place old e
+    FailsTaking PutsRead (λ now blob. RefusesPut now address (bytes_in blob)) sees false left place
+    old e
 
 -- The first fault: what comes before it has none. That memory is wanting may come anywhere, and is
 -- told as that.

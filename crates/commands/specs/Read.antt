@@ -51,34 +51,53 @@ IsEntryRead sees bits place (whole t) =
 
 -- ---- its blobs, in the order in which they are read
 
-abbrev pub leaf_blobs : Leaf → List (List ℕ)
-leaf_blobs (file content executable) = content ∷ []
+-- a blob of what is read: a file's content, or a folder's Directory
+pub data ReadBlob : Type 0 where
+  file_blob : List ℕ → ReadBlob
+  folder_blob : List ℕ → ReadBlob
+
+abbrev pub bytes_in : ReadBlob → List ℕ
+bytes_in (file_blob bytes) = bytes
+bytes_in (folder_blob bytes) = bytes
+
+abbrev pub leaf_blobs : Leaf → List ReadBlob
+leaf_blobs (file content executable) = file_blob content ∷ []
 leaf_blobs (link target) = []
 
 -- each entry's blobs come after those of the entries before it, and a folder's Directory after what
 -- is below it
-abbrev pub blobs_below : Tree Leaf → List (List ℕ)
+abbrev pub blobs_below : Tree Leaf → List ReadBlob
 blobs_below empty = []
 blobs_below (leaf n x rest) = leaf_blobs x ++ blobs_below rest
 blobs_below (folder n below rest) =
-    (blobs_below below ++ top (form below) ∷ []) ++ blobs_below rest
+    (blobs_below below ++ folder_blob (top (form below)) ∷ []) ++ blobs_below rest
 
-abbrev pub blobs_of : Tree Leaf → List (List ℕ)
-blobs_of t = blobs_below t ++ top (form t) ∷ []
+abbrev pub blobs_of : Tree Leaf → List ReadBlob
+blobs_of t = blobs_below t ++ folder_blob (top (form t)) ∷ []
 
 -- The digest is that of the file or the tree that was read at the path, where links are followed, and
 -- these are its blobs; paths below it have at most 64 names.
 pub data IsDigestAt (sees : Sight) (bits : Bool) (path : List ℕ)
-    : DigestValue → List (List ℕ) → Type 0 where
+    : DigestValue → List ReadBlob → Type 0 where
   of_file : (content : List ℕ) → sees.leads path false → sees.reads path content
-      → IsDigestAt sees bits path (digest_of content) (content ∷ [])
+      → IsDigestAt sees bits path (digest_of content) (file_blob content ∷ [])
   of_tree : (t : Tree Leaf) → sees.leads path true → IsTreeReadAt sees bits path t → depth t ≤ 64
       → IsDigestAt sees bits path (root (form t)) (blobs_of t)
 
 -- ---- what takes them
 
 -- each of the blobs was taken, one after another, between these states of what takes them
-module _ {S : Type 0} (takes : S → S → List ℕ → Type 0) where
-  abbrev pub TakesAll : S → S → List (List ℕ) → Type 0
+module _ {S : Type 0} (takes : S → S → ReadBlob → Type 0) where
+  abbrev pub TakesAll : S → S → List ReadBlob → Type 0
   TakesAll old new [] = new ≡ old
   TakesAll old new (blob ∷ blobs) = (mid : S) × takes old mid blob × TakesAll mid new blobs
+
+-- ---- the Directories among them
+
+abbrev pub directory_in : ReadBlob → List (List ℕ)
+directory_in (file_blob bytes) = []
+directory_in (folder_blob bytes) = bytes ∷ []
+
+abbrev pub directories_in : List ReadBlob → List (List ℕ)
+directories_in [] = []
+directories_in (blob ∷ blobs) = directory_in blob ++ directories_in blobs

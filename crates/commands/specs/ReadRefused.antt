@@ -9,7 +9,8 @@ use Rattle.remote.specs.declared.files.FileError.{FileError}
 use Rattle.tree.specs.Form.{form, top}
 use Rattle.tree.specs.Tree.{Leaf, Tree}
 use Rattle.commands.specs.Faults.{TellsOfEntry, error_of_file}
-use Rattle.commands.specs.Read.{AreRead, IsTreeReadAt, TakesAll, blobs_below, depth, names_of}
+use Rattle.commands.specs.Read.{AreRead, IsTreeReadAt, ReadBlob, TakesAll, blobs_below, depth}
+use Rattle.commands.specs.Read.{file_blob, folder_blob, names_of}
 use Rattle.commands.specs.World.{Sight, a_link}
 use Rattle.commands.specs.declared.error.CommandError.{CommandError}
 
@@ -41,12 +42,12 @@ pub record ReachesEntry (sees : Sight) (bits : Bool) (left : ℕ) (place name : 
 -- the reading stops for a fault of what is read, or at a blob that isn't taken
 pub data Stop : Type 0 where
   for_error : CommandError → Stop
-  at_blob : List ℕ → Stop
+  at_blob : ReadBlob → Stop
 
 -- What stands at a place stops the reading, where paths go so many names further down, behind these
 -- blobs: it can't be read or spelled, or its own blob isn't taken.
 pub data StopsHere (sees : Sight) (bits : Bool) (left : ℕ) (place : List ℕ)
-    : List (List ℕ) → Stop → Type 0 where
+    : List ReadBlob → Stop → Type 0 where
   unread : (f : FileError Global) → sees.fails place f
       → StopsHere sees bits left place [] (for_error (error_of_file f))
   unlisted : (f : FileError Global) → sees.unlisted place f
@@ -60,51 +61,51 @@ pub data StopsHere (sees : Sight) (bits : Bool) (left : ℕ) (place : List ℕ)
       → AreRead sees bits place t → depth t ≤ left → HasNameTwice place (names_of t) e
       → StopsHere sees bits left place (blobs_below t) (for_error e)
   at_file : (content : List ℕ) → sees.reads place content
-      → StopsHere sees bits left place [] (at_blob content)
+      → StopsHere sees bits left place [] (at_blob (file_blob content))
   at_folder : (t : Tree Leaf) → IsTreeReadAt sees bits place t → depth t ≤ left
-      → StopsHere sees bits left place (blobs_below t) (at_blob (top (form t)))
+      → StopsHere sees bits left place (blobs_below t) (at_blob (folder_blob (top (form t))))
 
 -- What stands at a place, or something below it, stops the reading, the first in the order of the
 -- names. Of an entry its name is looked at first, then how deep it lies.
 pub data StopsBelow (sees : Sight) (bits : Bool) (stop : Stop)
-    : ℕ → List ℕ → List (List ℕ) → Type 0 where
-  here : (left : ℕ) (place : List ℕ) (blobs : List (List ℕ))
+    : ℕ → List ℕ → List ReadBlob → Type 0 where
+  here : (left : ℕ) (place : List ℕ) (blobs : List ReadBlob)
       → StopsHere sees bits left place blobs stop → StopsBelow sees bits stop left place blobs
   too_deep : (place name : List ℕ) (before : Tree Leaf) (e : CommandError)
       → ReachesEntry sees bits 0 place name before → IsName name
       → TellsOfEntry (place ++ 47 ∷ name) (codes "more than 64 names deep") e
       → stop ≡ for_error e → StopsBelow sees bits stop 0 place (blobs_below before)
-  below : (left : ℕ) (place name : List ℕ) (before : Tree Leaf) (blobs : List (List ℕ))
+  below : (left : ℕ) (place name : List ℕ) (before : Tree Leaf) (blobs : List ReadBlob)
       → ReachesEntry sees bits (suc left) place name before → IsName name
       → StopsBelow sees bits stop left (place ++ 47 ∷ name) blobs
       → StopsBelow sees bits stop (suc left) place (blobs_below before ++ blobs)
 
 -- the error of what stops the reading: that of the fault, or that for which the blob isn't taken
-abbrev pub IsErrorOfStop : (List ℕ → CommandError → Type 0) → Stop → CommandError → Type 0
+abbrev pub IsErrorOfStop : (ReadBlob → CommandError → Type 0) → Stop → CommandError → Type 0
 IsErrorOfStop refuses (for_error x) e = e ≡ x
 IsErrorOfStop refuses (at_blob blob) e = refuses blob e
 
 -- The reading stops at a place or below it; the blobs before that are taken, from this state on of
 -- what takes them.
-pub record FailsTaking {S : Type 0} (takes : S → S → List ℕ → Type 0)
-    (refuses : S → List ℕ → CommandError → Type 0) (sees : Sight) (bits : Bool) (left : ℕ)
+pub record FailsTaking {S : Type 0} (takes : S → S → ReadBlob → Type 0)
+    (refuses : S → ReadBlob → CommandError → Type 0) (sees : Sight) (bits : Bool) (left : ℕ)
     (place : List ℕ) (old : S) (e : CommandError) : Type 0 where
   pub stop : Stop
-  pub blobs : List (List ℕ)
+  pub blobs : List ReadBlob
   pub now : S
   pub stops : StopsBelow sees bits stop left place blobs
   pub taken : TakesAll takes old now blobs
   pub told : IsErrorOfStop (refuses now) stop e
 
 -- the file at the place can't be read, or is no blob that is taken
-abbrev pub FailsFile : {S : Type 0} → (S → List ℕ → CommandError → Type 0) → Sight → List ℕ → S
+abbrev pub FailsFile : {S : Type 0} → (S → ReadBlob → CommandError → Type 0) → Sight → List ℕ → S
     → CommandError → Type 0
 FailsFile refuses sees place old e =
     ((f : FileError Global) × sees.fails place f × (e ≡ error_of_file f))
-    ⊎ ((content : List ℕ) × sees.reads place content × refuses old content e)
+    ⊎ ((content : List ℕ) × sees.reads place content × refuses old (file_blob content) e)
 
 -- what stands at a place, or below it, can't be read
 pub record FailsReading (sees : Sight) (bits : Bool) (left : ℕ) (place : List ℕ) (e : CommandError)
     : Type 0 where
-  pub blobs : List (List ℕ)
+  pub blobs : List ReadBlob
   pub stops : StopsBelow sees bits (for_error e) left place blobs

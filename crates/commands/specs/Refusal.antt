@@ -109,9 +109,3 @@ pub data FailsToJudge (sees : Sight) (options : List Row) (e : CommandError) : T
       → FailsRecord sees options plan e → FailsToJudge sees options e
   in_place : (question : Question) → AsksQuestion sees options question
       → ∥ FailsAtPlace sees options e ∥₁ → FailsToJudge sees options e
-
--- the first fault: the last is that the output takes no more
-pub data FailsVerify (sees : Sight) (options : List Row) (e : CommandError) : Type 0 where
-  in_judging : FailsToJudge sees options e → FailsVerify sees options e
-  in_output : (verdict : Verdict Global) → JudgesAsked sees options verdict → IsPrintFault e
-      → FailsVerify sees options e

@@ -2,7 +2,6 @@
 -- before.
 use Rattle.std.specs.Prelude.{◌≡◌, ◌≢◌, ◌⊎◌, ◌↔◌, ℕ, ◌+◌, ◌<◌, List, [], ◌∷◌, ◌++◌, Option, None}
 use Rattle.std.specs.Prelude.{Some, IsTrue, codes, decimal, length, string_bytes}
-use Rattle.std.specs.Io.KnownBytes.{Appends}
 use Rattle.std.specs.List.{All}
 use Rattle.std.specs.declared.alloc.Global.{Global}
 use Rattle.blob_digest.specs.Digest.{DigestValue}
@@ -21,8 +20,7 @@ use Rattle.commands.specs.Evidence.{FailsDigestLine, HasDigestLine, StatesDigest
 use Rattle.commands.specs.Evidence.{in_evidence}
 use Rattle.commands.specs.Faults.{error_of_file}
 use Rattle.commands.specs.Printed.{JudgesAsked, NotesFolder}
-use Rattle.commands.specs.Refusal.{FailsToJudge, IsPrintFault}
-use Rattle.commands.specs.Told.{AppendsBeginning}
+use Rattle.commands.specs.Refusal.{FailsToJudge}
 use Rattle.commands.specs.World.{FoundValue, Sight}
 use Rattle.commands.specs.declared.ended.Ended.{Ended}
 use Rattle.commands.specs.declared.error.CommandError.{CommandError}
@@ -163,20 +161,15 @@ JudgesStages sees asked (composed.Yes root stages steps) = (root ≡ asked.claim
 JudgesStages sees asked (composed.No stage place cause) =
     OnStage sees asked stage (λ o. JudgesAsked sees o (No place cause))
 
--- The line of that verdict was printed, and it came to done where that is a yes. A no has a note
--- exactly where the folder of the entries isn't there.
-pub record AnswersStages (sees : Sight) (asked : StagesAsked) (old new : Option (List ℕ))
-    (ended : Ended) : Type 0 where
+-- The verdict on stages has this line, and comes to done where it is a yes. A no has a note exactly
+-- where the folder of the entries isn't there.
+pub record AnswersStages (sees : Sight) (asked : StagesAsked) (line : List ℕ) (ended : Ended)
+    : Type 0 where
   pub verdict : StagesVerdict Global
   pub judged : JudgesStages sees asked verdict
-  pub printed : Appends old new (stages_line verdict)
+  pub line_is : line ≡ stages_line verdict
   pub done : IsTrue (is_done ended) ↔ IsYesOfStages verdict
   pub noted : NotesFolder sees (Some (in_evidence asked.evidence (codes "store"))) ended
-
--- nothing was printed, or a beginning of such a line
-abbrev pub BeginsStages : Sight → StagesAsked → Option (List ℕ) → Option (List ℕ) → Type 0
-BeginsStages sees asked old new = (new ≡ old) ⊎ ((verdict : StagesVerdict Global)
-    × JudgesStages sees asked verdict × AppendsBeginning old new (stages_line verdict))
 
 -- ---- faults
 
@@ -208,6 +201,4 @@ pub data FailsStages (sees : Sight) (asked : StagesAsked) (e : CommandError) : T
       → LeadsTo sees asked (stage ∷ left) sources steps
       → FailsClaimOf sees asked.evidence stage left e → FailsStages sees asked e
   in_stage : (stage : ℕ) → OnStage sees asked stage (λ o. FailsToJudge sees o e)
-      → FailsStages sees asked e
-  in_output : (verdict : StagesVerdict Global) → JudgesStages sees asked verdict → IsPrintFault e
       → FailsStages sees asked e

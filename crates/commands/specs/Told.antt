@@ -5,9 +5,11 @@ use Rattle.std.specs.Io.KnownBytes.{Appends}
 use Rattle.blob_digest.specs.Digest.{DigestValue}
 use Rattle.blob_digest.specs.Text.{digest_text}
 use Rattle.report.specs.Line.{HasNoNewline}
+use Rattle.tree.specs.Mismatch.{mismatch_value}
 use Rattle.commands.specs.ErrorText.{IsErrorText, IsOfPath}
+use Rattle.commands.specs.MismatchText.{IsMismatchText}
 use Rattle.commands.specs.declared.ended.Note.{Note}
-use Rattle.commands.specs.declared.ended.Note.TheVariants.{NoBlob, NoStore, Refused}
+use Rattle.commands.specs.declared.ended.Note.TheVariants.{Differs, NoBlob, NoStore, Refused}
 use Rattle.commands.specs.declared.error.CommandError.{CommandError}
 use Rattle.commands.specs.declared.error.CommandError.TheVariants.{Memory}
 
@@ -79,6 +81,7 @@ IsNoStoreText path = IsOfPath path
 abbrev pub IsNoteText : Note → List ℕ → Type 0
 IsNoteText (NoBlob server digest) text = text ≡ no_blob_text (string_bytes server) digest
 IsNoteText (NoStore path) text = IsNoStoreText (string_bytes path) text
+IsNoteText (Differs x) text = IsMismatchText (mismatch_value x) text
 IsNoteText (Refused why) text = text ≡ string_bytes why
 
 -- the line of a note was appended, or a beginning of it

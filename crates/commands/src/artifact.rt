@@ -1,14 +1,15 @@
-ghost use Rattle.std.specs.Prelude.{IfErr, IfOk, string_bytes};
+ghost use Rattle.std.specs.Prelude.{IfErr, IfOk};
 ghost use Rattle.commands.specs.Digested.{reads_bits};
-ghost use Rattle.commands.specs.Evidence.{IsFolderClaim};
+ghost use Rattle.commands.specs.FolderRead.{IsFolderRead, value_of_read};
 ghost use Rattle.commands.specs.Faults.{OrMemory};
 ghost use Rattle.commands.specs.ReadRefused.{FailsReading};
 
-use crate::digesting::{KeepsNone, reads_bits};
+use crate::digesting::reads_bits;
 use crate::error::CommandError;
 use crate::options::Options;
-use crate::walking::{GREATEST_DEPTH, Walker};
+use crate::walking::{GREATEST_DEPTH, Taker, Walker};
 use crate::world::Inputs;
+use blob_digest::Digest;
 use std::alloc::Global;
 
 /// The options with the claim of a folder before what was said.
@@ -32,15 +33,55 @@ impl<M: Options> Options for ClaimedOptions<'_, M> {
     }
 }
 
-/// The text of the claim that a folder stands for: the digest of its tree.
-pub(crate) fn claim_of_folder<W: Inputs, M: Options>(
+/// What a folder that stands for a claim was read as.
+#[derive(Drop)]
+pub(crate) struct FolderRead {
+    /// The digest of its tree.
+    pub digest: Digest,
+    /// Its Directories.
+    pub directories: Vec<Vec<u8>>,
+}
+
+/// Takes every blob, and keeps the Directories. A file is hashed in pieces.
+#[derive(Drop)]
+struct KeepsDirectories {
+    directories: Vec<Vec<u8>>,
+}
+
+impl Taker for KeepsDirectories {
+    ghost use Rattle.std.specs.Prelude.{◌≡◌, ◌++◌};
+    ghost use Rattle.commands.specs.Read.{directory_in};
+    ghost use Rattle.tree.specs.Folded.{items_of};
+
+    ghost takes = { λ old new blob. items_of new.directories.items
+        ≡ items_of old.directories.items ++ directory_in blob };
+
+    ghost refuses = { λ _ _ _. ⊥ };
+
+    fn take(&mut self, alloc: Global, blob: &[u8]) -> Result<Digest, CommandError> {
+        self.directories.push(Vec::from_slice(alloc, blob)?)?;
+        Ok(Digest::of(blob))
+    }
+
+    fn take_file<W: Inputs>(
+        &mut self,
+        alloc: Global,
+        world: &W,
+        place: &str,
+    ) -> Result<Digest, CommandError> {
+        Ok(world.digest(alloc, place)?)
+    }
+}
+
+/// The folder at a path, which stands for a claim, as it was read.
+pub(crate) fn read_artifact<W: Inputs, M: Options>(
     alloc: Global,
     world: &W,
     options: &M,
     folder: &str,
-) -> Result<String, CommandError>
-    ensures read { IfOk result (λ text. IsFolderClaim (W.sees world.now) (M.rows options.now)
-        folder.now (string_bytes text)) }
+) -> Result<FolderRead, CommandError>
+    ensures read { IfOk result (λ read. IsFolderRead (W.sees world.now) (M.rows options.now)
+        folder.now (value_of_read read)) }
     ensures refused { IfErr result (OrMemory (FailsReading (W.sees world.now)
         (reads_bits (M.rows options.now)) 64 folder.now)) }
 {
@@ -49,6 +90,12 @@ pub(crate) fn claim_of_folder<W: Inputs, M: Options>(
         world,
         bits: reads_bits(options),
     };
-    let digest = walker.read_folder(&mut KeepsNone, folder, GREATEST_DEPTH)?;
-    Ok(digest.write_text(alloc)?)
+    let mut taker = KeepsDirectories {
+        directories: Vec::new(alloc),
+    };
+    let digest = walker.read_folder(&mut taker, folder, GREATEST_DEPTH)?;
+    Ok(FolderRead {
+        digest,
+        directories: taker.directories,
+    })
 }

@@ -1,4 +1,6 @@
 use blob_digest::Digest;
+use std::alloc::Global;
+use tree::Mismatch;
 
 /// What a command that wasn't refused came to.
 #[derive(Drop)]
@@ -16,6 +18,8 @@ pub enum Note {
     NoBlob { server: String, digest: Digest },
     /// No folder is at the path.
     NoStore { path: String },
+    /// Where a folder isn't what builds make: these have what is here, and it what is there.
+    Differs(Mismatch<Global>),
     /// Why a build was refused.
     Refused(String),
 }

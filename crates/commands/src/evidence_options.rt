@@ -1,13 +1,18 @@
-ghost use Rattle.std.specs.Prelude.{◌≡◌, ◌↔◌, IfErr, IfOk, None, codes, string_bytes};
+ghost use Rattle.std.specs.Prelude.{◌≡◌, ◌↔◌, IfErr, IfOk, None, Some, codes};
+ghost use Rattle.std.specs.Prelude.{option_map, string_bytes};
 ghost use Rattle.clap.specs.Words.{first_of};
 ghost use Rattle.commands.specs.Evidence.{FailsDigestLine, FailsStated, HasDigestLine};
 ghost use Rattle.commands.specs.Evidence.{FailsClaim, IsClaim, TellsNoDigest};
-ghost use Rattle.commands.specs.Evidence.{HasLine, IsStated, StatesDigests, entries_option};
+ghost use Rattle.commands.specs.Evidence.{HasLine, IsFolderClaim, IsStated, StatesDigests};
+ghost use Rattle.commands.specs.Evidence.{entries_option};
 ghost use Rattle.commands.specs.Evidence.{evidence_options, in_evidence, options_in};
 ghost use Rattle.blob_digest.specs.Text.{BeginsWithHash};
 ghost use Rattle.commands.specs.Faults.{OrMemory, SpellsNone};
+ghost use Rattle.commands.specs.Digested.{reads_bits};
+ghost use Rattle.commands.specs.FolderRead.{IsArtifact, value_of_read};
+ghost use Rattle.commands.specs.ReadRefused.{FailsReading};
 
-use crate::artifact::claim_of_folder;
+use crate::artifact::{FolderRead, read_artifact};
 use crate::error::CommandError;
 use crate::options::Options;
 use crate::world::Inputs;
@@ -151,25 +156,83 @@ pub(crate) fn options_of<'m, M: Options>(
     })
 }
 
-/// The text of the claim: that of a folder outside of the evidence, where one is said, and else as
-/// it was said, or that of the evidence's file.
+/// What is claimed: the text of a digest, and the folder that stands for it, where one is said.
+#[derive(Drop)]
+struct StatedClaim {
+    text: String,
+    folder: Option<FolderRead>,
+}
+
+/// What evidence states: the options that say what it does, and the folder that stands for the
+/// claim, where one is said.
+#[derive(Drop)]
+pub(crate) struct Stated<'m, M> {
+    pub options: EvidenceOptions<'m, M>,
+    pub folder: Option<FolderRead>,
+}
+
+/// The claim of a folder.
+fn folder_claim<W: Inputs, M: Options>(
+    alloc: Global,
+    world: &W,
+    options: &M,
+    folder: &str,
+) -> Result<StatedClaim, CommandError>
+    ensures claim { IfOk result (λ claim. IsFolderClaim (W.sees world.now) (M.rows options.now)
+        folder.now (string_bytes claim.text)) }
+    ensures folder { IfOk result (λ claim. IsArtifact (Some folder.now) (W.sees world.now)
+        (M.rows options.now) (string_bytes claim.text) (option_map value_of_read claim.folder)) }
+    ensures fault { IfErr result (OrMemory (FailsReading (W.sees world.now)
+        (reads_bits (M.rows options.now)) 64 folder.now)) }
+{
+    let read = read_artifact(alloc, world, options, folder)?;
+    let text = read.digest.write_text(alloc)?;
+    Ok(StatedClaim {
+        text,
+        folder: Some(read),
+    })
+}
+
+/// The claim as it was said, or that of the evidence's file.
+fn said_claim<W: Inputs, M: Options>(
+    alloc: Global,
+    world: &W,
+    options: &M,
+    evidence: &str,
+) -> Result<StatedClaim, CommandError>
+    ensures stated { IfOk result (λ claim. IsStated (W.sees world.now) (M.rows options.now)
+        evidence.now (codes "claim") (string_bytes claim.text)) }
+    ensures none { IfOk result (λ claim. claim.folder ≡ None) }
+    ensures fault { IfErr result (OrMemory (λ e.
+        (first_of (codes "claim") (M.rows options.now) ≡ None)
+        × FailsDigestLine (W.sees world.now) (in_evidence evidence.now (codes "claim")) e)) }
+{
+    let text = stated_digest(alloc, world, options, evidence, "claim")?;
+    Ok(StatedClaim { text, folder: None })
+}
+
+/// The claim: that of a folder outside of the evidence, where one is said, and else as it was said,
+/// or that of the evidence's file.
 fn stated_claim<V: Inputs, W: Inputs, M: Options>(
     alloc: Global,
     outside: &V,
     world: &W,
     options: &M,
     evidence: &str,
-) -> Result<String, CommandError>
-    ensures claim { IfOk result (λ text. IsClaim (first_of (codes "artifact") (M.rows options.now))
+) -> Result<StatedClaim, CommandError>
+    ensures claim { IfOk result (λ claim. IsClaim (first_of (codes "artifact") (M.rows options.now))
         (V.sees outside.now) (W.sees world.now) (M.rows options.now) evidence.now
-        (string_bytes text)) }
+        (string_bytes claim.text)) }
+    ensures folder { IfOk result (λ claim. IsArtifact
+        (first_of (codes "artifact") (M.rows options.now)) (V.sees outside.now)
+        (M.rows options.now) (string_bytes claim.text) (option_map value_of_read claim.folder)) }
     ensures fault { IfErr result
         (OrMemory (FailsClaim (first_of (codes "artifact") (M.rows options.now))
         (V.sees outside.now) (W.sees world.now) (M.rows options.now) evidence.now)) }
 {
     match options.text("artifact") {
-        Some(folder) => claim_of_folder(alloc, outside, options, folder),
-        None => stated_digest(alloc, world, options, evidence, "claim"),
+        Some(folder) => folder_claim(alloc, outside, options, folder),
+        None => said_claim(alloc, world, options, evidence),
     }
 }
 
@@ -180,14 +243,21 @@ pub(crate) fn read_options<'m, V: Inputs, W: Inputs, M: Options>(
     world: &W,
     said: &'m M,
     evidence: &str,
-) -> Result<EvidenceOptions<'m, M>, CommandError>
-    ensures stated { IfOk result (λ o. StatesDigests (V.sees outside.now) (W.sees world.now)
-        (M.rows said.now) evidence.now (λ rows. rows ≡ options_in (M.rows o.said.now) o)) }
+) -> Result<Stated<'m, M>, CommandError>
+    ensures stated { IfOk result (λ s. StatesDigests (V.sees outside.now) (W.sees world.now)
+        (M.rows said.now) evidence.now
+        (λ rows. rows ≡ options_in (M.rows s.options.said.now) s.options)) }
+    ensures folder { IfOk result (λ s. IsArtifact
+        (first_of (codes "artifact") (M.rows said.now)) (V.sees outside.now) (M.rows said.now)
+        (string_bytes s.options.claim) (option_map value_of_read s.folder)) }
     ensures fault { IfErr result
         (OrMemory (FailsStated (V.sees outside.now) (W.sees world.now) (M.rows said.now)
         evidence.now)) }
 {
     let sources = stated_digest(alloc, world, said, evidence, "sources")?;
     let claim = stated_claim(alloc, outside, world, said, evidence)?;
-    Ok(options_of(alloc, said, evidence, evidence, sources, claim)?)
+    Ok(Stated {
+        options: options_of(alloc, said, evidence, evidence, sources, claim.text)?,
+        folder: claim.folder,
+    })
 }

@@ -3,9 +3,13 @@ ghost use Rattle.std.specs.List.{All};
 ghost use Rattle.plan.specs.Escape.{escaped};
 ghost use Rattle.plan.specs.declared.error.PlanError.{PlanError};
 ghost use Rattle.clap.specs.Words.{Row, first_of};
-ghost use Rattle.commands.specs.Artifact.{IsYesOfFolder};
+ghost use Rattle.commands.specs.Artifact.{IsNoOfFolder, IsYesOfFolder};
 ghost use Rattle.commands.specs.Verified.{OnAsked, VerifiesAsked};
-ghost use Rattle.commands.specs.declared.ended.Ended.TheVariants.{Done};
+ghost use Rattle.commands.specs.declared.ended.Ended.TheVariants.{Done, No};
+ghost use Rattle.commands.specs.declared.ended.Note.TheVariants.{Differs};
+ghost use Rattle.std.specs.declared.alloc.Global.{Global};
+ghost use Rattle.tree.specs.Mismatch.{mismatch_value};
+ghost use Rattle.tree.specs.declared.mismatch.Mismatch.{Mismatch};
 ghost use Rattle.commands.specs.Hints.{IsEscapedText, TellsOfFault, is_escaped};
 ghost use Rattle.commands.specs.declared.hint.Hint.{Hint};
 ghost use Rattle.commands.specs.Composed.{EndInClaim};
@@ -32,6 +36,15 @@ pub fn a_yes_is_of_the_folder<W: World>(_world: &W)
         → first_of (codes "artifact") options ≡ Some place
         → VerifiesAsked (W.sees _world.now) options old new Done
         → IsYesOfFolder (W.sees _world.now) options place }
+{}
+
+/// What the note of a folder says after a no: where the tree that was read there, and the one in
+/// which builds end, first differ. A law: it does nothing.
+pub fn a_no_says_where<W: World>(_world: &W)
+    ensures { (options : List Row) (place : List ℕ) (old new : Option (List ℕ))
+        (x : Mismatch Global) → first_of (codes "artifact") options ≡ Some place
+        → VerifiesAsked (W.sees _world.now) options old new (No (Some (Differs x)))
+        → IsNoOfFolder (W.sees _world.now) options place (mismatch_value x) }
 {}
 
 /// What a yes says of a build in stages, be its evidence a folder or an archive: each stage has a

@@ -1,12 +1,15 @@
-ghost use Rattle.std.specs.Prelude.{◌≡◌, ◌≢◌, ◌↔◌, ℕ, List, IfOk, IsTrue, None, OnErr, OnOk, Some};
+ghost use Rattle.std.specs.Prelude.{◌≡◌, ◌≢◌, ◌↔◌, ◌⊎◌, ℕ, List, IfErr, IfOk, IsTrue, None};
+ghost use Rattle.std.specs.Prelude.{OnErr, OnOk, Some};
 ghost use Rattle.std.specs.Prelude.{string_bytes};
 ghost use Rattle.clap.specs.Words.{found_of, rows_of};
 ghost use Rattle.commands.specs.Ended.{is_done};
 ghost use Rattle.commands.specs.Memory.{AnswersRight, AsksFiles, PrintsFiles, files_of, replies_of};
-ghost use Rattle.commands.specs.Memory.{sees_in};
-ghost use Rattle.commands.specs.Printed.{NamesStore, PrintsVerdict};
+ghost use Rattle.commands.specs.Memory.{PrintsVerdict, sees_in};
+ghost use Rattle.commands.specs.Printed.{NamesStore};
+ghost use Rattle.commands.specs.Refusal.{FailsToJudge, IsPrintFault};
 ghost use Rattle.commands.specs.SmallExample.{HoldsAnotherAction, HoldsExample, PrintsNo};
 ghost use Rattle.commands.specs.SmallExample.{PrintsYes, no_line, yes_line};
+ghost use Rattle.commands.specs.Verified.{HoldsAlone};
 ghost use Rattle.commands.specs.Words.{AllValid, place_words};
 ghost use Rattle.text_verifier.specs.Texts.{Question};
 ghost use Rattle.verifier.specs.Verdict.{IsYes};
@@ -15,7 +18,8 @@ use crate::connecting::ServerOptions;
 use crate::ended::Ended;
 use crate::error::CommandError;
 use crate::files::unread;
-use crate::verifying::verify_asked;
+use crate::kept_evidence::KeptEvidence;
+use crate::verifying::{print_line, verify_asked};
 use crate::world::{Archives, Found, Inputs, World};
 use archive::Blocks;
 use clap::ArgMatches;
@@ -46,6 +50,30 @@ impl MemoryWorld {
         MemoryWorld {
             files: BTreeMap::new(alloc),
             servers: BTreeMap::new(alloc),
+        }
+    }
+
+    /// A world of this file alone.
+    pub(crate) fn of_file(
+        alloc: Global,
+        path: &str,
+        bytes: Vec<u8>,
+    ) -> Result<MemoryWorld, AllocError>
+        ensures { IfOk result (λ world. HoldsAlone world path.now bytes.items) }
+    {
+        let mut world = MemoryWorld::new(alloc);
+        world.hold(String::from_str(alloc, path)?, bytes)?;
+        Ok(world)
+    }
+
+    /// The bytes of the file at a path, or none.
+    pub(crate) fn file(&self, path: &str) -> &[u8]
+        ensures { (bytes : List ℕ) → files_of self.now path.now ≡ Some bytes
+            → result.now ≡ bytes }
+    {
+        match self.files.get(path) {
+            Some(bytes) => bytes.as_slice(),
+            None => &[],
         }
     }
 
@@ -150,6 +178,31 @@ impl Archives for MemoryWorld {
     }
 }
 
+/// Prints the line of the verdict that these options ask for.
+fn print_asked<O: Write>(
+    alloc: Global,
+    world: &MemoryWorld,
+    matches: &ArgMatches<'_>,
+    out: &mut O,
+) -> Result<Ended, CommandError>
+    ensures printed { IfOk result (λ ended.
+        (prints : PrintsVerdict (sees_in world.now) (rows_of (found_of matches.now))
+        (O.contents out.old) (O.contents out.new))
+        × (IsTrue (is_done ended) ↔ IsYes prints.verdict)) }
+    ensures refused { IfErr result (λ e.
+        FailsToJudge (sees_in world.now) (rows_of (found_of matches.now)) e ⊎ IsPrintFault e) }
+{
+    let judgement = verify_asked(
+        alloc,
+        world,
+        matches,
+        &None,
+        &mut KeptEvidence::nothing(alloc),
+    )?;
+    print_line(judgement.line.as_str(), out)?;
+    Ok(judgement.ended)
+}
+
 /// `verify` with its options, without evidence, over a world in memory: its verdict is on what that
 /// holds.
 pub fn verify_in_memory<O: Write>(
@@ -185,5 +238,5 @@ pub fn verify_in_memory<O: Write>(
     spells_one_record();
     faults_are_single_valued();
     record_faults_are_single_valued();
-    verify_asked(alloc, world, matches, out)
+    print_asked(alloc, world, matches, out)
 }

@@ -65,13 +65,15 @@ struct Putter<S: Stream + Drop, K: Opened, P: Counter> {
 
 impl<S: Stream + Drop, K: Opened, P: Counter> Taker for Putter<S, K, P> {
     ghost use Rattle.commands.specs.Putting.{address_of_putter, connection_of_putter};
+    ghost use Rattle.commands.specs.Put.{PutsRead};
+    ghost use Rattle.commands.specs.Read.{bytes_in};
 
     ghost takes = { λ old new blob.
-        PutsNext (connection_of_putter old) (connection_of_putter new) blob
+        PutsRead (connection_of_putter old) (connection_of_putter new) blob
         × (address_of_putter new ≡ address_of_putter old) };
 
     ghost refuses = { λ old blob e.
-        RefusesPut (connection_of_putter old) (address_of_putter old) blob e };
+        RefusesPut (connection_of_putter old) (address_of_putter old) (bytes_in blob) e };
 
     fn take(&mut self, alloc: Global, blob: &[u8]) -> Result<Digest, CommandError> {
         self.client.put(alloc, &self.server, blob)

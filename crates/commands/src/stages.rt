@@ -10,6 +10,7 @@ ghost use Rattle.remote.specs.Folder.{IsNotThere, IsNothingAt};
 
 use crate::error::CommandError;
 use crate::evidence_options::path_in;
+use crate::kept_evidence::KeptEvidence;
 use crate::world::Inputs;
 use remote::FileError;
 use std::alloc::Global;
@@ -147,6 +148,7 @@ pub(crate) fn listed_stages<W: Inputs>(
     alloc: Global,
     world: &W,
     evidence: &str,
+    kept: &mut KeptEvidence,
 ) -> Result<Option<Vec<u32>>, CommandError>
     ensures listed { IfOk result (λ stages. IsListed (W.sees world.now) evidence.now
         (option_map (λ s. s.items) stages)) }
@@ -165,5 +167,6 @@ pub(crate) fn listed_stages<W: Inputs>(
     if has_plan(alloc, world, evidence)? {
         return Err(stages_error(alloc, list.as_str(), StagesFault::PlanBeside));
     }
+    kept.keep_text(alloc, "stages", &text)?;
     Ok(Some(read_stages(alloc, list.as_str(), &text)?))
 }

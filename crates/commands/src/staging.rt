@@ -1,25 +1,24 @@
-ghost use Rattle.std.specs.Prelude.{◌≡◌, ◌<◌, IfErr, IfOk, OnErr, decimal, length, string_bytes};
+ghost use Rattle.std.specs.Prelude.{◌≡◌, ◌<◌, IfErr, IfOk, decimal, length, string_bytes};
+ghost use Rattle.commands.specs.Ended.{HasOneLine};
 ghost use Rattle.commands.specs.Evidence.{StatesDigests, in_evidence};
 ghost use Rattle.commands.specs.Faults.{OrMemory};
 ghost use Rattle.commands.specs.Printed.{JudgesAsked};
-ghost use Rattle.commands.specs.Refusal.{FailsToJudge, IsPrintFault};
+ghost use Rattle.commands.specs.Refusal.{FailsToJudge};
 ghost use Rattle.commands.specs.Stages.{AnswersStages, FailsClaimOf, FailsStages, IsClaimOf};
 ghost use Rattle.commands.specs.Stages.{JudgesStages, ListsStages, SpellsDigests};
 ghost use Rattle.commands.specs.Stages.{stage_options, stages_asked};
-ghost use Rattle.commands.specs.Told.{PrintsNoLine};
-ghost use Rattle.commands.specs.Verified.{AnswersVerdict, BeginsInside, FailsInside};
-ghost use Rattle.commands.specs.Verified.{FailsSpelled, OnPlans};
+ghost use Rattle.commands.specs.Verified.{AnswersClaim, FailsInside, FailsSpelled, OnPlans};
 
-use crate::ended::Ended;
 use crate::error::CommandError;
 use crate::evidence_options::{digest_in_file, options_of, path_in, read_options};
+use crate::judgement::Judgement;
+use crate::kept_evidence::KeptEvidence;
 use crate::options::Options;
-use crate::verifying::{ended_of, judge_asked, print_line, typed_digests};
+use crate::verifying::{ended_of, judge_asked, typed_digests};
 use crate::world::Inputs;
 use blob_digest::Digest;
 use report::{StagesVerdict, is_yes_of_stages, report_stages};
 use std::alloc::{AllocError, Global};
-use std::io::Write;
 use text_verifier::Digests;
 use verifier::Verdict;
 
@@ -53,26 +52,30 @@ fn claim_of<W: Inputs>(
     digest_in_file(alloc, world, path.as_str())
 }
 
-/// The verdict on a stage, from these sources to this claim.
+/// The verdict on a stage, from its sources to its claim.
 fn judge_stage<W: Inputs, M: Options>(
     alloc: Global,
     world: &W,
     said: &M,
     evidence: &str,
     stage: u32,
-    sources: &Digest,
-    claim: &Digest,
+    digests: &Digests,
+    kept: &mut KeptEvidence,
 ) -> Result<Verdict<Global>, CommandError>
     ensures judged { IfOk result (JudgesAsked (W.sees world.now)
-        (stage_options (M.rows said.now) evidence.now stage sources.now claim.now)) }
+        (stage_options (M.rows said.now) evidence.now stage
+        digests.now.sources digests.now.claim)) }
     ensures fault { IfErr result (FailsToJudge (W.sees world.now)
-        (stage_options (M.rows said.now) evidence.now stage sources.now claim.now)) }
+        (stage_options (M.rows said.now) evidence.now stage
+        digests.now.sources digests.now.claim)) }
 {
     let folder = stage_folder(alloc, evidence, stage)?;
-    let sources = sources.write_text(alloc)?;
-    let claim = claim.write_text(alloc)?;
+    let sources = digests.sources.write_text(alloc)?;
+    let claim = digests.claim.write_text(alloc)?;
     let options = options_of(alloc, said, evidence, folder.as_str(), sources, claim)?;
-    judge_asked(alloc, world, &options)
+    kept.begin_stage(alloc, stage)?;
+    let answer = judge_asked(alloc, world, &options, kept)?;
+    Ok(answer.verdict)
 }
 
 /// The verdict on stages, one after another up to the first that has a no.
@@ -83,6 +86,7 @@ fn judge_stages<W: Inputs, M: Options>(
     evidence: &str,
     stages: &[u32],
     digests: &Digests,
+    kept: &mut KeptEvidence,
 ) -> Result<StagesVerdict<Global>, CommandError>
     requires { 0 < length stages.now }
     ensures judged { IfOk result (JudgesStages (W.sees world.now) (stages_asked (M.rows said.now)
@@ -96,7 +100,8 @@ fn judge_stages<W: Inputs, M: Options>(
     let mut rest = stages;
     while let Some((stage, left)) = rest.split_first() {
         let claim = claim_of(alloc, world, evidence, *stage, left, &digests.claim)?;
-        match judge_stage(alloc, world, said, evidence, *stage, &sources, &claim)? {
+        let asked = Digests { sources, claim };
+        match judge_stage(alloc, world, said, evidence, *stage, &asked, kept)? {
             Verdict::Yes { steps: more, .. } => steps += more as u128,
             Verdict::No(place, cause) => {
                 let stage = *stage;
@@ -130,40 +135,37 @@ fn stated_digests<V: Inputs, W: Inputs, M: Options>(
     ensures fault { IfErr result (OrMemory
         (FailsSpelled (V.sees outside.now) (W.sees world.now) (M.rows said.now) evidence.now)) }
 {
-    let options = read_options(alloc, outside, world, said, evidence)?;
-    typed_digests(alloc, &options)
+    let stated = read_options(alloc, outside, world, said, evidence)?;
+    typed_digests(alloc, &stated.options)
 }
 
-/// Prints the line of the verdict on stages. A folder that stands for the claim is outside of the
+/// The line of the verdict on stages. A folder that stands for the claim is outside of the
 /// evidence.
-pub(crate) fn verify_stages<V: Inputs, W: Inputs, M: Options, O: Write>(
+pub(crate) fn verify_stages<V: Inputs, W: Inputs, M: Options>(
     alloc: Global,
     outside: &V,
     world: &W,
     said: &M,
     evidence: &str,
     stages: &[u32],
-    out: &mut O,
-) -> Result<Ended, CommandError>
+    kept: &mut KeptEvidence,
+) -> Result<Judgement, CommandError>
     requires { ListsStages (W.sees world.now) evidence.now stages.now }
-    ensures answered { IfOk result (λ ended. OnPlans (V.sees outside.now) (W.sees world.now)
+    ensures answered { IfOk result (λ j. OnPlans (V.sees outside.now) (W.sees world.now)
         (M.rows said.now) evidence.now
-        (λ o. AnswersVerdict (W.sees world.now) o (O.contents out.old) (O.contents out.new) ended)
-        (λ asked. AnswersStages (W.sees world.now) asked (O.contents out.old) (O.contents out.new)
-        ended)) }
-    ensures unprinted { IfErr result
-        (λ fault. ¬ IsPrintFault fault → O.contents out.new ≡ O.contents out.old) }
-    ensures begun { OnErr result (BeginsInside (V.sees outside.now) (W.sees world.now)
-        (M.rows said.now) evidence.now (O.contents out.old) (O.contents out.new)) }
-    ensures unended { OnErr result (PrintsNoLine (O.contents out.old) (O.contents out.new)) }
+        (λ o. AnswersClaim (V.sees outside.now) (M.rows said.now) (W.sees world.now) o
+        (string_bytes j.line) j.ended)
+        (λ asked. AnswersStages (W.sees world.now) asked (string_bytes j.line) j.ended)) }
+    ensures one_line { IfOk result HasOneLine }
     ensures refused { IfErr result
         (FailsInside (V.sees outside.now) (W.sees world.now) (M.rows said.now) evidence.now) }
 {
     let digests = stated_digests(alloc, outside, world, said, evidence)?;
+    kept.keep_digest(alloc, "sources", &digests.sources)?;
+    kept.keep_digest(alloc, "claim", &digests.claim)?;
     let entries = path_in(alloc, evidence, "store")?;
-    let verdict = judge_stages(alloc, world, said, evidence, stages, &digests)?;
+    let verdict = judge_stages(alloc, world, said, evidence, stages, &digests, kept)?;
     let line = report_stages(alloc, &verdict)?;
-    print_line(line.as_str(), out)?;
-    let is_yes = is_yes_of_stages(&verdict);
-    Ok(ended_of(alloc, world, Some(entries), is_yes))
+    let ended = ended_of(alloc, world, Some(entries), is_yes_of_stages(&verdict));
+    Ok(Judgement { line, ended })
 }

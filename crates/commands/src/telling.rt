@@ -11,6 +11,7 @@ use crate::again::write_again;
 use crate::ended::Note;
 use crate::error::CommandError;
 use crate::error_text::{error_text, of_path};
+use crate::mismatch_text::mismatch_text;
 use blob_digest::Digest;
 use std::alloc::{AllocError, Global};
 use std::io::{ErrorKind, Write};
@@ -101,6 +102,7 @@ fn note_text(alloc: Global, note: &Note) -> Result<String, AllocError>
     match note {
         Note::NoBlob { server, digest } => no_blob_text(alloc, server.as_str(), digest),
         Note::NoStore { path } => no_store_text(alloc, path.as_str()),
+        Note::Differs(mismatch) => mismatch_text(alloc, mismatch),
         Note::Refused(why) => String::from_str(alloc, why.as_str()),
     }
 }

@@ -1,6 +1,7 @@
 ghost use Rattle.std.specs.Prelude.{◌≡◌, ◌∷◌, [], IfOk, codes, map, string_bytes};
 ghost use Rattle.commands.specs.Evidence.{evidence_words, goes_alone, has_wanted, missing};
 ghost use Rattle.commands.specs.Evidence.{artifact_words, has_bits_of_folder, has_one_claim};
+ghost use Rattle.commands.specs.Evidence.{asked_words, keep_words, leaves, may_name_kept};
 ghost use Rattle.commands.specs.Evidence.{missing_claim, missing_option};
 ghost use Rattle.commands.specs.Evidence.{names_evidence, needs_server};
 ghost use Rattle.commands.specs.Words.{IsCheckedBy, server_words, where_said};
@@ -49,7 +50,7 @@ fn missing_options<M: Options>(alloc: Global, options: &M) -> Result<String, All
 }
 
 /// Without evidence all that is wanted is said.
-pub(crate) fn check_wanted<M: Options>(alloc: Global, options: &M) -> Result<(), CommandError>
+fn check_wanted<M: Options>(alloc: Global, options: &M) -> Result<(), CommandError>
     ensures { IsCheckedBy (has_wanted (M.rows options.now) ∷ []) result }
 {
     let missing = missing_options(alloc, options)?;
@@ -83,7 +84,7 @@ fn check_bits<M: Options>(alloc: Global, options: &M) -> Result<(), CommandError
 }
 
 /// What is said of a folder that stands for a claim goes together.
-pub(crate) fn check_artifact<M: Options>(alloc: Global, options: &M) -> Result<(), CommandError>
+fn check_artifact<M: Options>(alloc: Global, options: &M) -> Result<(), CommandError>
     ensures { IsCheckedBy (artifact_words (M.rows options.now)) result }
 {
     check_one_claim(alloc, options)?;
@@ -140,8 +141,45 @@ fn check_server<M: Options>(alloc: Global, options: &M) -> Result<(), CommandErr
     Ok(())
 }
 
+/// The file for what is looked at isn't one that the option names.
+fn check_leaves<M: Options>(
+    alloc: Global,
+    options: &M,
+    option: &'static str,
+    written: &str,
+) -> Result<(), CommandError>
+    ensures { IsCheckedBy (leaves (M.rows options.now) option.now written.now ∷ []) result }
+{
+    match options.text("keep") {
+        Some(path) if path == text_for(options, option) => Err(CommandError::Usage(format!(in alloc;
+            "--keep cannot name the file of {written}"
+        )?)),
+        _ => Ok(()),
+    }
+}
+
+/// The file for what is looked at has a name, where it is said.
+fn check_kept_file<M: Options>(alloc: Global, options: &M) -> Result<(), CommandError>
+    ensures { IsCheckedBy (may_name_kept (M.rows options.now) ∷ []) result }
+{
+    match options.text("keep") {
+        Some("") => Err(invalid_value(alloc, "keep", "a file", "")?),
+        _ => Ok(()),
+    }
+}
+
+/// The file for what is looked at has a name, and is none that is asked.
+fn check_keep<M: Options>(alloc: Global, options: &M) -> Result<(), CommandError>
+    ensures { IsCheckedBy (keep_words (M.rows options.now)) result }
+{
+    check_kept_file(alloc, options)?;
+    check_leaves(alloc, options, "plan", "--plan")?;
+    check_leaves(alloc, options, "record", "--record")?;
+    check_leaves(alloc, options, "evidence", "<EVIDENCE>")
+}
+
 /// What is said beside evidence goes with it.
-pub(crate) fn check_words<M: Options>(alloc: Global, options: &M) -> Result<(), CommandError>
+fn check_words<M: Options>(alloc: Global, options: &M) -> Result<(), CommandError>
     ensures { IsCheckedBy (evidence_words (M.rows options.now)) result }
 {
     check_alone(alloc, options, "plan")?;
@@ -152,4 +190,16 @@ pub(crate) fn check_words<M: Options>(alloc: Global, options: &M) -> Result<(), 
     check_with_server(alloc, options, "timeout")?;
     check_named(alloc, options)?;
     check_server(alloc, options)
+}
+
+/// The words are valid, with evidence or without it.
+pub(crate) fn check_asked<M: Options>(alloc: Global, options: &M) -> Result<(), CommandError>
+    ensures { IsCheckedBy (asked_words (M.rows options.now)) result }
+{
+    check_artifact(alloc, options)?;
+    match options.text("evidence") {
+        Some(_) => check_words(alloc, options)?,
+        None => check_wanted(alloc, options)?,
+    }
+    check_keep(alloc, options)
 }

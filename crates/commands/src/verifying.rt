@@ -3,29 +3,31 @@ ghost use Rattle.std.specs.Prelude.{None, OnErr, OnOk, codes, option_map, string
 ghost use Rattle.std.specs.Io.KnownBytes.{Appends};
 ghost use Rattle.clap.specs.Words.{first_of};
 ghost use Rattle.command_lines.specs.CommandLine.{option_text};
-ghost use Rattle.commands.specs.Ended.{is_done};
+ghost use Rattle.commands.specs.Ended.{HasOneLine, is_done};
 ghost use Rattle.commands.specs.Faults.{OrMemory};
+ghost use Rattle.commands.specs.FolderRead.{value_of_read};
 ghost use Rattle.commands.specs.Places.{FailsInFolder, FailsOver, IsFresh, IsOfFolder};
 ghost use Rattle.commands.specs.Places.{FailsOfParts, IsOfBoth, IsToldByParts, LacksOfBoth};
 ghost use Rattle.commands.specs.Places.{IsOfServer, IsAnsweredBy, IsToldOver, LacksAtServer};
 ghost use Rattle.commands.specs.Places.{LacksInFolder, LacksIt, LacksOfParts, SeesFiles};
 ghost use Rattle.commands.specs.Places.{gets_alone};
-ghost use Rattle.commands.specs.Printed.{AsksQuestion, BeginsVerdict, IsNamedPlace, IsOfPlace};
-ghost use Rattle.commands.specs.Printed.{JudgesAsked, LacksAtPlace, LacksFolder, MayHaveFolder};
+ghost use Rattle.commands.specs.Printed.{AsksQuestion, IsNamedPlace, IsOfPlace};
+ghost use Rattle.commands.specs.Printed.{JudgesAnswer, LacksAtPlace, LacksFolder, MayHaveFolder};
 ghost use Rattle.commands.specs.Printed.{NotesFolder, named_folder};
 ghost use Rattle.commands.specs.Refusal.{FailsDigests, FailsAtPlace, FailsPlan, FailsRecord};
-ghost use Rattle.commands.specs.Refusal.{FailsOfBoth, FailsServer, FailsToJudge, FailsVerify};
+ghost use Rattle.commands.specs.Refusal.{FailsOfBoth, FailsServer, FailsToJudge};
 ghost use Rattle.commands.specs.Refusal.{HasPlanRead};
 ghost use Rattle.commands.specs.Refusal.{IsPrintFault};
 ghost use Rattle.commands.specs.Refusal.{IsTextFault};
 ghost use Rattle.commands.specs.Told.{AppendsBeginning, PrintsNoLine};
-ghost use Rattle.commands.specs.Verified.{AnswersVerdict};
+ghost use Rattle.commands.specs.Verified.{AnswersOn};
 ghost use Rattle.commands.specs.Words.{IsCheckedBy, IsSaid, IsUsageError, goes_with_server};
 ghost use Rattle.commands.specs.Words.{may_name_folder, place_words, server_words};
 ghost use Rattle.remote.specs.Remote.{connection_of};
 ghost use Rattle.report.specs.Line.{IsOneLine};
 ghost use Rattle.text_verifier.specs.Texts.{IsDigestText};
 
+use crate::artifact::FolderRead;
 use crate::blobs_and_results::BlobsAndResults;
 use crate::client::{Client, GetsAlone, GetsBlobs, Opened, open};
 use crate::connecting::{ServerOptions, read_server};
@@ -33,18 +35,22 @@ use crate::ended::{Ended, Note};
 use crate::error::CommandError;
 use crate::folder_store::{FolderMark, FolderStore};
 use crate::hint::Hint;
+use crate::judgement::Judgement;
+use crate::kept_evidence::KeptEvidence;
+use crate::noting::{note_of, with_note};
 use crate::options::{Options, invalid_value, read_digest, text_for};
 use crate::telling::write_bytes;
 use crate::world::{FilesOf, Inputs};
+use keeping::{Keeping, Kept};
 use plan::{Plan, PlanError};
 use remote::{FileError, Remote, Stream};
 use report::{is_yes, report};
 use std::alloc::{AllocError, Global};
 use std::io::{ErrorKind, Write};
 use std::marker::Brand;
+use std::mem;
 use text_verifier::{Answer, Case, Digests, Lack, TextError, answer_question, read_plan};
 use tree::FetchError;
-use verifier::Verdict;
 
 /// Where the recorded build is.
 #[derive(Drop)]
@@ -83,6 +89,27 @@ fn text_error(alloc: Global, path: &str, text: &[u8], fault: PlanError) -> Comma
     }
 }
 
+/// The plan in the file that the words name, whose text is kept.
+fn read_kept_plan<W: Inputs, M: Options>(
+    alloc: Global,
+    world: &W,
+    options: &M,
+    kept: &mut KeptEvidence,
+) -> Result<Plan<Global>, CommandError>
+    ensures found { IfOk result (HasPlanRead (W.sees world.now) (M.rows options.now)) }
+    ensures fault { IfErr result (FailsPlan (W.sees world.now) (M.rows options.now)) }
+{
+    let path = text_for(options, "plan");
+    let bytes = world.read(alloc, path)?;
+    let text = bytes.as_slice();
+    kept.keep_text(alloc, "plan", text)?;
+    match read_plan(alloc, text) {
+        Ok(plan) => Ok(plan),
+        Err(TextError::Plan(fault)) => Err(text_error(alloc, path, text, fault)),
+        Err(_e) => Err(CommandError::Memory),
+    }
+}
+
 /// The plan in the file that the words name.
 pub fn plan_in_file<W: Inputs, M: Options>(
     alloc: Global,
@@ -92,23 +119,18 @@ pub fn plan_in_file<W: Inputs, M: Options>(
     ensures found { IfOk result (HasPlanRead (W.sees world.now) (M.rows options.now)) }
     ensures fault { IfErr result (FailsPlan (W.sees world.now) (M.rows options.now)) }
 {
-    let path = text_for(options, "plan");
-    let bytes = world.read(alloc, path)?;
-    let text = bytes.as_slice();
-    match read_plan(alloc, text) {
-        Ok(plan) => Ok(plan),
-        Err(TextError::Plan(fault)) => Err(text_error(alloc, path, text, fault)),
-        Err(_e) => Err(CommandError::Memory),
-    }
+    read_kept_plan(alloc, world, options, &mut KeptEvidence::nothing(alloc))
 }
 
-/// What is asked: the digests, the plan, and the record of it in the file that the words name.
-fn read_case<W: Inputs, M: Options>(
+/// What is asked: the digests, the plan, and the record of it in the file that the words name,
+/// whose text is kept.
+pub(crate) fn read_case<W: Inputs, M: Options>(
     alloc: Global,
     world: &W,
     options: &M,
     digests: Digests,
     plan: Plan<Global>,
+    kept: &mut KeptEvidence,
 ) -> Result<Case<Global>, CommandError>
     requires sources { IsDigestText
         (option_text (M.rows options.now) (codes "sources")) digests.sources }
@@ -122,6 +144,7 @@ fn read_case<W: Inputs, M: Options>(
     let path = text_for(options, "record");
     let bytes = world.read(alloc, path)?;
     let text = bytes.as_slice();
+    kept.keep_text(alloc, "record", text)?;
     match Case::read(alloc, digests, plan, text) {
         Ok(case) => Ok(case),
         Err(TextError::Record(fault)) => Err(text_error(alloc, path, text, fault)),
@@ -213,6 +236,7 @@ fn judge_folder<W: Inputs, K: FolderMark>(
     world: &W,
     folder: String,
     case: &Case<Global>,
+    told: &mut Kept<Global>,
 ) -> Result<Answer<Global>, CommandError>
     requires folder { K.folder ≡ string_bytes folder }
     requires sees { SeesFiles (W.sees world.now) K.sees }
@@ -221,8 +245,12 @@ fn judge_folder<W: Inputs, K: FolderMark>(
     ensures fault { IfErr result (OrMemory (λ e. ∥ FailsInFolder K.sees K.folder e ∥₁)) }
 {
     let files = FilesOf(world);
-    let mut store: FolderStore<'_, W, K> = FolderStore::new(alloc, &files, folder);
-    match answer_question(alloc, case, &mut store) {
+    let store: FolderStore<'_, W, K> = FolderStore::new(alloc, &files, folder);
+    let mut source = Keeping::new(store, mem::replace(told, Kept::nothing(alloc)));
+    let answered = answer_question(alloc, case, &mut source);
+    let (store, kept) = source.into_parts();
+    *told = kept;
+    match answered {
         Ok(answer) => {
             if store.confirms(&answer.lack) {
                 return Ok(answer);
@@ -258,6 +286,7 @@ fn judge_over<S: Stream + Drop, K: Opened>(
     server: &ServerOptions,
     remote: Remote<S, Global>,
     case: &Case<Global>,
+    told: &mut Kept<Global>,
 ) -> Result<Answer<Global>, CommandError>
     requires start { K.start ≡ connection_of S.flow remote }
     requires fresh { IsFresh remote }
@@ -266,8 +295,12 @@ fn judge_over<S: Stream + Drop, K: Opened>(
     ensures fault { IfErr result (OrMemory
         (λ e. ∥ FailsOver gets_alone K.start (string_bytes server.now.address) e ∥₁)) }
 {
-    let mut client: Client<S, K, GetsAlone> = Client::new(remote);
-    match answer_question(alloc, case, &mut client) {
+    let client: Client<S, K, GetsAlone> = Client::new(remote);
+    let mut source = Keeping::new(client, mem::replace(told, Kept::nothing(alloc)));
+    let answered = answer_question(alloc, case, &mut source);
+    let (mut client, kept) = source.into_parts();
+    *told = kept;
+    match answered {
         Ok(answer) => {
             confirm_lack(alloc, server, &mut client, &answer.lack)?;
             Ok(answer)
@@ -283,6 +316,7 @@ fn judge_server<W: Inputs>(
     world: &W,
     server: &ServerOptions,
     case: &Case<Global>,
+    told: &mut Kept<Global>,
 ) -> Result<Answer<Global>, CommandError>
     ensures answered { IfOk result
         (IsAnsweredBy (IsOfServer gets_alone (W.sees world.now) server.now)
@@ -291,7 +325,7 @@ fn judge_server<W: Inputs>(
         (OrMemory (λ e. ∥ FailsServer gets_alone (W.sees world.now) server.now e ∥₁)) }
 {
     let remote = open(alloc, world, server)?;
-    judge_over::<W::Link, Brand>(alloc, server, remote, case)
+    judge_over::<W::Link, Brand>(alloc, server, remote, case, told)
 }
 
 /// The answer by blobs over the marked connection and results of the marked folder.
@@ -302,6 +336,7 @@ fn judge_parts<S: Stream + Drop, K: Opened, W: Inputs, F: FolderMark>(
     remote: Remote<S, Global>,
     folder: String,
     case: &Case<Global>,
+    told: &mut Kept<Global>,
 ) -> Result<Answer<Global>, CommandError>
     requires start { K.start ≡ connection_of S.flow remote }
     requires fresh { IsFresh remote }
@@ -315,15 +350,19 @@ fn judge_parts<S: Stream + Drop, K: Opened, W: Inputs, F: FolderMark>(
     let files = FilesOf(world);
     let results: FolderStore<'_, W, F> = FolderStore::new(alloc, &files, folder);
     let blobs: Client<S, K, GetsBlobs> = Client::new(remote);
-    let mut source = BlobsAndResults::new(blobs, results);
-    match answer_question(alloc, case, &mut source) {
+    let parts = BlobsAndResults::new(blobs, results);
+    let mut source = Keeping::new(parts, mem::replace(told, Kept::nothing(alloc)));
+    let answered = answer_question(alloc, case, &mut source);
+    let (mut parts, kept) = source.into_parts();
+    *told = kept;
+    match answered {
         Ok(answer) => {
-            if source.confirms(alloc, &answer.lack) {
+            if parts.confirms(alloc, &answer.lack) {
                 return Ok(answer);
             }
-            Err(source.into_error(alloc, server)?)
+            Err(parts.into_error(alloc, server)?)
         }
-        Err(TextError::Fetch) => Err(source.into_error(alloc, server)?),
+        Err(TextError::Fetch) => Err(parts.into_error(alloc, server)?),
         Err(_e) => Err(CommandError::Memory),
     }
 }
@@ -335,6 +374,7 @@ fn judge_both<W: Inputs>(
     server: &ServerOptions,
     folder: String,
     case: &Case<Global>,
+    told: &mut Kept<Global>,
 ) -> Result<Answer<Global>, CommandError>
     ensures answered { IfOk result
         (IsAnsweredBy (IsOfBoth (W.sees world.now) server.now (string_bytes folder))
@@ -343,7 +383,7 @@ fn judge_both<W: Inputs>(
         ∥ FailsOfBoth (W.sees world.now) server.now (string_bytes folder) e ∥₁)) }
 {
     let remote = open(alloc, world, server)?;
-    judge_parts::<W::Link, Brand, W, Brand>(alloc, world, server, remote, folder, case)
+    judge_parts::<W::Link, Brand, W, Brand>(alloc, world, server, remote, folder, case, told)
 }
 
 /// The answer over the place where the recorded build is.
@@ -353,6 +393,7 @@ fn judge<W: Inputs, M: Options>(
     options: &M,
     build: RecordedBuild,
     case: &Case<Global>,
+    told: &mut Kept<Global>,
 ) -> Result<Answer<Global>, CommandError>
     requires { IsNamedPlace (M.rows options.now) build }
     ensures answered { IfOk result
@@ -362,9 +403,11 @@ fn judge<W: Inputs, M: Options>(
         (OrMemory (λ e. ∥ FailsAtPlace (W.sees world.now) (M.rows options.now) e ∥₁)) }
 {
     match build {
-        RecordedBuild::Folder(folder) => judge_folder::<W, Brand>(alloc, world, folder, case),
-        RecordedBuild::Server(server) => judge_server(alloc, world, &server, case),
-        RecordedBuild::Both(server, folder) => judge_both(alloc, world, &server, folder, case),
+        RecordedBuild::Folder(folder) => judge_folder::<W, Brand>(alloc, world, folder, case, told),
+        RecordedBuild::Server(server) => judge_server(alloc, world, &server, case, told),
+        RecordedBuild::Both(server, folder) => judge_both(
+            alloc, world, &server, folder, case, told,
+        ),
     }
 }
 
@@ -431,42 +474,46 @@ pub(crate) fn ended_of<W: Inputs>(
 }
 
 /// The verdict that these options ask for. The words are read first, then the plan's file and its
-/// text, then the record's; then the store, the server or both are asked.
+/// text, then the record's; then the store, the server or both are asked. What is looked at is
+/// kept.
 pub(crate) fn judge_asked<W: Inputs, M: Options>(
     alloc: Global,
     world: &W,
     options: &M,
-) -> Result<Verdict<Global>, CommandError>
-    ensures judged { IfOk result (JudgesAsked (W.sees world.now) (M.rows options.now)) }
+    kept: &mut KeptEvidence,
+) -> Result<Answer<Global>, CommandError>
+    ensures judged { IfOk result (λ answer. JudgesAnswer (W.sees world.now) (M.rows options.now)
+        answer.verdict answer.made) }
     ensures refused { IfErr result (FailsToJudge (W.sees world.now) (M.rows options.now)) }
 {
     let build = read_place(alloc, options)?;
     let digests = typed_digests(alloc, options)?;
-    let plan = plan_in_file(alloc, world, options)?;
-    let case = read_case(alloc, world, options, digests, plan)?;
-    let answer = judge(alloc, world, options, build, &case)?;
-    Ok(answer.verdict)
+    kept.keep_digest(alloc, "sources", &digests.sources)?;
+    kept.keep_digest(alloc, "claim", &digests.claim)?;
+    let plan = read_kept_plan(alloc, world, options, kept)?;
+    let case = read_case(alloc, world, options, digests, plan, kept)?;
+    judge(alloc, world, options, build, &case, &mut kept.told)
 }
 
-/// Prints the line of the verdict that these options ask for.
-pub(crate) fn verify_asked<W: Inputs, M: Options, O: Write>(
+/// The line of the verdict that these options ask for, with a note where it is that builds don't
+/// make the folder that stands for the claim.
+pub(crate) fn verify_asked<W: Inputs, M: Options>(
     alloc: Global,
     world: &W,
     options: &M,
-    out: &mut O,
-) -> Result<Ended, CommandError>
-    ensures answered { IfOk result (AnswersVerdict (W.sees world.now) (M.rows options.now)
-        (O.contents out.old) (O.contents out.new)) }
-    ensures unprinted { IfErr result
-        (λ fault. ¬ IsPrintFault fault → O.contents out.new ≡ O.contents out.old) }
-    ensures begun { OnErr result (BeginsVerdict (W.sees world.now) (M.rows options.now)
-        (O.contents out.old) (O.contents out.new)) }
-    ensures unended { OnErr result (PrintsNoLine (O.contents out.old) (O.contents out.new)) }
-    ensures refused { IfErr result (FailsVerify (W.sees world.now) (M.rows options.now)) }
+    read: &Option<FolderRead>,
+    kept: &mut KeptEvidence,
+) -> Result<Judgement, CommandError>
+    ensures answered { IfOk result (λ j. AnswersOn (W.sees world.now) (M.rows options.now)
+        (option_map value_of_read read.now) (string_bytes j.line) j.ended) }
+    ensures one_line { IfOk result HasOneLine }
+    ensures refused { IfErr result (FailsToJudge (W.sees world.now) (M.rows options.now)) }
 {
     let folder = named_folder(alloc, options)?;
-    let verdict = judge_asked(alloc, world, options)?;
-    let line = report(alloc, &verdict)?;
-    print_line(line.as_str(), out)?;
-    Ok(ended_of(alloc, world, folder, is_yes(&verdict)))
+    let answer = judge_asked(alloc, world, options, kept)?;
+    let note = note_of(alloc, &answer.made, read)?;
+    let line = report(alloc, &answer.verdict)?;
+    let ended = ended_of(alloc, world, folder, is_yes(&answer.verdict));
+    let ended = with_note(ended, note);
+    Ok(Judgement { line, ended })
 }

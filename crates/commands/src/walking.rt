@@ -17,21 +17,21 @@ pub(crate) const GREATEST_DEPTH: u32 = 64;
 
 /// What takes the blobs of what is read, one after another.
 pub(crate) trait Taker {
-    ghost use Rattle.std.specs.Prelude.{ℕ, List};
     ghost use Rattle.blob_digest.specs.Digest.{digest_of};
+    ghost use Rattle.commands.specs.Read.{ReadBlob, folder_blob};
     ghost use Rattle.commands.specs.declared.error.CommandError.{CommandError};
 
     /// How it stands after it took a blob.
-    ghost takes: { Self → Self → List ℕ → Type 0 };
+    ghost takes: { Self → Self → ReadBlob → Type 0 };
 
     /// Why it doesn't take a blob.
-    ghost refuses: { Self → List ℕ → CommandError → Type 0 };
+    ghost refuses: { Self → ReadBlob → CommandError → Type 0 };
 
-    /// Takes a blob; gives its digest.
+    /// Takes a Directory; gives its digest.
     fn take(&mut self, alloc: Global, blob: &[u8]) -> Result<Digest, CommandError>
         ensures named { IfOk result (λ digest. digest ≡ digest_of blob.now) }
-        ensures taken { OnOk result (takes self.old self.new blob.now) }
-        ensures refused { IfErr result (OrMemory (refuses self.old blob.now)) };
+        ensures taken { OnOk result (takes self.old self.new (folder_blob blob.now)) }
+        ensures refused { IfErr result (OrMemory (refuses self.old (folder_blob blob.now))) };
 
     /// Takes the file at a place; gives its digest.
     fn take_file<W: Inputs>(

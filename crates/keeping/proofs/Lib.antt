@@ -1,2 +1,2 @@
-mod Kept
 mod Reading
+mod SameDigest

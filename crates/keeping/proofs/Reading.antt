@@ -14,7 +14,7 @@ use Rattle.blob_source.specs.Source.{bytes_of}
 use Rattle.blob_source.proofs.Digests.{other_digests}
 use Rattle.keeping.specs.Told.{ReadsTold, store_path, told_file, told_files}
 use Rattle.keeping.specs.declared.answers.Answers.{Answers}
-use Rattle.keeping.proofs.Kept.{same_or_other}
+use Rattle.keeping.proofs.SameDigest.{same_or_other}
 
 all_behind : (P : EntryValue → Type 0) (xs ys : List EntryValue) → AllByRecursion P (xs ++ ys) → AllByRecursion P ys
 all_behind P [] ys h = h

@@ -4,8 +4,10 @@
 
 mod answers;
 mod keeping;
+mod kept;
 mod laws;
 mod told;
 
 pub use keeping::Keeping;
+pub use kept::Kept;
 pub use laws::what_was_told_is_read_back;

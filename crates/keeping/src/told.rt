@@ -74,23 +74,23 @@ fn push_entries<'e, A: Allocator + Copy>(
     Ok(())
 }
 
-/// One archive of files, and of those of blobs and of results behind them.
+/// One archive of files, and of those of results and of blobs behind them.
 pub(crate) fn write_all<'e, A: Allocator + Copy>(
     alloc: A,
     texts: &'e [Entry<'e>],
-    blobs: &'e [ToldFile<'e, A>],
     results: &'e [ToldFile<'e, A>],
+    blobs: &'e [ToldFile<'e, A>],
 ) -> Result<Vec<u8, A>, WriteError>
     ensures written { IfOk result (λ bytes. bytes.items
-        ≡ archive_bytes (map entry_value texts.now ++ map told_value blobs.now
-        ++ map told_value results.now)) }
+        ≡ archive_bytes (map entry_value texts.now ++ map told_value results.now
+        ++ map told_value blobs.now)) }
     ensures read_back { IfOk result (λ bytes. IsArchiveOf bytes.items
-        (map entry_value texts.now ++ map told_value blobs.now ++ map told_value results.now)) }
+        (map entry_value texts.now ++ map told_value results.now ++ map told_value blobs.now)) }
     ensures refused { IfErr result (IsUnfitBy
-        (map entry_value texts.now ++ map told_value blobs.now ++ map told_value results.now)) }
+        (map entry_value texts.now ++ map told_value results.now ++ map told_value blobs.now)) }
 {
     let mut entries = Vec::from_slice(alloc, texts)?;
-    push_entries(&mut entries, blobs)?;
     push_entries(&mut entries, results)?;
+    push_entries(&mut entries, blobs)?;
     write_archive(alloc, &entries)
 }

@@ -103,7 +103,7 @@ pub none_in_path : (path : List (List ℕ)) → HasNoNewline (escaped_path path)
 none_in_path path = none_in_text (path_text path)
 
 -- a line of two words and what they name
-one_line : (word a other b : List ℕ) → HasNoNewline word → HasNoNewline a → HasNoNewline other → HasNoNewline b → IsOneLine (word ++ a ++ other ++ b ++ 10 ∷ [])
+pub one_line : (word a other b : List ℕ) → HasNoNewline word → HasNoNewline a → HasNoNewline other → HasNoNewline b → IsOneLine (word ++ a ++ other ++ b ++ 10 ∷ [])
 one_line word a other b in_word in_a in_other in_b = record {
   text = word ++ a ++ other ++ b;
   unbroken = none_joined (word ++ a ++ other) b (none_joined (word ++ a) other (none_joined word a in_word in_a) in_other) in_b;

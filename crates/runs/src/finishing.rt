@@ -1,9 +1,7 @@
 ghost use Rattle.std.specs.Prelude.{◌≡◌, ◌↔◌, ◌⊎◌, ◌<◌, ℕ, Some, IsTrue, IsErr, IsErrOf, IfOk};
 ghost use Rattle.std.specs.Prelude.{IfErr, OnOk, OnErr, length};
 ghost use Rattle.std.specs.List.{AllByRecursion, Contains};
-ghost use Rattle.messages.specs.Directory.{directory_bytes};
-ghost use Rattle.blob_digest.specs.Digest.{digest_of};
-ghost use Rattle.actions.specs.Outcome.{output_value, output_node, outputs_in, outputs_form};
+ghost use Rattle.actions.specs.Outcome.{output_value, outputs_in, outputs_form};
 ghost use Rattle.actions.specs.Outcome.{paths_of_outputs};
 ghost use Rattle.runs.specs.Engine.{FinishedValue, TakesOutcome, IsValidOutput, HoldValidTrees};
 ghost use Rattle.runs.specs.Engine.{at_number};
@@ -16,56 +14,9 @@ use crate::engine::{Engine, Finished, job_at};
 use crate::error::RunsError;
 use actions::{Command, Outcome, Output};
 use blob_digest::Digest;
-use messages::{Path, Tree};
+use messages::Path;
 use std::alloc::{AllocError, Allocator};
-
-/// The digest of the root of a tree.
-fn root_of<A: Allocator + Copy>(alloc: A, tree: &Tree<A>) -> Result<Digest, AllocError>
-    ensures { IfOk result (λ d. d ≡ digest_of (directory_bytes tree.now.root)) }
-{
-    Ok(Digest::of(&tree.root().encode(alloc)?))
-}
-
-/// Whether two outputs are one node.
-fn same_output<A: Allocator + Copy>(
-    alloc: A,
-    one: &Output<A>,
-    other: &Output<A>,
-) -> Result<bool, AllocError>
-    ensures { IfOk result (λ same. IsTrue same
-        ↔ (output_node (output_value one.now) ≡ output_node (output_value other.now))) }
-{
-    match (one, other) {
-        (
-            Output::File { digest, executable },
-            Output::File {
-                digest: other_digest,
-                executable: other_executable,
-            },
-        ) => Ok(*digest == *other_digest && *executable == *other_executable),
-        (Output::Link { target }, Output::Link { target: other }) => Ok(*target == *other),
-        (Output::Tree(tree), Output::Tree(other)) => {
-            Ok(root_of(alloc, tree)? == root_of(alloc, other)?)
-        }
-        _ => Ok(false),
-    }
-}
-
-/// Whether two outputs have one path and are one node.
-fn same_entry<A: Allocator + Copy>(
-    alloc: A,
-    one: &(Path<A>, Output<A>),
-    other: &(Path<A>, Output<A>),
-) -> Result<bool, AllocError>
-    ensures { IfOk result (λ same. IsTrue same
-        ↔ ((one.now.0 ≡ other.now.0)
-        × (output_node (output_value one.now.1) ≡ output_node (output_value other.now.1)))) }
-{
-    if one.0.as_bytes() != other.0.as_bytes() {
-        return Ok(false);
-    }
-    same_output(alloc, &one.1, &other.1)
-}
+use verifier::same_entry;
 
 /// Whether the outputs have the same paths, with one node at each.
 fn same_outputs<A: Allocator + Copy>(

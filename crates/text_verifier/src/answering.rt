@@ -10,7 +10,7 @@ use crate::lack::{Lack, lack_of};
 use crate::reading::Digests;
 use std::alloc::Allocator;
 use tree::BlobSource;
-use verifier::{Verdict, verify};
+use verifier::{Made, Verdict, judge};
 
 /// What the verifier answered.
 #[derive(Drop)]
@@ -19,6 +19,8 @@ pub struct Answer<A: Allocator> {
     pub verdict: Verdict<A>,
     /// What the verdict says that the source lacks.
     pub lack: Option<Lack>,
+    /// What builds of the plan make, where that isn't the claim.
+    pub made: Option<Made<A>>,
 }
 
 /// The answer on the case, by what the source tells.
@@ -27,7 +29,8 @@ pub fn answer_question<A: Allocator + Copy, S: BlobSource<A>>(
     case: &Case<A>,
     source: &mut S,
 ) -> Result<Answer<A>, TextError>
-    // The verdict is the one on the question, and what a yes says holds.
+    // The verdict is the one on the question, what a yes says holds, and what builds make stands
+    // beside it where that isn't the claim.
     ensures answered { IfOk result (IsAnswer (S.tells source.new) case.now) }
     // It is refused where the source fails or memory runs out.
     ensures refused { IfErr result IsNoFault }
@@ -41,7 +44,11 @@ pub fn answer_question<A: Allocator + Copy, S: BlobSource<A>>(
         (S.tells source.old) (S.tells source.new) }
 {
     let Digests { sources, claim } = case.digests;
-    let verdict = verify(alloc, &sources, &case.plan, &case.noted, &claim, source)?;
-    let lack = lack_of(case, &verdict);
-    Ok(Answer { verdict, lack })
+    let judged = judge(alloc, &sources, &case.plan, &case.noted, &claim, source)?;
+    let lack = lack_of(case, &judged.verdict);
+    Ok(Answer {
+        verdict: judged.verdict,
+        lack,
+        made: judged.made,
+    })
 }

@@ -1,11 +1,12 @@
 ghost use Rattle.std.specs.Prelude.{◌≡◌, ◌≤◌, Err, IfErr, IfOk};
 ghost use Rattle.plan.specs.declared.error.PlanError.{PlanError};
-ghost use Rattle.plan.specs.Record.{RecordValue, names_of, IsRecordFault};
+ghost use Rattle.plan.specs.Record.{Fits, RecordValue, names_of, IsRecordFault};
 ghost use Rattle.text_verifier.specs.Refused.{AnswersUnlessMemory, IsRecordRefusal};
 ghost use Rattle.text_verifier.specs.Texts.{HasRecord, question_of};
 
 use crate::error::TextError;
 use crate::reading::{Digests, read_record};
+use blob_digest::Digest;
 use plan::{Plan, Record};
 use std::alloc::Allocator;
 use std::marker::Model;
@@ -28,6 +29,30 @@ impl<A: Allocator> Model for Case<A> {
     ghost view = { λ c. question_of c.digests.sources c.digests.claim c.plan c.noted };
 
     ghost invariant = { λ c. Fits c.noted c.plan };
+}
+
+impl<A: Allocator> Case<A> {
+    /// The digest of the sources.
+    pub fn sources(&self) -> Digest
+        ensures { result ≡ self.now.sources }
+    {
+        self.digests.sources
+    }
+
+    /// The claimed root.
+    pub fn claim(&self) -> Digest
+        ensures { result ≡ self.now.claim }
+    {
+        self.digests.claim
+    }
+
+    /// The plan.
+    pub fn plan(&self) -> &Plan<A>
+        ensures value { result.now ≡ self.now.plan }
+        ensures fits { Fits self.now.noted self.now.plan }
+    {
+        &self.plan
+    }
 }
 
 impl<A: Allocator + Copy> Case<A> {

@@ -9,9 +9,11 @@ mod case;
 mod error;
 mod lack;
 mod reading;
+mod recalling;
 
 pub use answering::{Answer, answer_question};
 pub use case::Case;
 pub use error::TextError;
 pub use lack::Lack;
 pub use reading::{Digests, read_plan};
+pub use recalling::{Recalled, recall};

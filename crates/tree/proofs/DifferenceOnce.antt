@@ -28,14 +28,14 @@ first_in_two d [] (c ∷ b) x y xs ys h k p q e = let same : x ≡ c = cc in abs
 first_in_two d (c ∷ a) [] x y xs ys h k p q e = let same : c ≡ y = cc in absurd (h.0 (ap digest_of same ∙ q))
 first_in_two d (c ∷ a) (f ∷ b) x y xs ys h k p q e = first_in_two d a b x y xs ys h.1 k.1 p q (let rest : a ++ x ∷ xs ≡ b ++ y ∷ ys = cc in rest)
 
-first_once : (own : List (List ℕ)) (d : DigestValue) (x y : List ℕ) → IsFirstOf own d x → IsFirstOf own d y → x ≡ y
+pub first_once : (own : List (List ℕ)) (d : DigestValue) (x y : List ℕ) → IsFirstOf own d x → IsFirstOf own d y → x ≡ y
 first_once own d x y h k = first_in_two d h.before k.before x y h.behind k.behind h.first k.first h.right k.right (sym h.stands ∙ k.stands)
 
 none_there : (d : DigestValue) (a : List (List ℕ)) (x : List ℕ) (xs : List (List ℕ)) → IsNoneOf (a ++ x ∷ xs) d → digest_of x ≡ d → ⊥
 none_there d [] x xs h is = h.0 is
 none_there d (c ∷ a) x xs h is = none_there d a x xs h.1 is
 
-first_or_none : (own : List (List ℕ)) (d : DigestValue) (x : List ℕ) → IsFirstOf own d x → IsNoneOf own d → ⊥
+pub first_or_none : (own : List (List ℕ)) (d : DigestValue) (x : List ℕ) → IsFirstOf own d x → IsNoneOf own d → ⊥
 first_or_none own d x h k = none_there d h.before x h.behind (subst (λ bs. IsNoneOf bs d) h.stands k) h.right
 
 module _ (own : List (List ℕ)) (B : Blobs) where

@@ -42,6 +42,8 @@ pub mod TreeBlobs
 pub mod Totals
 pub mod FirstDifferences
 pub mod TrueDifferences
+pub mod Mismatches
+pub mod TrueMismatches
 pub mod MergeApart
 pub mod MergeBridge
 pub mod MergeGroups

@@ -54,14 +54,14 @@ module _ (own : List (List ℕ)) (B : Blobs) where
             below q v w rest (subst (λ b. LooksOn q (child b c) v) same (from_child g c grafted a q v h)) (subst (λ b. LooksOn q (child b m) w) same (from_child r m recorded a q w k))
         by Greater e = absurd (let more : Greater ≡ Less = sym (ap (λ o. ordering_then o (path_cmp q p)) e) ∙ less in cc)
 
-    stands_here : (x y : Looked) → LooksOn [] (child n c) x → LooksOn [] (child n m) y → StandFirst own B g r (n ∷ []) x y
+    pub stands_here : (x y : Looked) → LooksOn [] (child n c) x → LooksOn [] (child n m) y → StandFirst own B g r (n ∷ []) x y
     stands_here x y h k = record {
       grafted = inl (c, grafted, h);
       recorded = inl (m, recorded, k);
       before = before_at [] (λ q v w less i j. absurd (never_less q less));
     }
 
-    stands_below : (a b : DigestValue) (p : List Name) (x y : Looked) → child_of n c ≡ Some (Dir a) → child_of n m ≡ Some (Dir b) → StandFirst own B a b p x y → StandFirst own B g r (n ∷ p) x y
+    pub stands_below : (a b : DigestValue) (p : List Name) (x y : Looked) → child_of n c ≡ Some (Dir a) → child_of n m ≡ Some (Dir b) → StandFirst own B a b p x y → StandFirst own B g r (n ∷ p) x y
     stands_below a b p x y e f h = record {
       grafted = inl (c, grafted, subst (λ o. LooksOn p o x) (sym e) h.grafted);
       recorded = inl (m, recorded, subst (λ o. LooksOn p o y) (sym f) h.recorded);

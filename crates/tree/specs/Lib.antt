@@ -13,6 +13,7 @@ pub mod Unfolding
 pub mod Difference
 pub mod Comparing
 pub mod TrueDifference
+pub mod Mismatch
 pub mod LooksAt
 pub mod Merge
 pub mod Merging

@@ -25,13 +25,13 @@ use std::alloc::{AllocError, Allocator};
 
 /// The Directories that a graft made, and the digest of each.
 #[derive(Drop)]
-struct OwnDirectories<'a, A: Allocator> {
-    encodings: &'a [Vec<u8, A>],
-    digests: &'a [Digest],
+pub(crate) struct OwnDirectories<'a, A: Allocator> {
+    pub(crate) encodings: &'a [Vec<u8, A>],
+    pub(crate) digests: &'a [Digest],
 }
 
 /// The digest of each encoding.
-fn digests_of<A: Allocator>(
+pub(crate) fn digests_of<A: Allocator>(
     alloc: A,
     encodings: &[Vec<u8, A>],
 ) -> Result<Vec<Digest, A>, AllocError>
@@ -45,7 +45,7 @@ fn digests_of<A: Allocator>(
 }
 
 /// Where the digest first stands.
-fn place_of(digests: &[Digest], digest: &Digest) -> Option<usize>
+pub(crate) fn place_of(digests: &[Digest], digest: &Digest) -> Option<usize>
     ensures { MatchOption result
         (AllWithin (λ d. d ≢ digest.now) digests.now 0 (length digests.now))
         (λ i. (i < length digests.now) × HoldsAt (λ d. d ≡ digest.now) digests.now i

@@ -1,4 +1,4 @@
-ghost use Rattle.std.specs.Prelude.{◌≡◌, ◌≢◌, ◌⊎◌, ◌↔◌, ℕ, bytes_eq, List, ◌∷◌, map, Some};
+ghost use Rattle.std.specs.Prelude.{◌≡◌, ◌≢◌, ◌⊎◌, ◌↔◌, ℕ, bytes_eq, List, [], ◌∷◌, map, Some};
 ghost use Rattle.std.specs.Prelude.{Contains, option_map};
 ghost use Rattle.std.specs.List.{AllByRecursion, IsDistinct};
 ghost use Rattle.blob_digest.specs.Digest.{DigestValue, NoClash};
@@ -12,6 +12,7 @@ ghost use Rattle.tree.specs.Form.{NodeValue, form, top, root, entry_node, IsBlob
 ghost use Rattle.blob_source.specs.Source.{Blobs};
 ghost use Rattle.blob_source.specs.Told.{Fault, TellsDirectory, FailsDirectory};
 ghost use Rattle.tree.specs.Lookup.{AgreesWith, IsValue, Looked, Looks};
+ghost use Rattle.tree.specs.Mismatch.{FirstMismatch, IsTrueMismatch, MismatchValue};
 ghost use Rattle.tree.specs.TrueDifference.{IsTrueDifference};
 ghost use Rattle.messages.specs.Directory.{directory_bytes};
 ghost use Rattle.messages.specs.Path.{IsApart};
@@ -102,6 +103,12 @@ pub fn answers_are_always_there()
 pub fn differences_are_true()
     ensures { (own : List (List ℕ)) (blobs : Blobs) (g r : DigestValue) (x : Differing)
         → FindsFirst own blobs g r x → IsTrueDifference own blobs g r x }
+{}
+
+/// What is found as the first mismatch is one, by look-ups. A law: it does nothing.
+pub fn mismatches_are_true()
+    ensures { (known : List (List ℕ)) (g r : DigestValue) (x : MismatchValue)
+        → FirstMismatch known 64 [] g r (Some x) → IsTrueMismatch known g r x }
 {}
 
 /// What a graft's Directories and a source tell determines the first difference. A law: it does

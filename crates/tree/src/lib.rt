@@ -15,6 +15,7 @@ mod looking_up;
 mod memo;
 mod merge_laws;
 mod merging;
+mod mismatch;
 mod unfolding;
 mod visiting;
 
@@ -31,7 +32,7 @@ pub use folding::{Folded, fold};
 pub use laws::{
     answers_are_always_there, differences_are_single_valued, differences_are_true,
     flat_trees_are_trees, folds_hold_each_directory_once, look_ups_are_single_valued,
-    look_ups_tell_of_trees, roots_name_trees, trees_are_maps,
+    look_ups_tell_of_trees, mismatches_are_true, roots_name_trees, trees_are_maps,
 };
 pub use looking_up::lookup;
 pub use memo::Memo;
@@ -40,4 +41,5 @@ pub use merge_laws::{
 };
 pub use merging::{Within, merge};
 pub use messages::Node;
+pub use mismatch::{Mismatch, first_mismatch};
 pub use unfolding::unfold;

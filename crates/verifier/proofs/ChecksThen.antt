@@ -1,5 +1,5 @@
 -- Checks of a source, one after another, while it tells more and more.
-use Rattle.std.proofs.Common.{◌≡◌, ℕ, List, [], ◌∷◌, ◌++◌, subst, inl, inr}
+use Rattle.std.proofs.Common.{◌≡◌, ℕ, List, [], ◌∷◌, ◌++◌, refl, subst, inl, inr}
 use Rattle.std.specs.Prelude.{Result, Ok, Err, IsErrOf, slice_get}
 use Rattle.std.specs.Result.{IsErrAnd}
 use Rattle.blob_digest.specs.Digest.{DigestValue}
@@ -185,6 +185,12 @@ module _ {A V W : Type 0} where
     called = called_exit exit k;
     learned = learns_refused (λ a at. looks_here (first new) (here new) (further new) a at) (refused_exit r (λ e. e ≡ f) exit) l;
   }
+
+  -- the first check failed
+  pub checks_fails : {T : Type 0} (first : Telling → Stage (Cause A) V) (next : Telling → V → Stage (Cause A) W) (here : Telling → Asked → Type 0) (further : Telling → V → Asked → Type 0) {k0 k1 : Known} {old new : Telling} {f : Fault A}
+      {refused : Type 0} → ExplainsFault (first new).fails f → Called old new (IsErrOf {T = T} (Err f) faults.Fetch) → Learns (here new) refused k0 k1 old new
+      → Checks (λ t. first t and_then next t) (λ t. looks (first t) (here t) (further t)) k0 k1 old new (Err f)
+  checks_fails {T = T} first next here further {old = old} {new = new} {f = f} h k l = checks_exit {T = T} first next here further {old = old} {new = new} {f = f} {r = Err f} refl h k l
 
 module _ {A V U W : Type 0} where
   -- a check of the source passed, and after it one that asks no source

@@ -8,6 +8,7 @@ use Rattle.tree.specs.Tree.{Tree, Leaf, IsOrdered}
 use Rattle.tree.specs.Form.{form, root}
 use Rattle.blob_source.specs.Source.{Blobs, Telling}
 use Rattle.verifier.specs.declared.verdict.Verdict.{Verdict}
+use Rattle.verifier.specs.declared.verifying.Judged.{Judged}
 use Rattle.verifier.specs.AsRecorded.{IsPlanAsRecorded}
 use Rattle.verifier.specs.Build.{HasFinishedAll, merge_of}
 use Rattle.verifier.specs.Headline.{IsConcerned, IsBlobAhead, PlanRun, RunsFrom, EveryRunEndsIn, EveryRunIsAsChosen, NoRunIsStuck}
@@ -53,10 +54,10 @@ module _ (B C : Blobs) (sources : DigestValue) (plan : PlanValue) (ds : List Dig
 
 -- so a yes says both
 module _ {A E : Type 0} (t : Telling) (sources : DigestValue) (plan : PlanValue) (ds : List DigestValue) (claim : DigestValue) (valid : IsPlan plan) where
-  pub answers_hold : (answer : Result (Verdict A) E) → IfOk answer (IsVerdict t sources plan ds claim) → IfOk answer (λ v. IsYes v → EveryRunEndsIn t.blobs t.results sources plan ds claim)
-  answers_hold (Ok v) h = λ yes. recorded_ends t.blobs t.results sources plan ds claim valid (yes_recorded A t sources plan ds claim v h yes)
+  pub answers_hold : (answer : Result (Judged A) E) → IfOk answer (λ j. IsVerdict t sources plan ds claim j.verdict) → IfOk answer (λ j. IsYes j.verdict → EveryRunEndsIn t.blobs t.results sources plan ds claim)
+  answers_hold (Ok j) h = λ yes. recorded_ends t.blobs t.results sources plan ds claim valid (yes_recorded A t sources plan ds claim j.verdict h yes)
   answers_hold (Err e) h = tt
 
-  pub answers_unstuck : (answer : Result (Verdict A) E) → IfOk answer (IsVerdict t sources plan ds claim) → IfOk answer (λ v. IsYes v → NoRunIsStuck t.blobs t.results sources plan ds)
-  answers_unstuck (Ok v) h = λ yes. recorded_unstuck t.blobs t.results sources plan ds claim valid (yes_recorded A t sources plan ds claim v h yes)
+  pub answers_unstuck : (answer : Result (Judged A) E) → IfOk answer (λ j. IsVerdict t sources plan ds claim j.verdict) → IfOk answer (λ j. IsYes j.verdict → NoRunIsStuck t.blobs t.results sources plan ds)
+  answers_unstuck (Ok j) h = λ yes. recorded_unstuck t.blobs t.results sources plan ds claim valid (yes_recorded A t sources plan ds claim j.verdict h yes)
   answers_unstuck (Err e) h = tt

@@ -1,4 +1,6 @@
 pub mod Holds
+pub mod HandedOut
+pub mod MadeOf
 pub mod InStages
 pub mod TwoSteps
 pub mod TwoStepsRecorded
@@ -24,6 +26,9 @@ pub mod LinesOfTwo
 pub mod SameForms
 pub mod TwoBuilds
 pub mod Culprits
+pub mod Findings
+pub mod Differences
+pub mod Recalling
 pub mod HeldOrigins
 pub mod LinesTold
 pub mod FreshRuns

@@ -149,19 +149,32 @@ pub further : (e : Row) (es : List Row) (f : Row) → Contains es f → Contains
 further e es f (k, lt, is) = (suc k, omega (arith, lt), is)
 
 -- a row of one list alone
-abbrev IsOneSided : List Row → List Row → Row → Type 0
+abbrev pub IsOneSided : List Row → List Row → Row → Type 0
 IsOneSided es fs r = (Contains es r × ¬ Contains fs r) ⊎ (¬ Contains es r × Contains fs r)
 
-none : (r : Row) → Contains [] r → ⊥
+pub none : (r : Row) → Contains [] r → ⊥
 none r (k, lt, is) = omega (arith, lt)
 
 -- what isn't behind a row, and is another, isn't there
-not_there : (e f : Row) (fs : List Row) → Sorted (f ∷ fs) → e ≢ f → (bytes_cmp (text f) (text e) ≡ Less → ⊥) → Contains (f ∷ fs) e → ⊥
+pub not_there : (e f : Row) (fs : List Row) → Sorted (f ∷ fs) → e ≢ f → (bytes_cmp (text f) (text e) ≡ Less → ⊥) → Contains (f ∷ fs) e → ⊥
 not_there e f fs up other behind here = by (front_or f fs e here)
   where
     by : (f ≡ e) ⊎ Contains fs e → ⊥
     by (inl is) = other (sym is)
     by (inr h) = behind (behind_less f fs e up.0 h)
+
+-- a row that one of two lists has alone behind one head is alone in the whole lists
+pub alone : (e f : Row) (es fs : List Row) → Sorted (e ∷ es) → Sorted (f ∷ fs) → e ≡ f → (r : Row) → IsOneSided es fs r → IsOneSided (e ∷ es) (f ∷ fs) r
+alone e f es fs up also is r (inl h) = inl (further e es r h.0, λ here. out (front_or f fs r here))
+  where
+    out : (f ≡ r) ⊎ Contains fs r → ⊥
+    out (inl same) = never_less e (subst (λ (y : Row). bytes_cmp (text e) (text y) ≡ Less) (sym (is ∙ same)) (behind_less e es r up.0 h.0))
+    out (inr there) = h.1 there
+alone e f es fs up also is r (inr h) = inr (λ here. out (front_or e es r here), further f fs r h.1)
+  where
+    out : (e ≡ r) ⊎ Contains es r → ⊥
+    out (inl same) = never_less f (subst (λ (y : Row). bytes_cmp (text f) (text y) ≡ Less) (sym (sym is ∙ same)) (behind_less f fs r also.0 h.1))
+    out (inr there) = h.0 there
 
 one_sided : (es fs : List Row) → Sorted es → Sorted fs → es ≢ fs → (r : Row) × IsOneSided es fs r
 one_sided [] [] up also differ = absurd (differ refl)
@@ -169,25 +182,13 @@ one_sided [] (f ∷ fs) up also differ = (f, inr (none f, in_front f fs))
 one_sided (e ∷ es) [] up also differ = (e, inl (in_front e es, none e))
 one_sided (e ∷ es) (f ∷ fs) up also differ = by (same_row e f) (λ rest. one_sided es fs up.1 also.1 rest)
   where
-    alone : e ≡ f → (r : Row) → IsOneSided es fs r → IsOneSided (e ∷ es) (f ∷ fs) r
-    alone is r (inl h) = inl (further e es r h.0, λ here. out (front_or f fs r here))
-      where
-        out : (f ≡ r) ⊎ Contains fs r → ⊥
-        out (inl same) = never_less e (subst (λ (y : Row). bytes_cmp (text e) (text y) ≡ Less) (sym (is ∙ same)) (behind_less e es r up.0 h.0))
-        out (inr there) = h.1 there
-    alone is r (inr h) = inr (λ here. out (front_or e es r here), further f fs r h.1)
-      where
-        out : (e ≡ r) ⊎ Contains es r → ⊥
-        out (inl same) = never_less f (subst (λ (y : Row). bytes_cmp (text f) (text y) ≡ Less) (sym (sym is ∙ same)) (behind_less f fs r also.0 h.1))
-        out (inr there) = h.0 there
-
     lesser : (o : Ordering) → bytes_cmp (text f) (text e) ≡ o → e ≢ f → (r : Row) × IsOneSided (e ∷ es) (f ∷ fs) r
     lesser Less is other = (f, inr (not_there f e es up (λ same. other (sym same)) (λ less. never_less e (bytes_trans (text e) (text f) (text e) less is)), in_front f fs))
     lesser Equal is other = (e, inl (in_front e es, not_there e f fs also other (λ less. (let both : Less ≡ Equal = sym less ∙ is in cc))))
     lesser Greater is other = (e, inl (in_front e es, not_there e f fs also other (λ less. (let both : Less ≡ Greater = sym less ∙ is in cc))))
 
     by : (e ≡ f) ⊎ (e ≢ f) → (es ≢ fs → (r : Row) × IsOneSided es fs r) → (r : Row) × IsOneSided (e ∷ es) (f ∷ fs) r
-    by (inl is) rest = let r = rest (λ same. differ (λ i. is i ∷ same i)) in (r.0, alone is r.0 r.1)
+    by (inl is) rest = let r = rest (λ same. differ (λ i. is i ∷ same i)) in (r.0, alone e f es fs up also is r.0 r.1)
     by (inr other) rest = lesser (bytes_cmp (text f) (text e)) refl other
 
 -- ---- outcomes that differ

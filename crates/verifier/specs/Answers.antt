@@ -1,6 +1,7 @@
 -- What the private functions that check a plan answer.
-use Rattle.std.specs.Prelude.{◌≡◌, ℕ, List, [], Result, Ok, Err}
+use Rattle.std.specs.Prelude.{◌≡◌, ◌++◌, ℕ, List, [], Option, None, Some, Result, Ok, Err}
 use Rattle.blob_digest.specs.Digest.{DigestValue}
+use Rattle.actions.specs.Outcome.{OutcomeValue}
 use Rattle.plan.specs.Values.{StepValue}
 use Rattle.blob_source.specs.Source.{Blobs, Telling}
 use Rattle.blob_source.specs.declared.source.FetchError.{FetchError}
@@ -9,15 +10,22 @@ use Rattle.tree.specs.declared.difference.Difference.{Difference}
 use Rattle.tree.specs.declared.error.TreeError.{TreeError}
 use Rattle.tree.specs.declared.error.TreeError.TheVariants as tree
 use Rattle.tree.specs.Difference.{Differing, FindsFirst, differing}
+use Rattle.tree.specs.Folded.{items_of}
+use Rattle.tree.specs.declared.folding.Folded.{Folded}
+use Rattle.verifier.specs.declared.error.VerifyError.{VerifyError}
+use Rattle.verifier.specs.declared.error.VerifyError.TheVariants as errors
 use Rattle.verifier.specs.declared.fault.Fault.{Fault}
 use Rattle.verifier.specs.declared.fault.Fault.TheVariants as faults
 use Rattle.verifier.specs.declared.verdict.Cause.{Cause}
 use Rattle.verifier.specs.declared.verdict.Cause.TheVariants.{BlobMissing, BlobWrong, BlobMalformed}
 use Rattle.verifier.specs.declared.verdict.Cause.TheVariants.{OriginMissing, InputConflict}
+use Rattle.verifier.specs.declared.verdict.Cause.TheVariants.{RootDiffers}
 use Rattle.verifier.specs.declared.verdict.Place.TheVariants.{Step}
 use Rattle.verifier.specs.declared.verifying.Checked.{Checked}
 use Rattle.verifier.specs.declared.verifying.Checked.TheVariants.{Outcomes, First}
+use Rattle.verifier.specs.Made.{outcomes_directories}
 use Rattle.verifier.specs.StepChecks.{difference_cause}
+use Rattle.verifier.specs.declared.made.Made.{Made}
 use Rattle.verifier.specs.Verdict.{steps_check}
 
 -- An unfolding has gone as deep as it may. No check unfolds.
@@ -46,6 +54,10 @@ abbrev pub fault_of_fetch : {A : Type 0} → FetchError → Fault A
 fault_of_fetch fetching.Failed = faults.Fetch
 fault_of_fetch fetching.Memory = faults.Memory
 
+abbrev pub error_of_fetch : FetchError → VerifyError
+error_of_fetch fetching.Failed = errors.Fetch
+error_of_fetch fetching.Memory = errors.Memory
+
 -- the cause that a tree with these Directories isn't the recorded input
 abbrev pub IsDifference : {A : Type 0} → List (List ℕ) → Blobs → DigestValue → DigestValue
     → Cause A → Type 0
@@ -67,3 +79,16 @@ abbrev pub IsStopped : {A E : Type 0} → Result (Checked A) E → Type 0
 IsStopped (Ok (Outcomes outcomes)) = ⊥
 IsStopped (Ok (First name c)) = Unit {0}
 IsStopped (Err e) = Unit {0}
+
+-- the check of the root doesn't say that its tree isn't the claim
+abbrev pub IsNoOther : {A : Type 0} → Result (Unit {0}) (Fault A) → Type 0
+IsNoOther check = (root : DigestValue) → check ≡ Err (faults.Cause (RootDiffers root)) → ⊥
+
+-- what builds make is of this tree and these outcomes, where there is such a tree
+abbrev pub IsMadeOther : {A : Type 0} → Option (Folded A) → List OutcomeValue → Option (Made A)
+    → Type 0
+IsMadeOther None outcomes made = made ≡ None
+IsMadeOther (Some f) outcomes None = ⊥
+IsMadeOther (Some f) outcomes (Some made) = (made.root ≡ f.root)
+    × (items_of made.directories.items ≡ items_of f.directories.items
+    ++ outcomes_directories outcomes)

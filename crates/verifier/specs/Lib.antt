@@ -10,10 +10,12 @@ pub mod Named
 pub mod StepChecks
 pub mod Checks
 pub mod Verdict
+pub mod Made
 pub mod TwoTellings
 pub mod BuildStages
 pub mod AsRecorded
 pub mod TwoBuilds
+pub mod Compared
 pub mod Unbuilt
 pub mod TwoSteps
 pub mod Answers

@@ -3,6 +3,7 @@ ghost use Rattle.verifier.specs.declared.error.VerifyError.TheVariants as errors
 
 use std::alloc::{AllocError, AllocFailed};
 use thiserror::Error;
+use tree::FetchError;
 
 /// Why there is no verdict.
 #[derive(Clone, Copy, Debug, PartialEq, Eq, Error)]
@@ -28,5 +29,18 @@ impl<T: Drop> From<AllocFailed<T>> for VerifyError {
 
     fn from(_e: AllocFailed<T>) -> VerifyError {
         VerifyError::Memory
+    }
+}
+
+impl From<FetchError> for VerifyError {
+    ghost use Rattle.verifier.specs.Answers.{error_of_fetch};
+
+    ghost from_gives = { λ error e. e ≡ error_of_fetch error };
+
+    fn from(error: FetchError) -> VerifyError {
+        match error {
+            FetchError::Failed => VerifyError::Fetch,
+            FetchError::Memory => VerifyError::Memory,
+        }
     }
 }

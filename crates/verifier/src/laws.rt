@@ -40,6 +40,10 @@ ghost use Rattle.verifier.specs.BuildStages.{EndsIn, RunInTurn};
 ghost use Rattle.verifier.specs.Recorded.{RecordsAt};
 ghost use Rattle.verifier.specs.TwoBuilds.{IsAlike, IsUnlike, AreAlikeBelow, IsInBoth};
 ghost use Rattle.verifier.specs.TwoBuilds.{AreReadAlike, DependOn, IsFirstUnlike, AreTwoBuilds};
+ghost use Rattle.verifier.specs.Compared.{FindsStep, HasOutcomes, HoldsSteps, IsComparison};
+ghost use Rattle.verifier.specs.Compared.{IsFirstUnlikeAt, RecordedStepValue, actions_of};
+ghost use Rattle.verifier.specs.declared.comparing.Comparison.{Comparison};
+ghost use Rattle.verifier.specs.declared.comparing.Comparison.TheVariants.{Alike, Unlike};
 ghost use Rattle.verifier.specs.TwoSteps as two;
 ghost use Rattle.verifier.specs.Unbuilt.{IsOfLines, NoRunStarts, NoRunHasRoot};
 ghost use Rattle.verifier.specs.Unbuilt.{IsOfAction, NoRunHasAction, EveryRunEndsStep};
@@ -274,6 +278,31 @@ pub fn two_yeses_differ_at_an_action()
     // Which of them a step is doesn't depend on how its outcomes are read.
     ensures single { (one other : Telling) (recorded others : List DigestValue) (i : ℕ)
         → IsAlike one other recorded others i → IsUnlike one other recorded others i → ⊥ }
+{}
+
+/// What is recorded of a plan with a yes is held, and so is what a comparison of two such builds
+/// says of their steps. Where no two different Directories or frames, one of each build, share a
+/// digest, it finds the step at which `two_yeses_differ_at_an_action`, or else their roots are one.
+/// A law: it does nothing.
+pub fn comparisons_find_the_step<A: Allocator>()
+    ensures held { (tells : Telling) (sources : DigestValue) (plan : PlanValue)
+        (recorded : List DigestValue) (claim : DigestValue)
+        → IsPlanAsRecorded tells.blobs tells.results sources plan recorded claim
+        → length recorded ≡ length plan.steps → HasOutcomes tells recorded }
+    ensures alike { (one other : Telling) (ones others : List RecordedStepValue)
+        → HoldsSteps one ones → HoldsSteps other others → length others ≡ length ones
+        → IsComparison {A = A} ones others Alike
+        → AreAlikeBelow one other (actions_of ones) (actions_of others) (length ones) }
+    ensures unlike { (one other : Telling) (ones others : List RecordedStepValue) (step : ℕ)
+        (path : List Name) → HoldsSteps one ones → HoldsSteps other others
+        → IsComparison {A = A} ones others (Unlike step path)
+        → IsFirstUnlikeAt one other (actions_of ones) (actions_of others) step path }
+    ensures found { (one other : Telling) (sources : DigestValue) (plan : PlanValue)
+        (ones others : List RecordedStepValue) (claim another : DigestValue) (c : Comparison A)
+        → AreTwoBuilds one other sources plan (actions_of ones) (actions_of others) claim another
+        → length ones ≡ length plan.steps → length others ≡ length plan.steps
+        → HoldsSteps one ones → HoldsSteps other others → IsComparison ones others c
+        → FindsStep one other plan.steps (actions_of ones) (actions_of others) claim another c }
 {}
 
 /// What a source tells determines the verdict. A law: it does nothing.

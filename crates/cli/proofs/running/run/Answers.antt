@@ -6,7 +6,7 @@ use Rattle.command_lines.specs.CommandLine.{options_of, program_line}
 use Rattle.command_lines.proofs.Called.{calls_one}
 use Rattle.commands.proofs.Exits.{exit_by}
 use Rattle.commands.proofs.Writing.{where_err}
-use Rattle.cli.proofs.CommandLines.{build_begins, build_ends, build_fails, called_by, digest_begins, digest_fails, get_begins, get_ends, get_fails, none_called, put_begins, put_fails, serve_begins, serve_fails, verify_begins, verify_ends, verify_fails}
+use Rattle.cli.proofs.CommandLines.{build_begins, build_ends, build_fails, called_by, compare_begins, compare_ends, compare_fails, digest_begins, digest_fails, get_begins, get_ends, get_fails, none_called, put_begins, put_fails, serve_begins, serve_fails, verify_begins, verify_ends, verify_fails}
 use Rattle.cli.specs.Built.{errors_asked}
 use Rattle.cli.specs.Ended.{Fails}
 use Rattle.cli.specs.Ended.BeginsAsked.{shown as show_begun}
@@ -41,6 +41,12 @@ returns-in_ok-run_verify-in-verify-clause-ended g c =
     let call = called_by words (codes "verify") (subcommand_rows_of c.in-Ok.matches) _ c.in-Ok.ensures.fails c.in-Ok.ensures.called (search rules) c.in-Some.ensures.rows in
     verify_ends (g.P.Workplace.below c.args.workplace (errors_asked (options_of words))) words call.1 _ call.0 c.in_ok-run_verify-in-verify.ensures.answered
 
+pub returns-in_ok-run_compare-in-compare-clause-ended : goal.returns-in_ok-run_compare-in-compare-clause-ended
+returns-in_ok-run_compare-in-compare-clause-ended g c =
+    let words = map string_bytes c.args.words.now in
+    let call = called_by words (codes "compare") (subcommand_rows_of c.in-Ok.matches) _ c.in-Ok.ensures.fails c.in-Ok.ensures.called (search rules) c.in-Some.ensures.rows in
+    compare_ends (g.P.Workplace.below c.args.workplace (errors_asked (options_of words))) words call.1 _ _ _ call.0 c.in_ok-run_compare-in-compare.ensures.answered
+
 pub returns-in_ok-run_get-in-get-clause-ended : goal.returns-in_ok-run_get-in-get-clause-ended
 returns-in_ok-run_get-in-get-clause-ended g c =
     let words = map string_bytes c.args.words.now in
@@ -59,6 +65,13 @@ returns-in_err-run_verify-in-verify-clause-refused g c =
     let call = called_by words (codes "verify") (subcommand_rows_of c.in-Ok.matches) _ c.in-Ok.ensures.fails c.in-Ok.ensures.called (search rules) c.in-Some.ensures.rows in
     exit_by (Fails (g.W.World.sees c.args.world.now) (g.P.Workplace.below c.args.workplace (errors_asked (options_of (map string_bytes c.args.words.now)))) words) _ c.from_residual-in_err-run_verify-in-verify.ensures.1
     (verify_fails words call.1 _ call.0 c.in_err-run_verify-in-verify.ensures.refused)
+
+pub returns-in_err-run_compare-in-compare-clause-refused : goal.returns-in_err-run_compare-in-compare-clause-refused
+returns-in_err-run_compare-in-compare-clause-refused g c =
+    let words = map string_bytes c.args.words.now in
+    let call = called_by words (codes "compare") (subcommand_rows_of c.in-Ok.matches) _ c.in-Ok.ensures.fails c.in-Ok.ensures.called (search rules) c.in-Some.ensures.rows in
+    exit_by (Fails (g.W.World.sees c.args.world.now) (g.P.Workplace.below c.args.workplace (errors_asked (options_of (map string_bytes c.args.words.now)))) words) _ c.from_residual-in_err-run_compare-in-compare.ensures.1
+    (compare_fails words call.1 _ call.0 c.in_err-run_compare-in-compare.ensures.refused)
 
 pub returns-in_err-run_build-in-build-clause-refused : goal.returns-in_err-run_build-in-build-clause-refused
 returns-in_err-run_build-in-build-clause-refused g c =
@@ -120,6 +133,11 @@ returns-in_err-run_verify-in-verify-clause-unprinted g c =
     exit_by (λ fault. ¬ IsPrintFault fault → ¬ IsAcceptFault fault → g.O.Write.contents c.run_verify.new.out ≡ g.O.Write.contents c.args.out.now) _ c.from_residual-in_err-run_verify-in-verify.ensures.1
     (λ print accept. c.in_err-run_verify-in-verify.ensures.unprinted print)
 
+pub returns-in_err-run_compare-in-compare-clause-unprinted : goal.returns-in_err-run_compare-in-compare-clause-unprinted
+returns-in_err-run_compare-in-compare-clause-unprinted g c =
+    exit_by (λ fault. ¬ IsPrintFault fault → ¬ IsAcceptFault fault → g.O.Write.contents c.run_compare.new.out ≡ g.O.Write.contents c.args.out.now) _ c.from_residual-in_err-run_compare-in-compare.ensures.1
+    (λ print accept. c.in_err-run_compare-in-compare.ensures.unprinted print)
+
 pub returns-in_err-run_build-in-build-clause-unprinted : goal.returns-in_err-run_build-in-build-clause-unprinted
 returns-in_err-run_build-in-build-clause-unprinted g c =
     exit_by (λ fault. ¬ IsPrintFault fault → ¬ IsAcceptFault fault → g.O.Write.contents c.run_build.new.out ≡ g.O.Write.contents c.args.out.now) _ c.from_residual-in_err-run_build-in-build.ensures.1
@@ -130,6 +148,12 @@ returns-in_err-run_verify-in-verify-clause-begun g c =
     let words = map string_bytes c.args.words.now in
     let call = called_by words (codes "verify") (subcommand_rows_of c.in-Ok.matches) _ c.in-Ok.ensures.fails c.in-Ok.ensures.called (search rules) c.in-Some.ensures.rows in
     where_err c.from_residual-in_err-run_verify-in-verify.result (verify_begins words call.1 call.0 c.in_err-run_verify-in-verify.ensures.begun c.in_err-run_verify-in-verify.ensures.unended)
+
+pub returns-in_err-run_compare-in-compare-clause-begun : goal.returns-in_err-run_compare-in-compare-clause-begun
+returns-in_err-run_compare-in-compare-clause-begun g c =
+    let words = map string_bytes c.args.words.now in
+    let call = called_by words (codes "compare") (subcommand_rows_of c.in-Ok.matches) _ c.in-Ok.ensures.fails c.in-Ok.ensures.called (search rules) c.in-Some.ensures.rows in
+    where_err c.from_residual-in_err-run_compare-in-compare.result (compare_begins words call.1 call.0 c.in_err-run_compare-in-compare.ensures.begun c.in_err-run_compare-in-compare.ensures.unended)
 
 pub returns-in_err-run_get-in-get-clause-begun : goal.returns-in_err-run_get-in-get-clause-begun
 returns-in_err-run_get-in-get-clause-begun g c =

@@ -17,12 +17,12 @@ returns c = record {
   };
   help = refl;
   short_help = refl;
-  command_help = (refl, (refl, (refl, (refl, (refl, (refl, tt))))));
-  short_command_help = (refl, (refl, (refl, (refl, (refl, (refl, tt))))));
+  command_help = (refl, (refl, (refl, (refl, (refl, (refl, (refl, tt)))))));
+  short_command_help = (refl, (refl, (refl, (refl, (refl, (refl, (refl, tt)))))));
   version = refl;
   short_version = refl;
   nothing = refl;
-  option_unknown = (refl, (refl, (refl, (refl, (refl, (refl, tt))))));
+  option_unknown = (refl, (refl, (refl, (refl, (refl, (refl, (refl, tt)))))));
   verify = verify_understood;
   serve = serve_understood;
   put = put_understood;

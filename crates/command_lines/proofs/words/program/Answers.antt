@@ -24,5 +24,6 @@ returns c =
     let putting = c.in_ok-subcommand-3.ensures.shape (third_holds _ _ _ _ (ap (λ (a : App). a.top.is_plain) c.in_ok-put_command.ensures)) ∙ ap₂ with_subcommand verifying (ap (λ (a : App). a.top) c.in_ok-put_command.ensures) in
     let getting = c.in_ok-subcommand-4.ensures.shape (third_holds _ _ _ _ (ap (λ (a : App). a.top.is_plain) c.in_ok-get_command.ensures)) ∙ ap₂ with_subcommand putting (ap (λ (a : App). a.top) c.in_ok-get_command.ensures) in
     let digesting = c.in_ok-subcommand-5.ensures.shape (third_holds _ _ _ _ (ap (λ (a : App). a.top.is_plain) c.in_ok-digest_command.ensures)) ∙ ap₂ with_subcommand getting (ap (λ (a : App). a.top) c.in_ok-digest_command.ensures) in
-    IfOk-weaker c.subcommand-6.result _ _
-    (λ r h. h.shape (third_holds _ _ _ _ (ap (λ (a : App). a.top.is_plain) c.in_ok-build_command.ensures)) ∙ ap₂ with_subcommand digesting (ap (λ (a : App). a.top) c.in_ok-build_command.ensures)) c.subcommand-6.ensures
+    let building = c.in_ok-subcommand-6.ensures.shape (third_holds _ _ _ _ (ap (λ (a : App). a.top.is_plain) c.in_ok-build_command.ensures)) ∙ ap₂ with_subcommand digesting (ap (λ (a : App). a.top) c.in_ok-build_command.ensures) in
+    IfOk-weaker c.subcommand-7.result _ _
+    (λ r h. h.shape (third_holds _ _ _ _ (ap (λ (a : App). a.top.is_plain) c.in_ok-compare_command.ensures)) ∙ ap₂ with_subcommand building (ap (λ (a : App). a.top) c.in_ok-compare_command.ensures)) c.subcommand-7.ensures

@@ -10,5 +10,6 @@ returns c =
     let with_3 = c.in_ok-arg-3.ensures.shape c.optional-3.ensures.local ∙ ap₂ with_rule with_2 c.optional-3.ensures.rule in
     let with_4 = c.in_ok-arg-4.ensures.shape c.optional-4.ensures.local ∙ ap₂ with_rule with_3 c.optional-4.ensures.rule in
     let with_5 = c.in_ok-arg-5.ensures.shape c.optional-5.ensures.local ∙ ap₂ with_rule with_4 c.optional-5.ensures.rule in
-    let with_6 = c.in_ok-arg-6.ensures.shape c.flag.ensures.local ∙ ap₂ with_rule with_5 c.flag.ensures.rule in
-    IfOk-weaker c.arg-7.result _ _ (λ r h. h.shape c.optional_word.ensures.local ∙ ap₂ with_rule with_6 c.optional_word.ensures.rule) c.arg-7.ensures
+    let with_6 = c.in_ok-arg-6.ensures.shape c.optional-6.ensures.local ∙ ap₂ with_rule with_5 c.optional-6.ensures.rule in
+    let with_7 = c.in_ok-arg-7.ensures.shape c.flag.ensures.local ∙ ap₂ with_rule with_6 c.flag.ensures.rule in
+    IfOk-weaker c.arg-8.result _ _ (λ r h. h.shape c.optional_word.ensures.local ∙ ap₂ with_rule with_7 c.optional_word.ensures.rule) c.arg-8.ensures

@@ -6,8 +6,7 @@ use Rattle.commands.specs.Digested.FailsDigest.{in_memory, in_output, in_path}
 use Rattle.commands.specs.Faults.{OrMemory}
 use Rattle.commands.specs.ReadRefused.{FailsReading}
 use Rattle.commands.specs.Refusal.{IsPrintFault}
-use Rattle.commands.proofs.Asked.{begun_weaker}
-use Rattle.commands.proofs.Exits.{err_weaker, exit_by, or_else}
+use Rattle.commands.proofs.Exits.{begun_weaker, err_weaker, exit_by, or_else}
 use Rattle.commands.proofs.Hashes.{asked_read, or_unread, printed_read}
 use Rattle.commands.proofs.Refused.{or_memory}
 use Rattle.commands.proofs.digesting.run_digest.Goals as goal

@@ -1,37 +1,63 @@
-use Rattle.std.proofs.Common.{◌≡◌, ◌∙◌, ap, codes, sym, None, Some}
-use Rattle.std.specs.Prelude.{option_map}
+use Rattle.std.proofs.Common.{◌≡◌, inr, refl, string_bytes, subst}
+use Rattle.std.specs.Io.KnownBytes.{Appends}
+use Rattle.std.specs.Prelude.{codes}
 use Rattle.clap.specs.Words.{first_of, found_of, rows_of}
-use Rattle.commands.specs.Stages.{AnswersStages}
-use Rattle.commands.specs.Verified.{AnswersVerdict, FailsAsked}
-use Rattle.commands.specs.Verified.FailsBehind.{behind}
-use Rattle.commands.proofs.Asked.{artifact_fails, fails, ok_asked}
-use Rattle.commands.proofs.Exits.{err_weaker, exit_by}
+use Rattle.commands.specs.Evidence.{asked_words}
+use Rattle.commands.specs.Refusal.{IsPrintFault}
+use Rattle.commands.specs.Told.{AppendsBeginning}
+use Rattle.commands.specs.Verified.{FailsAsked, FailsBehind, FailsFor}
+use Rattle.commands.specs.Verified.FailsAsked.{in_asking, in_output}
+use Rattle.commands.specs.Verified.FailsBehind.{in_memory, in_words}
+use Rattle.commands.specs.Words.{FailsFirst}
+use Rattle.commands.proofs.Asked.{behind_words}
+use Rattle.commands.proofs.Exits.{exit_by}
+use Rattle.commands.proofs.Refused.{or_memory}
+use Rattle.commands.proofs.Writing.{no_line_of_same, where_err}
 use Rattle.commands.proofs.evidence.run_verify.Goals as goal
 
-pub returns-in_err-check_artifact-clause-refused : goal.returns-in_err-check_artifact-clause-refused
-returns-in_err-check_artifact-clause-refused g c =
-    let rows = rows_of (found_of c.args.matches.now) in
-    exit_by (FailsAsked (g.W.World.sees c.args.world.now) rows) _ c.from_residual.ensures.1 (artifact_fails (g.W.World.sees c.args.world.now) rows _ c.in_err-check_artifact.ensures)
-
-pub returns-in-Some-clause-answered : goal.returns-in-Some-clause-answered
-returns-in-Some-clause-answered g c =
+pub returns-in_err-check_asked-clause-refused : goal.returns-in_err-check_asked-clause-refused
+returns-in_err-check_asked-clause-refused g c =
     let sees = g.W.World.sees c.args.world.now in
     let rows = rows_of (found_of c.args.matches.now) in
-    let is : first_of (codes "evidence") rows ≡ Some c.in-Some.evidence.now = sym c.option_of.ensures ∙ ap (option_map (λ s. s.now)) c.in-Some.is in
-    ok_asked sees rows (Some c.in-Some.evidence.now) (λ ended s o. AnswersVerdict s o (g.O.Write.contents c.args.out.now) (g.O.Write.contents c.verify_evidence.new.out) ended)
-    (λ ended s a. AnswersStages s a (g.O.Write.contents c.args.out.now) (g.O.Write.contents c.verify_evidence.new.out) ended)
-    c.verify_evidence.result is c.in_ok-check_artifact.ensures c.verify_evidence.ensures.valid c.verify_evidence.ensures.answered
+    let checks = asked_words rows in
+    let fails = FailsFor (first_of (codes "keep") rows) sees rows in
+    exit_by (FailsAsked sees rows) _ c.from_residual.ensures.1 (in_asking (or_memory (FailsFirst checks) (FailsBehind checks fails) _ in_memory in_words c.in_err-check_asked.ensures))
 
-pub returns-in-Some-clause-refused : goal.returns-in-Some-clause-refused
-returns-in-Some-clause-refused g c =
+pub returns-in_err-judgement-clause-refused : goal.returns-in_err-judgement-clause-refused
+returns-in_err-judgement-clause-refused g c =
     let sees = g.W.World.sees c.args.world.now in
     let rows = rows_of (found_of c.args.matches.now) in
-    let is : first_of (codes "evidence") rows ≡ Some c.in-Some.evidence.now = sym c.option_of.ensures ∙ ap (option_map (λ s. s.now)) c.in-Some.is in
-    err_weaker c.verify_evidence.result _ _ (λ e h. fails sees rows (Some c.in-Some.evidence.now) is e c.in_ok-check_artifact.ensures h) c.verify_evidence.ensures.refused
+    exit_by (FailsAsked sees rows) _ c.from_residual-in_err-judgement.ensures.1
+    (in_asking (behind_words (asked_words rows) (FailsFor (first_of (codes "keep") rows) sees rows) _ c.in_ok-check_asked.ensures c.in_err-judgement.ensures.refused))
 
-pub returns-in_ok-check_wanted-in-None-clause-refused : goal.returns-in_ok-check_wanted-in-None-clause-refused
-returns-in_ok-check_wanted-in-None-clause-refused g c =
-    let sees = g.W.World.sees c.args.world.now in
-    let rows = rows_of (found_of c.args.matches.now) in
-    let is : first_of (codes "evidence") rows ≡ None = sym c.option_of.ensures ∙ ap (option_map (λ s. s.now)) c.in-None.is in
-    err_weaker c.verify_options.result _ _ (λ e h. fails sees rows None is e c.in_ok-check_artifact.ensures (behind c.in_ok-check_wanted-in-None.ensures h)) c.verify_options.ensures.refused
+pub returns-in_err-print_line-clause-begun : goal.returns-in_err-print_line-clause-begun
+returns-in_err-print_line-clause-begun g c =
+    let judgement = c.in_ok-judgement.judgement in
+    where_err c.from_residual-in_err-print_line.result
+    (inr (string_bytes judgement.line, judgement.ended, c.in_ok-judgement.ensures.answered, subst (AppendsBeginning (g.O.Write.contents c.args.out.now) (g.O.Write.contents c.print_line.new.out)) c.as_str.ensures.value c.in_err-print_line.ensures.begun))
+
+pub returns-in_err-print_line-clause-refused : goal.returns-in_err-print_line-clause-refused
+returns-in_err-print_line-clause-refused g c =
+    let judgement = c.in_ok-judgement.judgement in
+    exit_by (FailsAsked (g.W.World.sees c.args.world.now) (rows_of (found_of c.args.matches.now))) _ c.from_residual-in_err-print_line.ensures.1
+    (in_output (string_bytes judgement.line) judgement.ended c.in_ok-judgement.ensures.answered c.in_err-print_line.ensures.fault)
+
+pub returns-in_err-print_line-clause-unprinted : goal.returns-in_err-print_line-clause-unprinted
+returns-in_err-print_line-clause-unprinted g c =
+    exit_by (λ e. ¬ IsPrintFault e → g.O.Write.contents c.print_line.new.out ≡ g.O.Write.contents c.args.out.now) _ c.from_residual-in_err-print_line.ensures.1
+    (λ not. absurd (not c.in_err-print_line.ensures.fault))
+
+pub returns-in_err-check_asked-clause-unended : goal.returns-in_err-check_asked-clause-unended
+returns-in_err-check_asked-clause-unended g c =
+    where_err c.from_residual.result (no_line_of_same (g.O.Write.contents c.args.out.now) (g.O.Write.contents c.args.out.now) refl)
+
+pub returns-in_err-judgement-clause-unended : goal.returns-in_err-judgement-clause-unended
+returns-in_err-judgement-clause-unended g c =
+    where_err c.from_residual-in_err-judgement.result (no_line_of_same (g.O.Write.contents c.args.out.now) (g.O.Write.contents c.args.out.now) refl)
+
+pub returns-clause-answered : goal.returns-clause-answered
+returns-clause-answered g c = record {
+  line = string_bytes c.in_ok-judgement.judgement.line;
+  is = c.in_ok-judgement.ensures.answered;
+  printed = subst (Appends (g.O.Write.contents c.args.out.now) (g.O.Write.contents c.print_line.new.out)) c.as_str.ensures.value c.in_ok-print_line.ensures.printed;
+}

@@ -1,10 +1,8 @@
-use Rattle.std.proofs.Common.{refl}
 use Rattle.commands.specs.Stages.{FailsListed}
 use Rattle.commands.specs.Verified.{FailsInside}
 use Rattle.commands.specs.Verified.FailsInside.{in_list, in_memory}
 use Rattle.commands.proofs.Exits.{exit_by}
 use Rattle.commands.proofs.Refused.{or_memory}
-use Rattle.commands.proofs.Writing.{no_line_of_same, where_err}
 use Rattle.commands.proofs.evidence.verify_stated.Goals as goal
 
 pub returns-in_err-stages-clause-refused : goal.returns-in_err-stages-clause-refused
@@ -14,7 +12,3 @@ returns-in_err-stages-clause-refused g c =
     let rows = g.M.Options.rows c.args.said.now in
     exit_by (FailsInside outside sees rows c.args.evidence.now) _ c.from_residual.ensures.1
     (or_memory (FailsListed sees c.args.evidence.now) (FailsInside outside sees rows c.args.evidence.now) _ in_memory in_list c.in_err-stages.ensures.refused)
-
-pub returns-in_err-stages-clause-unended : goal.returns-in_err-stages-clause-unended
-returns-in_err-stages-clause-unended g c =
-    where_err c.from_residual.result (no_line_of_same (g.O.Write.contents c.args.out.now) (g.O.Write.contents c.args.out.now) refl)

@@ -35,6 +35,6 @@ returns-in_err-read_stages-clause-refused g c =
     let read = subst (λ p. sees.reads p text) (c.as_str.ensures.value ∙ c.in_ok-list.ensures) c.in-Ok.ensures.read in
     let path = c.as_str-2.ensures.value ∙ c.in_ok-list.ensures in
     exit_by (OrMemory (FailsListed sees evidence)) _ c.from_residual-in_err-read_stages.ensures.1
-    (or_weaker (λ e. (line : ℕ) × IsNoStage c.deref.result.now line × TellsOfStages c.as_str-2.result.now (Line line) e) (FailsListed sees evidence) error
-    (λ h. in_line text h.0 read (c.in_ok-has_plan.ensures.lacks c.if-branch.false) (subst (λ t. IsNoStage t h.0) c.deref.ensures.value h.1) (subst (λ p. TellsOfStages p (Line h.0) error) path h.2))
+    (or_weaker (λ e. (line : ℕ) × IsNoStage c.deref-2.result.now line × TellsOfStages c.as_str-2.result.now (Line line) e) (FailsListed sees evidence) error
+    (λ h. in_line text h.0 read (c.in_ok-has_plan.ensures.lacks c.if-branch.false) (subst (λ t. IsNoStage t h.0) c.deref-2.ensures.value h.1) (subst (λ p. TellsOfStages p (Line h.0) error) path h.2))
     c.in_err-read_stages.ensures.fault)

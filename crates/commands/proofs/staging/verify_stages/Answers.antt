@@ -1,18 +1,13 @@
-use Rattle.std.proofs.Common.{◌≡◌, ◌∙◌, inr, refl, subst, sym}
-use Rattle.std.specs.Io.KnownBytes.{Appends}
+use Rattle.std.proofs.Common.{refl, subst, sym}
 use Rattle.std.specs.Prelude.{◌↔◌, IsTrue, Some}
 use Rattle.report.specs.Line.{IsYesOfStages}
 use Rattle.commands.specs.Printed.{NotesFolder}
-use Rattle.commands.specs.Refusal.{IsPrintFault}
-use Rattle.commands.specs.Told.{AppendsBeginning}
 use Rattle.commands.specs.Stages.{AsksStages, FailsStages, stages_asked}
-use Rattle.commands.specs.Stages.FailsStages.{in_output}
 use Rattle.commands.specs.Verified.{FailsInside, FailsSpelled}
 use Rattle.commands.specs.Verified.FailsInside.{in_memory, in_plans, in_spelled}
 use Rattle.commands.specs.Verified.OnPlans.{of_stages}
 use Rattle.commands.proofs.Exits.{exit_by}
 use Rattle.commands.proofs.Refused.{or_memory}
-use Rattle.commands.proofs.Writing.{no_line_of_same, where_err}
 use Rattle.commands.proofs.staging.verify_stages.Goals as goal
 
 pub returns-in_err-digests-clause-refused : goal.returns-in_err-digests-clause-refused
@@ -36,37 +31,6 @@ returns-in_err-verdict-clause-refused g c =
     exit_by (FailsInside outside sees rows evidence) _ c.from_residual-in_err-verdict.ensures.1
     (or_memory (FailsStages sees asked) (FailsInside outside sees rows evidence) _ in_memory (λ fails. in_plans (of_stages c.args.stages.now digests.sources digests.claim asks fails)) c.in_err-verdict.ensures.fault)
 
-pub returns-in_err-print_line-clause-begun : goal.returns-in_err-print_line-clause-begun
-returns-in_err-print_line-clause-begun g c =
-    let outside = g.V.World.sees c.args.outside.now in
-    let sees = g.W.World.sees c.args.world.now in
-    let rows = g.M.Options.rows c.args.said.now in
-    let digests = c.in_ok-digests.digests in
-    let asked = stages_asked rows c.args.evidence.now c.args.stages.now digests.sources digests.claim in
-    let asks : AsksStages outside sees asked = record { lists = c.requires; states = c.in_ok-digests.ensures.stated } in
-    where_err c.from_residual-in_err-print_line.result
-    (inr (of_stages c.args.stages.now digests.sources digests.claim asks (inr (
-      c.in_ok-verdict.verdict,
-      c.in_ok-verdict.ensures.judged,
-      subst (AppendsBeginning (g.O.Write.contents c.args.out.now) (g.O.Write.contents c.print_line.new.out)) (c.as_str.ensures.value ∙ c.in_ok-line.ensures.value) c.in_err-print_line.ensures.begun,
-    ))))
-
-pub returns-in_err-print_line-clause-refused : goal.returns-in_err-print_line-clause-refused
-returns-in_err-print_line-clause-refused g c =
-    let outside = g.V.World.sees c.args.outside.now in
-    let sees = g.W.World.sees c.args.world.now in
-    let rows = g.M.Options.rows c.args.said.now in
-    let digests = c.in_ok-digests.digests in
-    let asked = stages_asked rows c.args.evidence.now c.args.stages.now digests.sources digests.claim in
-    let asks : AsksStages outside sees asked = record { lists = c.requires; states = c.in_ok-digests.ensures.stated } in
-    exit_by (FailsInside outside sees rows c.args.evidence.now) _ c.from_residual-in_err-print_line.ensures.1
-    (in_plans (of_stages c.args.stages.now digests.sources digests.claim asks (in_output c.in_ok-verdict.verdict c.in_ok-verdict.ensures.judged c.in_err-print_line.ensures.fault)))
-
-pub returns-in_err-print_line-clause-unprinted : goal.returns-in_err-print_line-clause-unprinted
-returns-in_err-print_line-clause-unprinted g c =
-    exit_by (λ e. ¬ IsPrintFault e → g.O.Write.contents c.print_line.new.out ≡ g.O.Write.contents c.args.out.now) _ c.from_residual-in_err-print_line.ensures.1
-    (λ not. absurd (not c.in_err-print_line.ensures.fault))
-
 pub returns-clause-answered : goal.returns-clause-answered
 returns-clause-answered g c =
     let outside = g.V.World.sees c.args.outside.now in
@@ -79,19 +43,7 @@ returns-clause-answered g c =
     of_stages c.args.stages.now digests.sources digests.claim asks (record {
       verdict = verdict;
       judged = c.in_ok-verdict.ensures.judged;
-      printed = subst (Appends (g.O.Write.contents c.args.out.now) (g.O.Write.contents c.print_line.new.out)) (c.as_str.ensures.value ∙ c.in_ok-line.ensures.value) c.in_ok-print_line.ensures.printed;
-      done = subst (λ b. IsTrue b ↔ IsYesOfStages verdict) (sym c.ended_of.ensures.done) c.is_yes_of_stages-is_yes.ensures;
-      noted = subst (λ p. NotesFolder sees (Some p) c.ended_of.result) c.in_ok-entries.ensures c.ended_of.ensures.noted;
+      line_is = c.in_ok-line.ensures.value;
+      done = subst (λ b. IsTrue b ↔ IsYesOfStages verdict) (sym c.ended_of-ended.ensures.done) c.is_yes_of_stages.ensures;
+      noted = subst (λ p. NotesFolder sees (Some p) c.ended_of-ended.result) c.in_ok-entries.ensures c.ended_of-ended.ensures.noted;
     })
-
-pub returns-in_err-verdict-clause-unended : goal.returns-in_err-verdict-clause-unended
-returns-in_err-verdict-clause-unended g c =
-    where_err c.from_residual-in_err-verdict.result (no_line_of_same (g.O.Write.contents c.args.out.now) (g.O.Write.contents c.args.out.now) refl)
-
-pub returns-in_err-entries-clause-unended : goal.returns-in_err-entries-clause-unended
-returns-in_err-entries-clause-unended g c =
-    where_err c.from_residual-in_err-entries.result (no_line_of_same (g.O.Write.contents c.args.out.now) (g.O.Write.contents c.args.out.now) refl)
-
-pub returns-in_err-line-clause-unended : goal.returns-in_err-line-clause-unended
-returns-in_err-line-clause-unended g c =
-    where_err c.from_residual-in_err-line.result (no_line_of_same (g.O.Write.contents c.args.out.now) (g.O.Write.contents c.args.out.now) refl)

@@ -1,7 +1,9 @@
+use Rattle.std.proofs.Common.{refl}
+use Rattle.std.proofs.lemmas.Result.{IfOk-weaker}
 use Rattle.commands.specs.Refusal.{FailsAtPlace, FailsToJudge}
 use Rattle.commands.specs.Refusal.FailsToJudge.{in_digests, in_memory, in_place, in_plan, in_record, in_words}
 use Rattle.commands.specs.Words.{FailsFirst, place_words}
-use Rattle.commands.proofs.Exits.{exit_by}
+use Rattle.commands.proofs.Exits.{err_weaker, exit_by}
 use Rattle.commands.proofs.Placed.{lacked_by}
 use Rattle.commands.proofs.Refused.{or_memory}
 use Rattle.commands.proofs.verifying.judge_asked.Goals as goal
@@ -17,6 +19,14 @@ pub returns-in_err-digests-clause-refused : goal.returns-in_err-digests-clause-r
 returns-in_err-digests-clause-refused g c =
     exit_by (FailsToJudge (g.W.World.sees c.args.world.now) (g.M.Options.rows c.args.options.now)) _ c.from_residual-in_err-digests.ensures.1
     (in_digests c.in_ok-build.ensures.checked c.in_err-digests.ensures.fault)
+
+pub returns-in_err-keep_digest-clause-refused : goal.returns-in_err-keep_digest-clause-refused
+returns-in_err-keep_digest-clause-refused g c =
+    exit_by (FailsToJudge (g.W.World.sees c.args.world.now) (g.M.Options.rows c.args.options.now)) _ c.from_residual-in_err-keep_digest.ensures.1 (in_memory refl)
+
+pub returns-in_err-keep_digest-2-clause-refused : goal.returns-in_err-keep_digest-2-clause-refused
+returns-in_err-keep_digest-2-clause-refused g c =
+    exit_by (FailsToJudge (g.W.World.sees c.args.world.now) (g.M.Options.rows c.args.options.now)) _ c.from_residual-in_err-keep_digest-2.ensures.1 (in_memory refl)
 
 pub returns-in_err-plan-clause-refused : goal.returns-in_err-plan-clause-refused
 returns-in_err-plan-clause-refused g c =
@@ -36,24 +46,25 @@ returns-in_err-case-clause-refused g c =
       claim = (c.in_ok-digests.digests.claim, c.in_ok-digests.ensures.claim);
     }) c.in_ok-plan.ensures.found c.in_err-case.ensures.fault)
 
-pub returns-in_err-answer-clause-refused : goal.returns-in_err-answer-clause-refused
-returns-in_err-answer-clause-refused g c =
+pub returns-clause-refused : goal.returns-clause-refused
+returns-clause-refused g c =
     let sees = g.W.World.sees c.args.world.now in
     let options = g.M.Options.rows c.args.options.now in
-    exit_by (FailsToJudge sees options) _ c.from_residual-in_err-answer.ensures.1
-    (or_memory (λ x. ∥ FailsAtPlace sees options x ∥₁) (FailsToJudge sees options) _ in_memory (in_place c.in_ok-case.case c.in_ok-case.ensures.asks) c.in_err-answer.ensures.fault)
+    err_weaker c.judge.result _ (FailsToJudge sees options) (λ e. or_memory (λ x. ∥ FailsAtPlace sees options x ∥₁) (FailsToJudge sees options) e in_memory (in_place c.in_ok-case.case c.in_ok-case.ensures.asks)) c.judge.ensures.fault
 
 pub returns-clause-judged : goal.returns-clause-judged
 returns-clause-judged g c =
-    let is = c.in_ok-answer.ensures.answered in
     let sees = g.W.World.sees c.args.world.now in
     let rows = g.M.Options.rows c.args.options.now in
-    record {
-      question = c.in_ok-case.case;
-      asks = c.in_ok-case.ensures.asks;
-      told = is.0;
-      source = is.1;
-      judged = is.2.judged;
-      few = λ over. is.4;
-      lacks = lacked_by sees rows c.in_ok-case.case c.in_ok-answer.answer.verdict c.in_ok-answer.answer.lack is.2.lack is.3;
-    }
+    IfOk-weaker c.judge.result _ _ (λ answer is. record {
+      judges = record {
+        question = c.in_ok-case.case;
+        asks = c.in_ok-case.ensures.asks;
+        told = is.0;
+        source = is.1;
+        judged = is.2.judged;
+        few = λ over. is.4;
+        lacks = lacked_by sees rows c.in_ok-case.case answer.verdict answer.lack is.2.lack is.3;
+      };
+      made = is.2.made;
+    }) c.judge.ensures.answered

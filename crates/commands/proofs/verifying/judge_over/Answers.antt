@@ -9,13 +9,14 @@ use Rattle.commands.proofs.verifying.judge_over.Goals as goal
 
 pub returns-in-Ok-clause-answered : goal.returns-in-Ok-clause-answered
 returns-in-Ok-clause-answered g c =
-    let remote = c.answer_question.new.source.remote in
-    let first : (telling_of c.new-client.result.remote).calls ≡ 0 = subst (λ r. (telling_of r).calls ≡ 0) (sym c.new-client.ensures.remote) c.requires.fresh.calls in (
-      telling_of remote,
-      ∥∥₁_map c.answer_question.new.source.over (λ over. (connection_of g.S.Stream.flow remote, over)),
+    let client = c.answer_question-answered.new.source.source in
+    let made : (telling_of c.new-client.result.remote).calls ≡ 0 = subst (λ r. (telling_of r).calls ≡ 0) (sym c.new-client.ensures.remote) c.requires.fresh.calls in
+    let first : (telling_of c.new-source.result.source.remote).calls ≡ 0 = subst (λ s. (telling_of s.remote).calls ≡ 0) (sym c.new-source.ensures.source) made in (
+      telling_of client.remote,
+      ∥∥₁_map client.over (λ over. (connection_of g.S.Stream.flow client.remote, over)),
       c.in-Ok.ensures.answered,
       c.in_ok-confirm_lack-in-Ok.ensures.lacked,
-      λ list covers. asked_first (telling_of c.new-client.result.remote).calls (telling_of remote).calls (length list) first (c.answer_question.ensures.few list covers),
+      λ list covers. asked_first (telling_of c.new-source.result.source.remote).calls (telling_of client.remote).calls (length list) first (c.answer_question-answered.ensures.few list covers),
     )
 
 -- memory ran out
